@@ -1,0 +1,78 @@
+-- The numbers of document 01, each once.
+use Prim.Native.Nat.{ℕ, _+_, _*_}
+use Rattle.bmap.specs.declared.limits.Limits.{Limits}
+
+-- "number of agents, 1 to 16"
+abbrev pub mostAgents : ℕ
+mostAgents = 16
+
+-- "At most 1 A1, 32 A2, 64 A3, 64 A4 and 128 laws"
+abbrev pub mostFluents : ℕ
+mostFluents = 32
+
+abbrev pub mostKnowledge : ℕ
+mostKnowledge = 64
+
+abbrev pub mostEntries : ℕ
+mostEntries = 64
+
+abbrev pub mostLaws : ℕ
+mostLaws = 128
+
+-- "a count byte n (0 to 120)"
+abbrev pub mostPayload : ℕ
+mostPayload = 120
+
+-- "nested at most 16 deep (the outermost is depth 1)"
+abbrev pub mostDepth : ℕ
+mostDepth = 16
+
+-- "lag (0 to 63)"
+abbrev pub mostLag : ℕ
+mostLag = 63
+
+-- "−1,000,000,000 to 1,000,000,000"
+abbrev pub mostValue : ℕ
+mostValue = 1_000_000_000
+
+-- "a sheet of at most 64 steps"
+abbrev pub mostSteps : ℕ
+mostSteps = 64
+
+-- "200 edits stand"
+abbrev pub mostEdits : ℕ
+mostEdits = 200
+
+-- "a store of at least 36,000 bytes"
+abbrev pub storeSize : ℕ
+storeSize = 36_000
+
+-- "Sheet reader (buffer at least 1,024)"
+abbrev pub sheetSize : ℕ
+sheetSize = 1_024
+
+-- "at least 2,080 signed 16-bit numbers"
+abbrev pub levelsSize : ℕ
+levelsSize = 2_080
+
+-- "the program's input is over 60,000 bytes"
+abbrev pub mostInput : ℕ
+mostInput = 60_000
+
+abbrev pub limitsOf : Limits
+limitsOf = record {
+  agents = mostAgents;
+  fluents = mostFluents;
+  knowledge = mostKnowledge;
+  entries = mostEntries;
+  laws = mostLaws;
+  steps = mostSteps;
+  sheet = sheetSize;
+  edits = mostEdits;
+  payload = mostPayload;
+  depth = mostDepth;
+  lag = mostLag;
+  store = storeSize;
+  levels = levelsSize;
+  input = mostInput;
+}

@@ -1,0 +1,89 @@
+// The limits of document 01, each once, on the types that they bound; `every_limit` ties them to the definitions' own numbers.
+ghost use mathlib.Core.Path.{_≡_};
+ghost use Rattle.bmap.specs.Limits.{limitsOf};
+
+// How many of each a domain has.
+pub struct Counts {
+    pub agents: usize,
+    pub fluents: usize,
+    pub knowledge: usize,
+    pub entries: usize,
+    pub laws: usize,
+}
+
+impl Counts {
+    pub const AGENTS: usize = 16;
+    pub const FLUENTS: usize = 32;
+    pub const KNOWLEDGE: usize = 64;
+    pub const ENTRIES: usize = 64;
+    pub const LAWS: usize = 128;
+}
+
+// What a law may name.
+pub struct Context {
+    pub fluents: usize,
+    pub entries: usize,
+    pub occurrences: bool,
+}
+
+// A sheet: the names step after step, one for each agent, zeros after.
+#[repr(C)]
+pub struct Sheet {
+    pub steps: usize,
+    pub names: [u8; Sheet::BYTES],
+}
+
+impl Sheet {
+    pub const STEPS: usize = 64;
+    pub const BYTES: usize = Sheet::STEPS * Counts::AGENTS;
+}
+
+// A frame's payload, a law's nesting and its lag, at most.
+pub const PAYLOAD: usize = 120;
+pub const DEPTH: usize = 16;
+pub const LAG: usize = 63;
+
+// What is lent to be written, at least; what the program takes, at most.
+pub const STORE: usize = 36_000;
+pub const LEVELS: usize = (Sheet::STEPS + 1) * Counts::FLUENTS;
+pub const INPUT: usize = 60_000;
+
+// Every limit, for the promise below.
+pub struct Limits {
+    pub agents: usize,
+    pub fluents: usize,
+    pub knowledge: usize,
+    pub entries: usize,
+    pub laws: usize,
+    pub steps: usize,
+    pub sheet: usize,
+    pub edits: usize,
+    pub payload: usize,
+    pub depth: usize,
+    pub lag: usize,
+    pub store: usize,
+    pub levels: usize,
+    pub input: usize,
+}
+
+// The code's limits are the definitions'.
+pub fn every_limit() -> Limits
+    ensures { λ r. ⌜ r ≡ limitsOf ⌝ }
+{
+    Limits {
+        agents: Counts::AGENTS,
+        fluents: Counts::FLUENTS,
+        knowledge: Counts::KNOWLEDGE,
+        entries: Counts::ENTRIES,
+        laws: Counts::LAWS,
+        steps: Sheet::STEPS,
+        sheet: Sheet::BYTES,
+        edits: crate::Session::EDITS,
+        payload: PAYLOAD,
+        depth: DEPTH,
+        lag: LAG,
+        store: STORE,
+        levels: LEVELS,
+        input: INPUT,
+    }
+}

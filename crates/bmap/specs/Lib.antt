@@ -6,3 +6,14 @@ pub mod Number
 pub mod Tree
 pub mod Meaning
 pub mod Code
+pub mod Line
+pub mod Domain
+pub mod Payload
+pub mod Accept
+pub mod Buffer
+pub mod Store
+pub mod Sheet
+pub mod Judge
+pub mod Verdict
+pub mod Session
+pub mod Program

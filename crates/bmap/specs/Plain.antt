@@ -37,6 +37,12 @@ module _ {A : Type 0} where
   flat [] = []
   flat (l ∷ ls) = l ++ flat ls
 
+module _ {A B : Type 0} where
+  -- n where there is nothing, and f of what there is
+  abbrev pub maybe : Option A → B → (A → B) → B
+  maybe none n f = n
+  maybe (some a) n f = f a
+
 -- the n numbers from i on
 unfoldable pub numbers : ℕ → ℕ → List ℕ
 numbers i zero = []

@@ -1,0 +1,136 @@
+-- What a frame's payload says, by its kind.
+use Prim.Native.Nat.{ℕ, _+_, _^_}
+use mathlib.Core.Bool.{Bool, true, false}
+use mathlib.Core.List.{List, [], _∷_}
+use mathlib.Core.Option.{Option, none, some}
+use lib.Dec.{eqb, leb, ltb}
+use lib.ListN.{length, getD, drop}
+use lib.IntN.{ℤ}
+use lib.Signed.{leZ}
+use Rattle.bmap.specs.Plain.{both, if-else}
+use Rattle.bmap.specs.Limits.{mostAgents, mostDepth}
+use Rattle.bmap.specs.Number.{word, signedWord}
+use Rattle.bmap.specs.Tree.{Expr, Con, allowedE, allowedC}
+use Rattle.bmap.specs.Code.{Parsed, parseE, parseC}
+use Rattle.bmap.specs.Domain.{Fluent, Knows, Entry, Scope, static, concurrency, goal, Law, executable, effect, must}
+use Rattle.bmap.specs.declared.limits.Context.{Context}
+use Rattle.bmap.specs.declared.limits.Counts.{Counts}
+
+-- what a frame adds to a domain
+pub data Item : Type 0 where
+  agents : ℕ → Item
+  fluent : Fluent → Item
+  knowledge : Knows → Item
+  entry : Entry → Item
+  law : Law → Item
+
+abbrev pub byte : List ℕ → ℕ → ℕ
+byte p i = getD p i 0
+
+abbrev pub wordAt : List ℕ → ℕ → ℕ
+wordAt p i = word (byte p i) (byte p (i + 1))
+
+abbrev pub valueAt : List ℕ → ℕ → ℤ
+valueAt p i = signedWord (byte p i) (byte p (i + 1))
+
+-- "fluent: lowest, highest, start value (2 bytes each)"
+abbrev pub fluentIn : List ℕ → Fluent
+fluentIn p = record { lowest = valueAt p 0; highest = valueAt p 2; start = valueAt p 4 }
+
+-- "fluent, mask (2 bytes, not 0): these agents know it"
+abbrev pub knowledgeIn : List ℕ → Knows
+knowledgeIn p = record { fluent = byte p 0; mask = wordAt p 1 }
+
+-- "entry: action name 1 to 255, mask (2 bytes, not 0) of its crew"
+abbrev pub entryIn : List ℕ → Entry
+entryIn p = record { name = byte p 0; crew = wordAt p 1 }
+
+-- o where the test holds
+abbrev pub only : {A : Type 0} → Bool → Option A → Option A
+only true o = o
+only false o = none
+
+-- "mask (2 bytes, not 0)", and no unknown agent
+unfoldable pub maskFits : Counts → ℕ → Bool
+maskFits n mask = both (ltb 0 mask) (ltb mask (2 ^ n .agents))
+
+-- "number of agents, 1 to 16"
+unfoldable pub agentsFit : List ℕ → Bool
+agentsFit p = both (eqb (length p) 1) (both (leb 1 (byte p 0)) (leb (byte p 0) mostAgents))
+
+-- "lowest ≤ start ≤ highest"
+unfoldable pub fluentFits : List ℕ → Bool
+fluentFits p = both (eqb (length p) 6) (both (leZ (fluentIn p .lowest) (fluentIn p .start)) (leZ (fluentIn p .start) (fluentIn p .highest)))
+
+unfoldable pub knowledgeFits : Counts → List ℕ → Bool
+knowledgeFits n p = both (eqb (length p) 3) (both (ltb (byte p 0) (n .fluents)) (maskFits n (wordAt p 1)))
+
+unfoldable pub entryFits : Counts → List ℕ → Bool
+entryFits n p = both (eqb (length p) 3) (both (ltb 0 (byte p 0)) (maskFits n (wordAt p 1)))
+
+-- a tree that is allowed here, taken by a continuation with the bytes after it
+module _ {T L : Type 0} where
+  abbrev pub taken : (T → Bool) → List ℕ → Option (Parsed T) → (T → List ℕ → Option L) → Option L
+  taken allowed p none k = none
+  taken allowed p (some t) k = only (allowed (t .tree)) (k (t .tree) (drop (t .used) p))
+
+-- nothing may come after
+abbrev pub last : {L : Type 0} → L → List ℕ → Option L
+last l [] = some l
+last l (x ∷ rest) = none
+
+abbrev pub context : Counts → Bool → Context
+context n occurrences = record { fluents = n .fluents; entries = n .entries; occurrences = occurrences }
+
+abbrev pub conIn : {L : Type 0} → Context → List ℕ → (Con → List ℕ → Option L) → Option L
+conIn x p k = taken (allowedC x) p (parseC mostDepth p) k
+
+abbrev pub exprIn : {L : Type 0} → Context → List ℕ → (Expr → List ℕ → Option L) → Option L
+exprIn x p k = taken (allowedE x) p (parseE mostDepth p) k
+
+-- a number below a limit, and what comes after it
+abbrev pub below : {L : Type 0} → ℕ → List ℕ → (ℕ → List ℕ → Option L) → Option L
+below limit [] k = none
+below limit (x ∷ rest) k = only (ltb x limit) (k x rest)
+
+-- "executability law: entry, constraint"
+unfoldable pub executableIn : Counts → List ℕ → Option Law
+executableIn n p = below (n .entries) p (λ i rest. conIn (context n true) rest (λ c. last (executable i c)))
+
+-- "effect law: entry, constraint, fluent, expression"
+unfoldable pub effectIn : Counts → List ℕ → Option Law
+effectIn n p =
+    below (n .entries) p (λ i rest.
+    conIn (context n true) rest (λ c rest.
+    below (n .fluents) rest (λ f rest.
+    exprIn (context n true) rest (λ x. last (effect i c f x)))))
+
+-- "static law", "concurrency law", "goal": constraint. "Code 29 is refused in A7 and A9"
+abbrev pub asks : Scope → Bool
+asks static = false
+asks concurrency = true
+asks goal = false
+
+unfoldable pub mustIn : Scope → Counts → List ℕ → Option Law
+mustIn s n p = conIn (context n (asks s)) p (λ c. last (must s c))
+
+unfoldable pub lawIn : Counts → ℕ → List ℕ → Option Law
+lawIn n kind p =
+    if-else (eqb kind 0xA5) (executableIn n p)
+    (if-else (eqb kind 0xA6) (effectIn n p)
+    (if-else (eqb kind 0xA7) (mustIn static n p)
+    (if-else (eqb kind 0xA8) (mustIn concurrency n p)
+    (if-else (eqb kind 0xA9) (mustIn goal n p) none))))
+
+abbrev pub lawItem : Option Law → Option Item
+lawItem none = none
+lawItem (some l) = some (law l)
+
+-- what a payload says, in a domain with so many agents, fluents and entries; none where it is not as described
+unfoldable pub itemIn : Counts → ℕ → List ℕ → Option Item
+itemIn n kind p =
+    if-else (eqb kind 0xA1) (only (agentsFit p) (some (agents (byte p 0))))
+    (if-else (eqb kind 0xA2) (only (fluentFits p) (some (fluent (fluentIn p))))
+    (if-else (eqb kind 0xA3) (only (knowledgeFits n p) (some (knowledge (knowledgeIn p))))
+    (if-else (eqb kind 0xA4) (only (entryFits n p) (some (entry (entryIn p))))
+    (lawItem (lawIn n kind p)))))

@@ -14,5 +14,6 @@ impl Session {
     pub const EDITS: usize = 200;
     // An edit's kind, its step's number and a name for each of the most agents.
     pub const EDIT: usize = 18;
+
     pub const LOG: usize = Session::EDITS * Session::EDIT;
 }

@@ -19,7 +19,9 @@ use Rattle.bmap.specs.Judge.{Verdict, accepted, broken, Judged, judge}
 -- the decimal digits of a number; so many are left
 unfoldable pub digitsOf : ℕ → ℕ → List ℕ
 digitsOf zero n = []
-digitsOf (suc left) n = elim (ltb n 10) [ true ↦ (48 + n) ∷ [] | false ↦ digitsOf left (n / 10) ++ ((48 + n % 10) ∷ []) ]
+digitsOf (suc left) n =
+    let more : List ℕ = digitsOf left (n / 10) ++ ((48 + n % 10) ∷ []) in
+    if-else (ltb n 10) ((48 + n) ∷ []) more
 
 abbrev pub decimal : ℕ → List ℕ
 decimal n = digitsOf (suc n) n

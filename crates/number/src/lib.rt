@@ -43,21 +43,23 @@ fn kept(z: i64) -> Value
 fn operated(op: Operation, x: i32, y: i32) -> Value
     ensures { λ r. ⌜ valuedOf r ≡ operate op x y ⌝ }
 {
+    let p = x as i64;
+    let q = y as i64;
     match op {
-        Operation::Sum => kept((x as i64) + (y as i64)),
-        Operation::Difference => kept((x as i64) - (y as i64)),
-        Operation::Product => kept((x as i64) * (y as i64)),
+        Operation::Sum => kept(p + q),
+        Operation::Difference => kept(p - q),
+        Operation::Product => kept(p * q),
         Operation::Quotient => {
-            if y == 0 {
+            if q == 0 {
                 return Value::NoValue;
             }
-            kept((x as i64) / (y as i64))
+            kept(p / q)
         }
         Operation::Remainder => {
-            if y == 0 {
+            if q == 0 {
                 return Value::NoValue;
             }
-            kept((x as i64) % (y as i64))
+            kept(p % q)
         }
     }
 }
@@ -107,13 +109,14 @@ pub fn remainder(a: Value, b: Value) -> Value
 fn changed(op: Single, x: i32) -> Value
     ensures { λ r. ⌜ valuedOf r ≡ change op x ⌝ }
 {
+    let p = x as i64;
     match op {
-        Single::Negation => kept(-(x as i64)),
+        Single::Negation => kept(-p),
         Single::Absolute => {
-            if x < 0 {
-                return kept(-(x as i64));
+            if p < 0 {
+                return kept(-p);
             }
-            kept(x as i64)
+            kept(p)
         }
     }
 }

@@ -226,7 +226,7 @@ a-truth p = ap truthOf p
 
 -- ---- the bounds: two tests, and what passes both fits 32 bits
 
--- what the two tests leave of a number is bounded's choice
+-- a number between two bounds fits a width that holds both
 within : (w : Width) (lo hi : ℕ) (z : ℤ) → leZ (negsuc lo) z ≡ true → leZ z (pos hi) ≡ true → T (ltb lo (2 ^ hbits w)) → T (ltb hi (2 ^ hbits w)) → SFits w z
 within w lo hi (pos n) p q s t = record { sfits = lt-of-le-of-lt (leb-true n hi q) (ltb→lt hi (2 ^ hbits w) t) }
 within w lo hi (negsuc n) p q s t = record { sfits = lt-of-le-of-lt (leb-true n lo p) (ltb→lt lo (2 ^ hbits w) s) }
@@ -278,14 +278,14 @@ negative (pos n) h = absurd (omega (arith, leb-false 0 n h))
 negative (negsuc n) h = (rw (le-ltb (suc n) 1 (omega arith)) (ap pos (omega arith)), refl)
 
 module _ {z : ℤ} (f : SFits w16 z) (h : leZ (pos 0) (back w16 z) ≡ true) where
-  pub kept-sign : T (nonNeg (back w16 z))
-  kept-sign = rw (toZ-ofZ f) (not-negative z (rw (toZ-ofZ f) at h) .0)
+  pub plain-sign : T (nonNeg (back w16 z))
+  plain-sign = rw (toZ-ofZ f) (not-negative z (rw (toZ-ofZ f) at h) .0)
 
-  pub kept-fits : Fits w16 (natAbs (back w16 z))
-  kept-fits = rw (toZ-ofZ f) (fits-natAbs tt f)
+  pub plain-fits : Fits w16 (natAbs (back w16 z))
+  plain-fits = rw (toZ-ofZ f) (fits-natAbs tt f)
 
-  pub kept-bits : natAbs (back w16 z) ≡ bits z
-  kept-bits = rw (toZ-ofZ f) (not-negative z (rw (toZ-ofZ f) at h) .1)
+  pub plain-bits : natAbs (back w16 z) ≡ bits z
+  plain-bits = rw (toZ-ofZ f) (not-negative z (rw (toZ-ofZ f) at h) .1)
 
 module _ {z : ℤ} (f : SFits w16 z) (h : leZ (pos 0) (back w16 z) ≡ false) where
   flipped : negsuc 0 -ℤ back w16 z ≡ pos (mag z)
@@ -318,10 +318,16 @@ module _ {z : ℤ} {n : ℕ} (f : SFits w16 z) (e : n ≡ bits (back w16 z)) whe
   unfolding bytesOf
   low-is = rw (e, toZ-ofZ f)
 
+-- ---- what a proof's `search` is handed
+
 pub ruleset operators = (wide-fits, sum-fits, difference-fits, product-fits, quotient-fits, remainder-fits, negation-fits, sum-is, difference-is, product-is, zero-quotient, quotient-is, zero-remainder, remainder-is, negation-is, absolute-below, absolute-above)
 
 pub ruleset comparisons = (equal-is, unequal-is, less-is, at-most-is, greater-is, at-least-is)
 
-pub ruleset words = (missing-fits, word-above, word-below, kept-sign, kept-fits, kept-bits, flipped-fits, flipped-sign, flipped-size, flipped-most, flipped-bits, high-is, low-is)
+pub ruleset parts = (one-part, two-parts, value-is, true-is-one, false-is-zero, a-number, a-truth)
 
-pub ruleset signed = (needs, operators, comparisons, words, inside-fits, inside, under, over, one-part, two-parts, value-is, true-is-one, false-is-zero, a-number, a-truth)
+pub ruleset bounds = (inside-fits, inside, under, over)
+
+pub ruleset words = (missing-fits, word-above, word-below, plain-sign, plain-fits, plain-bits, flipped-fits, flipped-sign, flipped-size, flipped-most, flipped-bits, high-is, low-is)
+
+pub ruleset signed = (needs, operators, comparisons, parts, bounds, words)

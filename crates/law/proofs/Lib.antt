@@ -1,3 +1,4 @@
 pub mod Codes
 pub mod Trees
 pub mod Checks
+pub mod Evals

@@ -34,7 +34,7 @@ use Rattle.law.specs.declared.table.Node.the-variants.{Expression, Const
 use Rattle.law.specs.declared.table.Pair.the-variants.{Bytes, Short}
 use Rattle.law.specs.Shape.{opened, pairOf, operationOf, singleOf, comparisonOf, junctionOf}
 use Rattle.law.specs.Names.{bit}
-use Rattle.law.specs.Evaluate.{Given, given, meant, historyOf, valueAt, truthAt}
+use Rattle.law.specs.Evaluate.{Meant, malformed, gives, meant, historyOf, valueAt, truthAt}
 use Rattle.law.proofs.table.Operand as operand-type
 use Rattle.law.proofs.Trees.{at-constant, at-fluent, at-reified, at-one, at-two, at-truth, at-occurrence, at-negation, at-junction, at-comparison, no-entry, no-other, no-pair, a-pair}
 use Rattle.law.proofs.Checks.{no-bit}
@@ -69,10 +69,10 @@ module _ {z : ℤ} (f : SFits w16 z) where
 
 -- The leaves.
 module _ {A : Type 0} (make : ℕ → ℕ → A) (s : List ℕ) (at : ℕ) where
-  pub leaf-none : Short ≡ pairOf (drop (at + 1) s) → none ≡ meant (λ v. v) at (twoBytes make (drop (at + 1) s))
+  pub leaf-none : Short ≡ pairOf (drop (at + 1) s) → malformed ≡ meant (λ v. v) at (twoBytes make (drop (at + 1) s))
   leaf-none e = rw (no-pair make (drop (at + 1) s) e)
 
-  pub leaf-gives : {a b : ℕ} {v : A} → Bytes a b ≡ pairOf (drop (at + 1) s) → v ≡ make a b → given v (at + 3) ≡ meant (λ v. v) at (twoBytes make (drop (at + 1) s))
+  pub leaf-gives : {a b : ℕ} {v : A} → Bytes a b ≡ pairOf (drop (at + 1) s) → v ≡ make a b → gives v (at + 3) ≡ meant (λ v. v) at (twoBytes make (drop (at + 1) s))
   leaf-gives e q = rw (a-pair make (drop (at + 1) s) e, q)
 
 leaf-meant : {T A : Type 0} (f : T → A) (make : ℕ → ℕ → T) (at : ℕ) (l : List ℕ) → meant (λ v. v) at (twoBytes (λ a b. f (make a b)) l) ≡ meant f at (twoBytes make l)
@@ -81,13 +81,13 @@ leaf-meant f make at (a ∷ []) = refl
 leaf-meant f make at (a ∷ b ∷ l) = refl
 
 -- no tree gives nothing
-pub nothing-there : {T A : Type 0} (f : T → A) (at : ℕ) {o : Option (Parsed T)} → o ≡ none → none ≡ meant f at o
+pub nothing-there : {T A : Type 0} (f : T → A) (at : ℕ) {o : Option (Parsed T)} → o ≡ none → malformed ≡ meant f at o
 nothing-there f at e = rw e
 
 -- One operand, and two.
-abbrev then1 : {A B : Type 0} → (A → B) → Option (Given A) → Option (Given B)
-then1 op none = none
-then1 op (some g) = given (op (g .meaning)) (g .next)
+abbrev then1 : {A B : Type 0} → (A → B) → Meant A → Meant B
+then1 op malformed = malformed
+then1 op (gives a n) = gives (op a) n
 
 module _ {S T A B : Type 0} (fs : S → A) (ft : T → B) where
   one-meant : (make : S → T) (op : A → B) → ((a : S) → ft (make a) ≡ op (fs a)) → (at k : ℕ) (o : Option (Parsed S)) → then1 op (meant fs (at + k) o) ≡ meant ft at (made make k o)
@@ -96,16 +96,16 @@ module _ {S T A B : Type 0} (fs : S → A) (ft : T → B) where
 
   module _ (ps : Parser S) (s : List ℕ) (at : ℕ) where
     module _ (make : S → T) (op : A → B) (h : (a : S) → ft (make a) ≡ op (fs a)) where
-      pub one-none : none ≡ meant fs (at + 1) (ps (drop (at + 1) s)) → none ≡ meant ft at (operand make ps (drop (at + 1) s))
+      pub one-none : malformed ≡ meant fs (at + 1) (ps (drop (at + 1) s)) → malformed ≡ meant ft at (operand make ps (drop (at + 1) s))
       one-none e = ap (then1 op) e ∙ one-meant make op h at 1 (ps (drop (at + 1) s))
 
-      pub one-gives : {v : A} {w : B} {n : ℕ} → given v n ≡ meant fs (at + 1) (ps (drop (at + 1) s)) → w ≡ op v → given w n ≡ meant ft at (operand make ps (drop (at + 1) s))
-      one-gives {n = n} e q = ap (λ (x : B). given x n) q ∙ ap (then1 op) e ∙ one-meant make op h at 1 (ps (drop (at + 1) s))
+      pub one-gives : {v : A} {w : B} {n : ℕ} → gives v n ≡ meant fs (at + 1) (ps (drop (at + 1) s)) → w ≡ op v → gives w n ≡ meant ft at (operand make ps (drop (at + 1) s))
+      one-gives {n = n} e q = ap (λ (x : B). gives x n) q ∙ ap (then1 op) e ∙ one-meant make op h at 1 (ps (drop (at + 1) s))
 
     module _ (make : S → S → T) (op : A → A → B) (h : (a b : S) → ft (make a b) ≡ op (fs a) (fs b)) where
-      abbrev then2 : Option (Given A) → Option (Given B)
-      then2 none = none
-      then2 (some g) = then1 (op (g .meaning)) (meant fs (g .next) (ps (drop (g .next) s)))
+      abbrev then2 : Meant A → Meant B
+      then2 malformed = malformed
+      then2 (gives a n) = then1 (op a) (meant fs n (ps (drop n s)))
 
       two-meant : (o : Option (Parsed S)) → then2 (meant fs (at + 1) o) ≡ meant ft at (second make ps (drop (at + 1) s) o)
       two-meant none = refl
@@ -113,15 +113,15 @@ module _ {S T A B : Type 0} (fs : S → A) (ft : T → B) where
           rw (drop-drop (p .used) (at + 1) s, add-assoc at 1 (p .used))
           (one-meant (make (p .tree)) (op (fs (p .tree))) (h (p .tree)) at (1 + p .used) (ps (drop (at + (1 + p .used)) s)))
 
-      pub first-none : none ≡ meant fs (at + 1) (ps (drop (at + 1) s)) → none ≡ meant ft at (operands make ps (drop (at + 1) s))
+      pub first-none : malformed ≡ meant fs (at + 1) (ps (drop (at + 1) s)) → malformed ≡ meant ft at (operands make ps (drop (at + 1) s))
       first-none e = ap then2 e ∙ two-meant (ps (drop (at + 1) s))
 
-      module _ {v : A} {m : ℕ} (e : given v m ≡ meant fs (at + 1) (ps (drop (at + 1) s))) where
-        pub second-none : none ≡ meant fs m (ps (drop m s)) → none ≡ meant ft at (operands make ps (drop (at + 1) s))
+      module _ {v : A} {m : ℕ} (e : gives v m ≡ meant fs (at + 1) (ps (drop (at + 1) s))) where
+        pub second-none : malformed ≡ meant fs m (ps (drop m s)) → malformed ≡ meant ft at (operands make ps (drop (at + 1) s))
         second-none q = ap (then1 (op v)) q ∙ ap then2 e ∙ two-meant (ps (drop (at + 1) s))
 
-        pub both-give : {u : A} {w : B} {n : ℕ} → given u n ≡ meant fs m (ps (drop m s)) → w ≡ op v u → given w n ≡ meant ft at (operands make ps (drop (at + 1) s))
-        both-give {n = n} q r = ap (λ (x : B). given x n) r ∙ ap (then1 (op v)) q ∙ ap then2 e ∙ two-meant (ps (drop (at + 1) s))
+        pub both-give : {u : A} {w : B} {n : ℕ} → gives u n ≡ meant fs m (ps (drop m s)) → w ≡ op v u → gives w n ≡ meant ft at (operands make ps (drop (at + 1) s))
+        both-give {n = n} q r = ap (λ (x : B). gives x n) r ∙ ap (then1 (op v)) q ∙ ap then2 e ∙ two-meant (ps (drop (at + 1) s))
 
 -- The tree at a place, by its code.
 module _ (s : List ℕ) (at d : ℕ) (l : List ℤ) (o : List ℕ) (j : ℕ) (ne : d ≡ 0 → ⊥) (lt : at < length s) where
@@ -140,16 +140,16 @@ module _ (s : List ℕ) (at d : ℕ) (l : List ℤ) (o : List ℕ) (j : ℕ) (ne
   abbrev pc : Parser Con
   pc = parseC (d - 1)
 
-  abbrev whole-e : Option (Given (Valued ℤ))
+  abbrev whole-e : Meant (Valued ℤ)
   whole-e = valueAt d s at l o j
 
-  abbrev part-e : ℕ → Option (Given (Valued ℤ))
+  abbrev part-e : ℕ → Meant (Valued ℤ)
   part-e m = valueAt (d - 1) s m l o j
 
-  abbrev whole-c : Option (Given (Valued Bool))
+  abbrev whole-c : Meant (Valued Bool)
   whole-c = truthAt d s at l o j
 
-  abbrev part-c : ℕ → Option (Given (Valued Bool))
+  abbrev part-c : ℕ → Meant (Valued Bool)
   part-c m = truthAt (d - 1) s m l o j
 
   module _ {sh : Shape} (p : Expression sh ≡ opened code) where
@@ -161,24 +161,24 @@ module _ (s : List ℕ) (at d : ℕ) (l : List ℤ) (o : List ℕ) (j : ℕ) (ne
     unfolding evalE
     eval-fluent q = rw (at-fluent s at d ne lt p q) (leaf-meant fe fluent at (drop (at + 1) s))
 
-    pub eval-entry : sh .each ≡ each.EntryLag → none ≡ whole-e
+    pub eval-entry : sh .each ≡ each.EntryLag → malformed ≡ whole-e
     eval-entry q = absurd (no-entry code p q)
 
     module _ (q : sh .each ≡ each.Constraint) where
-      pub reified-none : none ≡ part-c (at + 1) → none ≡ whole-e
+      pub reified-none : malformed ≡ part-c (at + 1) → malformed ≡ whole-e
       unfolding evalE
       reified-none e = rw (at-reified s at d ne lt p q) (one-none fc fe pc s at reified (with1 (λ b. value (flag b))) (λ a. refl) e)
 
-      pub reified-gives : {v : Valued Bool} {w : Valued ℤ} {n : ℕ} → given v n ≡ part-c (at + 1) → w ≡ with1 (λ b. value (flag b)) v → given w n ≡ whole-e
+      pub reified-gives : {v : Valued Bool} {w : Valued ℤ} {n : ℕ} → gives v n ≡ part-c (at + 1) → w ≡ with1 (λ b. value (flag b)) v → gives w n ≡ whole-e
       unfolding evalE
       reified-gives e r = rw (at-reified s at d ne lt p q) (one-gives fc fe pc s at reified (with1 (λ b. value (flag b))) (λ a. refl) e r)
 
     module _ (q : sh .each ≡ each.Expression) where
-      pub one-gives-e : {v w : Valued ℤ} {n : ℕ} {x : Single} → sh .operands ≡ 1 → given v n ≡ part-e (at + 1) → x ≡ singleOf code → w ≡ with1 (change x) v → given w n ≡ whole-e
+      pub one-gives-e : {v w : Valued ℤ} {n : ℕ} {x : Single} → sh .operands ≡ 1 → gives v n ≡ part-e (at + 1) → x ≡ singleOf code → w ≡ with1 (change x) v → gives w n ≡ whole-e
       unfolding evalE
       one-gives-e {v} r e i g = rw (at-one s at d ne lt p q r) (one-gives fe fe pe s at (one (singleOf code)) (with1 (change (singleOf code))) (λ a. refl) e (g ∙ ap (λ (x : Single). with1 (change x) v) i))
 
-      pub first-none-e : none ≡ part-e (at + 1) → none ≡ whole-e
+      pub first-none-e : malformed ≡ part-e (at + 1) → malformed ≡ whole-e
       unfolding evalE
       first-none-e e =
           elim (ℕ-discrete (sh .operands) 1) [
@@ -186,17 +186,17 @@ module _ (s : List ℕ) (at d : ℕ) (l : List ℤ) (o : List ℕ) (j : ℕ) (ne
             | no r ↦ rw (at-two s at d ne lt p q r) (first-none fe fe pe s at (two (operationOf code)) (with2 (operate (operationOf code))) (λ a b. refl) e)
           ]
 
-      module _ (r : sh .operands ≡ 1 → ⊥) {v : Valued ℤ} {m : ℕ} (e : given v m ≡ part-e (at + 1)) where
-        pub second-none-e : none ≡ part-e m → none ≡ whole-e
+      module _ (r : sh .operands ≡ 1 → ⊥) {v : Valued ℤ} {m : ℕ} (e : gives v m ≡ part-e (at + 1)) where
+        pub second-none-e : malformed ≡ part-e m → malformed ≡ whole-e
         unfolding evalE
         second-none-e g = rw (at-two s at d ne lt p q r) (second-none fe fe pe s at (two (operationOf code)) (with2 (operate (operationOf code))) (λ a b. refl) e g)
 
-        pub two-give-e : {u w : Valued ℤ} {n : ℕ} {x : Operation} → given u n ≡ part-e m → x ≡ operationOf code → w ≡ with2 (operate x) v u → given w n ≡ whole-e
+        pub two-give-e : {u w : Valued ℤ} {n : ℕ} {x : Operation} → gives u n ≡ part-e m → x ≡ operationOf code → w ≡ with2 (operate x) v u → gives w n ≡ whole-e
         unfolding evalE
         two-give-e {u} g i f = rw (at-two s at d ne lt p q r) (both-give fe fe pe s at (two (operationOf code)) (with2 (operate (operationOf code))) (λ a b. refl) e g (f ∙ ap (λ (x : Operation). with2 (operate x) v u) i))
 
   module _ {sh : Shape} (p : Constraint sh ≡ opened code) where
-    pub eval-truth : sh .operands ≡ 0 → given (value true) (at + 1) ≡ whole-c
+    pub eval-truth : sh .operands ≡ 0 → gives (value true) (at + 1) ≡ whole-c
     unfolding evalC
     eval-truth q = rw (at-truth s at d ne lt p q)
 
@@ -204,15 +204,15 @@ module _ (s : List ℕ) (at d : ℕ) (l : List ℤ) (o : List ℕ) (j : ℕ) (ne
     unfolding evalC
     eval-occurrence q = rw (at-occurrence s at d ne lt p q) (leaf-meant fc occurs at (drop (at + 1) s))
 
-    pub eval-other : OneOf (2 ∷ 3 ∷ []) (tagOf operand-type.the-type (sh .each)) → none ≡ whole-c
+    pub eval-other : OneOf (2 ∷ 3 ∷ []) (tagOf operand-type.the-type (sh .each)) → malformed ≡ whole-c
     eval-other q = absurd (no-other code p q)
 
     module _ (q : sh .each ≡ each.Constraint) where
-      pub one-gives-c : {v w : Valued Bool} {n : ℕ} → sh .operands ≡ 1 → given v n ≡ part-c (at + 1) → w ≡ with1 (λ x. value (not x)) v → given w n ≡ whole-c
+      pub one-gives-c : {v w : Valued Bool} {n : ℕ} → sh .operands ≡ 1 → gives v n ≡ part-c (at + 1) → w ≡ with1 (λ x. value (not x)) v → gives w n ≡ whole-c
       unfolding evalC
       one-gives-c r e g = rw (at-negation s at d ne lt p q r) (one-gives fc fc pc s at negated (with1 (λ x. value (not x))) (λ a. refl) e g)
 
-      pub first-none-c : none ≡ part-c (at + 1) → none ≡ whole-c
+      pub first-none-c : malformed ≡ part-c (at + 1) → malformed ≡ whole-c
       unfolding evalC
       first-none-c e =
           elim (ℕ-discrete (sh .operands) 1) [
@@ -220,25 +220,25 @@ module _ (s : List ℕ) (at d : ℕ) (l : List ℤ) (o : List ℕ) (j : ℕ) (ne
             | no r ↦ rw (at-junction s at d ne lt p q r) (first-none fc fc pc s at (joined (junctionOf code)) (with2 (λ x y. value (join (junctionOf code) x y))) (λ a b. refl) e)
           ]
 
-      module _ (r : sh .operands ≡ 1 → ⊥) {v : Valued Bool} {m : ℕ} (e : given v m ≡ part-c (at + 1)) where
-        pub second-none-c : none ≡ part-c m → none ≡ whole-c
+      module _ (r : sh .operands ≡ 1 → ⊥) {v : Valued Bool} {m : ℕ} (e : gives v m ≡ part-c (at + 1)) where
+        pub second-none-c : malformed ≡ part-c m → malformed ≡ whole-c
         unfolding evalC
         second-none-c g = rw (at-junction s at d ne lt p q r) (second-none fc fc pc s at (joined (junctionOf code)) (with2 (λ x y. value (join (junctionOf code) x y))) (λ a b. refl) e g)
 
-        pub two-give-c : {u w : Valued Bool} {n : ℕ} {x : Junction} → given u n ≡ part-c m → x ≡ junctionOf code → w ≡ with2 (λ a b. value (join x a b)) v u → given w n ≡ whole-c
+        pub two-give-c : {u w : Valued Bool} {n : ℕ} {x : Junction} → gives u n ≡ part-c m → x ≡ junctionOf code → w ≡ with2 (λ a b. value (join x a b)) v u → gives w n ≡ whole-c
         unfolding evalC
         two-give-c {u} g i f = rw (at-junction s at d ne lt p q r) (both-give fc fc pc s at (joined (junctionOf code)) (with2 (λ x y. value (join (junctionOf code) x y))) (λ a b. refl) e g (f ∙ ap (λ (x : Junction). with2 (λ a b. value (join x a b)) v u) i))
 
     module _ (q : sh .each ≡ each.Expression) (r : sh .operands ≡ 0 → ⊥) where
-      pub first-none-x : none ≡ part-e (at + 1) → none ≡ whole-c
+      pub first-none-x : malformed ≡ part-e (at + 1) → malformed ≡ whole-c
       unfolding evalC
       first-none-x e = rw (at-comparison s at d ne lt p q r) (first-none fe fc pe s at (compared (comparisonOf code)) (with2 (λ x y. value (compare (comparisonOf code) x y))) (λ a b. refl) e)
 
-      module _ {v : Valued ℤ} {m : ℕ} (e : given v m ≡ part-e (at + 1)) where
-        pub second-none-x : none ≡ part-e m → none ≡ whole-c
+      module _ {v : Valued ℤ} {m : ℕ} (e : gives v m ≡ part-e (at + 1)) where
+        pub second-none-x : malformed ≡ part-e m → malformed ≡ whole-c
         unfolding evalC
         second-none-x g = rw (at-comparison s at d ne lt p q r) (second-none fe fc pe s at (compared (comparisonOf code)) (with2 (λ x y. value (compare (comparisonOf code) x y))) (λ a b. refl) e g)
 
-        pub two-give-x : {u : Valued ℤ} {w : Valued Bool} {n : ℕ} {x : Comparison} → given u n ≡ part-e m → x ≡ comparisonOf code → w ≡ with2 (λ a b. value (compare x a b)) v u → given w n ≡ whole-c
+        pub two-give-x : {u : Valued ℤ} {w : Valued Bool} {n : ℕ} {x : Comparison} → gives u n ≡ part-e m → x ≡ comparisonOf code → w ≡ with2 (λ a b. value (compare x a b)) v u → gives w n ≡ whole-c
         unfolding evalC
         two-give-x {u} g i f = rw (at-comparison s at d ne lt p q r) (both-give fe fc pe s at (compared (comparisonOf code)) (with2 (λ x y. value (compare (comparisonOf code) x y))) (λ a b. refl) e g (f ∙ ap (λ (x : Comparison). with2 (λ a b. value (compare x a b)) v u) i))

@@ -12,9 +12,9 @@ use Rattle.bmap.specs.Code.{Parsed, parseE, parseC}
 use Rattle.number.specs.Answer.{valuedOf, truthOf}
 use Rattle.law.specs.Names.{bit}
 use Rattle.law.specs.declared.eval.Evaluated.{Evaluated}
-use Rattle.law.specs.declared.eval.Evaluated.the-variants as evaluated-as
+use Rattle.law.specs.declared.eval.Evaluated.the-variants as value-as
 use Rattle.law.specs.declared.eval.Judged.{Judged}
-use Rattle.law.specs.declared.eval.Judged.the-variants as judged-as
+use Rattle.law.specs.declared.eval.Judged.the-variants as truth-as
 
 -- The history that the code is lent: the levels state after state, room for the most fluents in each, and a mask of
 -- entries for each step. What was never written is 0.
@@ -24,31 +24,27 @@ historyOf levels occurred = record {
   occurred = λ e k. bit (getD occurred k 0) e;
 }
 
--- a tree's meaning, and the place just after the tree
-pub record Given (A : Type 0) : Type 0 where
-  pub meaning : A
-  pub next : ℕ
+-- what a tree at a place means, with the place just after the tree; or no tree stands there
+pub data Meant (A : Type 0) : Type 0 where
+  malformed : Meant A
+  gives : A → ℕ → Meant A
 
-abbrev pub given : {A : Type 0} → A → ℕ → Option (Given A)
-given v n = some (record { meaning = v; next = n })
-
--- of the tree that stands at `at`, where one stands there
-abbrev pub meant : {T A : Type 0} → (T → A) → ℕ → Option (Parsed T) → Option (Given A)
-meant f at none = none
-meant f at (some p) = given (f (p .tree)) (at + p .used)
+abbrev pub meant : {T A : Type 0} → (T → A) → ℕ → Option (Parsed T) → Meant A
+meant f at none = malformed
+meant f at (some p) = gives (f (p .tree)) (at + p .used)
 
 -- the code's two types
-abbrev pub evaluated : Evaluated → Option (Given (Valued ℤ))
-evaluated evaluated-as.Malformed = none
-evaluated (evaluated-as.Gives v n) = given (valuedOf v) n
+abbrev pub evaluated : Evaluated → Meant (Valued ℤ)
+evaluated value-as.Malformed = malformed
+evaluated (value-as.Gives v n) = gives (valuedOf v) n
 
-abbrev pub judged : Judged → Option (Given (Valued Bool))
-judged judged-as.Malformed = none
-judged (judged-as.Gives v n) = given (truthOf v) n
+abbrev pub judged : Judged → Meant (Valued Bool)
+judged truth-as.Malformed = malformed
+judged (truth-as.Gives v n) = gives (truthOf v) n
 
 -- the expression, or the constraint, at a place of some bytes, read at position j
-abbrev pub valueAt : ℕ → List ℕ → ℕ → List ℤ → List ℕ → ℕ → Option (Given (Valued ℤ))
+abbrev pub valueAt : ℕ → List ℕ → ℕ → List ℤ → List ℕ → ℕ → Meant (Valued ℤ)
 valueAt depth s at levels occurred j = meant (λ t. evalE t (historyOf levels occurred) j) at (parseE depth (drop at s))
 
-abbrev pub truthAt : ℕ → List ℕ → ℕ → List ℤ → List ℕ → ℕ → Option (Given (Valued Bool))
+abbrev pub truthAt : ℕ → List ℕ → ℕ → List ℤ → List ℕ → ℕ → Meant (Valued Bool)
 truthAt depth s at levels occurred j = meant (λ t. evalC t (historyOf levels occurred) j) at (parseC depth (drop at s))

@@ -3,8 +3,8 @@ use mathlib.Core.Path.{_≡_, refl, sym, ap, _∙_}
 use mathlib.Core.Logic.{⊎-elim}
 use mathlib.Core.Bool.{Bool, true, false}
 use mathlib.Core.List.{List, [], _∷_, map}
-use Prim.Native.Nat.{ℕ, zero, suc, _+_, _≤_, _<_}
-use native.Mathlib.Nat.{eq-or-lt-of-le, add-zero, add-suc, suc-add, zero-add}
+use Prim.Native.Nat.{ℕ, zero, suc, _+_, _-_, _≤_, _<_}
+use native.Mathlib.Nat.{eq-or-lt-of-le, add-zero, add-suc, suc-add}
 use native.Mathlib.Omega.{arith}
 use native.Mathlib.Decide.{ℕ-discrete}
 use borrow.Author.Tests.{eq-eqb, ne-eqb}
@@ -101,9 +101,13 @@ listed f i zero k d h = absurd (omega arith)
 listed f i (suc n) zero d h = ap f (sym (add-zero i))
 listed f i (suc n) (suc k) d h = listed f (suc i) n k d (omega arith) ∙ ap f (suc-add i k ∙ sym (add-suc i k))
 
--- a table that has each code's shape, has it at each code
-pub table : (shapes : List Shape) → shapes ≡ map (λ b. shapeOf (codeOf b)) (numbers 0 43) → (b : ℕ) (d : Shape) → b < 43 → getD shapes b d ≡ shapeOf (codeOf b)
-table shapes e b d h = ap (λ (l : List Shape). getD l b d) e ∙ listed (λ b. shapeOf (codeOf b)) 0 43 b d h ∙ ap (λ (k : ℕ). shapeOf (codeOf k)) (zero-add b)
+-- a table that has the shape of each code from the first on, has it at each code
+pub table : (shapes : List Shape) → shapes ≡ map (λ b. shapeOf (codeOf b)) (numbers 0x10 27) → (b : ℕ) (d : Shape) → 0x10 ≤ b → b < 0x2B → getD shapes (b - 0x10) d ≡ shapeOf (codeOf b)
+table shapes e b d lo hi =
+    let k : 0x10 + (b - 0x10) ≡ b = omega arith in
+    ap (λ (l : List Shape). getD l (b - 0x10) d) e
+    ∙ listed (λ b. shapeOf (codeOf b)) 0x10 27 (b - 0x10) d (omega arith)
+    ∙ ap (λ (k : ℕ). shapeOf (codeOf k)) k
 
 -- The operator of a code: where the byte is none of some keys, one test over the list of codes says which it is.
 abbrev Outside : List ℕ → ℕ → Type 0

@@ -123,7 +123,7 @@ fn occurs(occurred: &[u64], j: usize, e: u8, lag: u8) -> bool
 {
     let t = lag as usize;
     if j < t {
-        return false;
+        return false; // before step 1
     }
     let before = j - t;
     if occurred.len() <= before {

@@ -30,12 +30,13 @@ module _ {x : Context} {j : ℕ} {g h : History} (a : Agree x j g h) where
   same-step e t w =
       let known : e < x .entries = ltb-true e (x .entries) (both-holds (ltb e (x .entries)) (leb t mostLag) (both-holds (x .occurrences) (both (ltb e (x .entries)) (leb t mostLag)) w .1) .0) in
       elim (decLe t j) [
-        yes le ↦ ap (λ (b : Bool). value (both (leb t j) b)) (a .steps e (j + 1 - t) known (omega arith) (omega arith))
+        | yes le ↦ ap (λ (b : Bool). value (both (leb t j) b)) (a .steps e (j + 1 - t) known (omega arith) (omega arith))
         | no gt ↦ rw (lt-leb t j (omega arith))
       ]
 
   mutual
     unfolding allowedE evalE
+
     pub agree-e : (t : Expr) → allowedE x t ≡ true → evalE t g j ≡ evalE t h j
     agree-e (constant z) w = refl
     agree-e (fluent f t) w = same-level f t w

@@ -207,7 +207,7 @@ module _ (t : Test) (s : List ℕ) (at d : ℕ) (ne : d ≡ 0 → ⊥) (lt : at 
       pub check-first : Refused ≡ part-e (at + 1) → Refused ≡ whole-e
       check-first e =
           elim (ℕ-discrete (sh .operands) 1) [
-            yes r ↦ e ∙ check-one r
+            | yes r ↦ e ∙ check-one r
             | no r ↦ rw (at-two s at d ne lt p q r) (first-refused (passesE t) (passesE t) (two (operationOf code)) (passes-two t (operationOf code)) (parseE (d - 1)) s at e)
           ]
 
@@ -231,7 +231,7 @@ module _ (t : Test) (s : List ℕ) (at d : ℕ) (ne : d ≡ 0 → ⊥) (lt : at 
       pub check-first-c : Refused ≡ part-c (at + 1) → Refused ≡ whole-c
       check-first-c e =
           elim (ℕ-discrete (sh .operands) 1) [
-            yes r ↦ e ∙ check-negation r
+            | yes r ↦ e ∙ check-negation r
             | no r ↦ rw (at-junction s at d ne lt p q r) (first-refused (passesC t) (passesC t) (joined (junctionOf code)) (passes-joined t (junctionOf code)) (parseC (d - 1)) s at e)
           ]
 

@@ -131,7 +131,7 @@ found-outside ok ks b o [] t = t
 found-outside ok ks b o (r ∷ rows) t =
     let p = both-parts (either (among ks (r .byte)) (ok (r .opens))) (elsewhere ok ks rows) t in
     elim (ℕ-discrete b (r .byte)) [
-      yes e ↦
+      | yes e ↦
           let n : among ks (r .byte) ≡ false = ap (among ks) (sym e) ∙ not-among ks b o in
           rw (eq-eqb b (r .byte) e) (rw n at (p .0))
       | no ne ↦ rw (ne-eqb b (r .byte) ne) (found-outside ok ks b o rows (p .1))

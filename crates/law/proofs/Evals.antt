@@ -18,10 +18,6 @@ use lib.IntN.{ℤ, pos}
 use lib.Signed.{mag}
 use lib.ListN.{length, drop, getD, List·getD-eq-default}
 use lib.Seq.{drop-drop}
-use Rattle.bmap.specs.declared.Operation.{Operation}
-use Rattle.bmap.specs.declared.Single.{Single}
-use Rattle.bmap.specs.declared.Comparison.{Comparison}
-use Rattle.bmap.specs.declared.Junction.{Junction}
 use Rattle.bmap.specs.Plain.{both}
 use Rattle.bmap.specs.Limits.{mostFluents}
 use Rattle.bmap.specs.Number.{Valued, value, with1, with2, operate, change, compare, join, flag, signedWord}
@@ -34,7 +30,7 @@ use Rattle.law.specs.declared.table.Node.the-variants.{Expression, Const
 use Rattle.law.specs.declared.table.Pair.the-variants.{Bytes, Short}
 use Rattle.law.specs.Shape.{opened, pairOf, operationOf, singleOf, comparisonOf, junctionOf}
 use Rattle.law.specs.Names.{bit}
-use Rattle.law.specs.Evaluate.{Meant, malformed, gives, meant, historyOf, valueAt, truthAt}
+use Rattle.law.specs.Evaluate.{Meant, malformed, gives, meant, onward, historyOf, valueAt, truthAt}
 use Rattle.law.proofs.table.Operand as operand-type
 use Rattle.law.proofs.Trees.{at-constant, at-fluent, at-reified, at-one, at-two, at-truth, at-occurrence, at-negation, at-junction, at-comparison, no-entry, no-other, no-pair, a-pair}
 use Rattle.law.proofs.Checks.{no-bit}
@@ -85,43 +81,38 @@ pub nothing-there : {T A : Type 0} (f : T → A) (at : ℕ) {o : Option (Parsed 
 nothing-there f at e = rw e
 
 -- One operand, and two.
-abbrev then1 : {A B : Type 0} → (A → B) → Meant A → Meant B
-then1 op malformed = malformed
-then1 op (gives a n) = gives (op a) n
+module _ {A B : Type 0} (op : A → B) {x : Meant A} where
+  pub onward-none : malformed ≡ x → malformed ≡ onward op x
+  onward-none e = ap (onward op) e
+
+  pub onward-gives : {v : A} {w : B} {n : ℕ} → gives v n ≡ x → w ≡ op v → gives w n ≡ onward op x
+  onward-gives {n = n} e q = ap (λ (y : B). gives y n) q ∙ ap (onward op) e
 
 module _ {S T A B : Type 0} (fs : S → A) (ft : T → B) where
-  one-meant : (make : S → T) (op : A → B) → ((a : S) → ft (make a) ≡ op (fs a)) → (at k : ℕ) (o : Option (Parsed S)) → then1 op (meant fs (at + k) o) ≡ meant ft at (made make k o)
-  one-meant make op h at k none = refl
-  one-meant make op h at k (some p) = rw (h (p .tree), add-assoc at k (p .used))
+  made-meant : (make : S → T) (op : A → B) → ((a : S) → ft (make a) ≡ op (fs a)) → (at k : ℕ) (o : Option (Parsed S)) → onward op (meant fs (at + k) o) ≡ meant ft at (made make k o)
+  made-meant make op h at k none = refl
+  made-meant make op h at k (some p) = rw (h (p .tree), add-assoc at k (p .used))
 
   module _ (ps : Parser S) (s : List ℕ) (at : ℕ) where
-    module _ (make : S → T) (op : A → B) (h : (a : S) → ft (make a) ≡ op (fs a)) where
-      pub one-none : malformed ≡ meant fs (at + 1) (ps (drop (at + 1) s)) → malformed ≡ meant ft at (operand make ps (drop (at + 1) s))
-      one-none e = ap (then1 op) e ∙ one-meant make op h at 1 (ps (drop (at + 1) s))
-
-      pub one-gives : {v : A} {w : B} {n : ℕ} → gives v n ≡ meant fs (at + 1) (ps (drop (at + 1) s)) → w ≡ op v → gives w n ≡ meant ft at (operand make ps (drop (at + 1) s))
-      one-gives {n = n} e q = ap (λ (x : B). gives x n) q ∙ ap (then1 op) e ∙ one-meant make op h at 1 (ps (drop (at + 1) s))
+    one-meant : (make : S → T) (op : A → B) → ((a : S) → ft (make a) ≡ op (fs a)) → onward op (meant fs (at + 1) (ps (drop (at + 1) s))) ≡ meant ft at (operand make ps (drop (at + 1) s))
+    one-meant make op h = made-meant make op h at 1 (ps (drop (at + 1) s))
 
     module _ (make : S → S → T) (op : A → A → B) (h : (a b : S) → ft (make a b) ≡ op (fs a) (fs b)) where
-      abbrev then2 : Meant A → Meant B
-      then2 malformed = malformed
-      then2 (gives a n) = then1 (op a) (meant fs n (ps (drop n s)))
+      abbrev after : Meant A → Meant B
+      after malformed = malformed
+      after (gives v m) = onward (op v) (meant fs m (ps (drop m s)))
 
-      two-meant : (o : Option (Parsed S)) → then2 (meant fs (at + 1) o) ≡ meant ft at (second make ps (drop (at + 1) s) o)
+      two-meant : (o : Option (Parsed S)) → after (meant fs (at + 1) o) ≡ meant ft at (second make ps (drop (at + 1) s) o)
       two-meant none = refl
       two-meant (some p) =
           rw (drop-drop (p .used) (at + 1) s, add-assoc at 1 (p .used))
-          (one-meant (make (p .tree)) (op (fs (p .tree))) (h (p .tree)) at (1 + p .used) (ps (drop (at + (1 + p .used)) s)))
+          (made-meant (make (p .tree)) (op (fs (p .tree))) (h (p .tree)) at (1 + p .used) (ps (drop (at + (1 + p .used)) s)))
 
-      pub first-none : malformed ≡ meant fs (at + 1) (ps (drop (at + 1) s)) → malformed ≡ meant ft at (operands make ps (drop (at + 1) s))
-      first-none e = ap then2 e ∙ two-meant (ps (drop (at + 1) s))
+      first-none : malformed ≡ meant fs (at + 1) (ps (drop (at + 1) s)) → malformed ≡ meant ft at (operands make ps (drop (at + 1) s))
+      first-none e = ap after e ∙ two-meant (ps (drop (at + 1) s))
 
-      module _ {v : A} {m : ℕ} (e : gives v m ≡ meant fs (at + 1) (ps (drop (at + 1) s))) where
-        pub second-none : malformed ≡ meant fs m (ps (drop m s)) → malformed ≡ meant ft at (operands make ps (drop (at + 1) s))
-        second-none q = ap (then1 (op v)) q ∙ ap then2 e ∙ two-meant (ps (drop (at + 1) s))
-
-        pub both-give : {u : A} {w : B} {n : ℕ} → gives u n ≡ meant fs m (ps (drop m s)) → w ≡ op v u → gives w n ≡ meant ft at (operands make ps (drop (at + 1) s))
-        both-give {n = n} q r = ap (λ (x : B). gives x n) r ∙ ap (then1 (op v)) q ∙ ap then2 e ∙ two-meant (ps (drop (at + 1) s))
+      then-second : {v : A} {m : ℕ} → gives v m ≡ meant fs (at + 1) (ps (drop (at + 1) s)) → onward (op v) (meant fs m (ps (drop m s))) ≡ meant ft at (operands make ps (drop (at + 1) s))
+      then-second e = ap after e ∙ two-meant (ps (drop (at + 1) s))
 
 -- The tree at a place, by its code.
 module _ (s : List ℕ) (at d : ℕ) (l : List ℤ) (o : List ℕ) (j : ℕ) (ne : d ≡ 0 → ⊥) (lt : at < length s) where
@@ -164,36 +155,26 @@ module _ (s : List ℕ) (at d : ℕ) (l : List ℤ) (o : List ℕ) (j : ℕ) (ne
     pub eval-entry : sh .each ≡ each.EntryLag → malformed ≡ whole-e
     eval-entry q = absurd (no-entry code p q)
 
-    module _ (q : sh .each ≡ each.Constraint) where
-      pub reified-none : malformed ≡ part-c (at + 1) → malformed ≡ whole-e
-      unfolding evalE
-      reified-none e = rw (at-reified s at d ne lt p q) (one-none fc fe pc s at reified (with1 (λ b. value (flag b))) (λ a. refl) e)
-
-      pub reified-gives : {v : Valued Bool} {w : Valued ℤ} {n : ℕ} → gives v n ≡ part-c (at + 1) → w ≡ with1 (λ b. value (flag b)) v → gives w n ≡ whole-e
-      unfolding evalE
-      reified-gives e r = rw (at-reified s at d ne lt p q) (one-gives fc fe pc s at reified (with1 (λ b. value (flag b))) (λ a. refl) e r)
+    pub eval-reified : sh .each ≡ each.Constraint → onward (with1 (λ b. value (flag b))) (part-c (at + 1)) ≡ whole-e
+    unfolding evalE
+    eval-reified q = rw (at-reified s at d ne lt p q) (one-meant fc fe pc s at reified (with1 (λ b. value (flag b))) (λ a. refl))
 
     module _ (q : sh .each ≡ each.Expression) where
-      pub one-gives-e : {v w : Valued ℤ} {n : ℕ} {x : Single} → sh .operands ≡ 1 → gives v n ≡ part-e (at + 1) → x ≡ singleOf code → w ≡ with1 (change x) v → gives w n ≡ whole-e
+      pub eval-one : sh .operands ≡ 1 → onward (with1 (change (singleOf code))) (part-e (at + 1)) ≡ whole-e
       unfolding evalE
-      one-gives-e {v} r e i g = rw (at-one s at d ne lt p q r) (one-gives fe fe pe s at (one (singleOf code)) (with1 (change (singleOf code))) (λ a. refl) e (g ∙ ap (λ (x : Single). with1 (change x) v) i))
+      eval-one r = rw (at-one s at d ne lt p q r) (one-meant fe fe pe s at (one (singleOf code)) (with1 (change (singleOf code))) (λ a. refl))
 
-      pub first-none-e : malformed ≡ part-e (at + 1) → malformed ≡ whole-e
+      pub eval-two : {v : Valued ℤ} {m : ℕ} → (sh .operands ≡ 1 → ⊥) → gives v m ≡ part-e (at + 1) → onward (with2 (operate (operationOf code)) v) (part-e m) ≡ whole-e
       unfolding evalE
-      first-none-e e =
+      eval-two r e = rw (at-two s at d ne lt p q r) (then-second fe fe pe s at (two (operationOf code)) (with2 (operate (operationOf code))) (λ a b. refl) e)
+
+      pub eval-first : malformed ≡ part-e (at + 1) → malformed ≡ whole-e
+      unfolding evalE
+      eval-first e =
           elim (ℕ-discrete (sh .operands) 1) [
-            yes r ↦ rw (at-one s at d ne lt p q r) (one-none fe fe pe s at (one (singleOf code)) (with1 (change (singleOf code))) (λ a. refl) e)
+            yes r ↦ onward-none (with1 (change (singleOf code))) e ∙ eval-one r
             | no r ↦ rw (at-two s at d ne lt p q r) (first-none fe fe pe s at (two (operationOf code)) (with2 (operate (operationOf code))) (λ a b. refl) e)
           ]
-
-      module _ (r : sh .operands ≡ 1 → ⊥) {v : Valued ℤ} {m : ℕ} (e : gives v m ≡ part-e (at + 1)) where
-        pub second-none-e : malformed ≡ part-e m → malformed ≡ whole-e
-        unfolding evalE
-        second-none-e g = rw (at-two s at d ne lt p q r) (second-none fe fe pe s at (two (operationOf code)) (with2 (operate (operationOf code))) (λ a b. refl) e g)
-
-        pub two-give-e : {u w : Valued ℤ} {n : ℕ} {x : Operation} → gives u n ≡ part-e m → x ≡ operationOf code → w ≡ with2 (operate x) v u → gives w n ≡ whole-e
-        unfolding evalE
-        two-give-e {u} g i f = rw (at-two s at d ne lt p q r) (both-give fe fe pe s at (two (operationOf code)) (with2 (operate (operationOf code))) (λ a b. refl) e g (f ∙ ap (λ (x : Operation). with2 (operate x) v u) i))
 
   module _ {sh : Shape} (p : Constraint sh ≡ opened code) where
     pub eval-truth : sh .operands ≡ 0 → gives (value true) (at + 1) ≡ whole-c
@@ -208,37 +189,27 @@ module _ (s : List ℕ) (at d : ℕ) (l : List ℤ) (o : List ℕ) (j : ℕ) (ne
     eval-other q = absurd (no-other code p q)
 
     module _ (q : sh .each ≡ each.Constraint) where
-      pub one-gives-c : {v w : Valued Bool} {n : ℕ} → sh .operands ≡ 1 → gives v n ≡ part-c (at + 1) → w ≡ with1 (λ x. value (not x)) v → gives w n ≡ whole-c
+      pub eval-negation : sh .operands ≡ 1 → onward (with1 (λ x. value (not x))) (part-c (at + 1)) ≡ whole-c
       unfolding evalC
-      one-gives-c r e g = rw (at-negation s at d ne lt p q r) (one-gives fc fc pc s at negated (with1 (λ x. value (not x))) (λ a. refl) e g)
+      eval-negation r = rw (at-negation s at d ne lt p q r) (one-meant fc fc pc s at negated (with1 (λ x. value (not x))) (λ a. refl))
 
-      pub first-none-c : malformed ≡ part-c (at + 1) → malformed ≡ whole-c
+      pub eval-junction : {v : Valued Bool} {m : ℕ} → (sh .operands ≡ 1 → ⊥) → gives v m ≡ part-c (at + 1) → onward (with2 (λ x y. value (join (junctionOf code) x y)) v) (part-c m) ≡ whole-c
       unfolding evalC
-      first-none-c e =
+      eval-junction r e = rw (at-junction s at d ne lt p q r) (then-second fc fc pc s at (joined (junctionOf code)) (with2 (λ x y. value (join (junctionOf code) x y))) (λ a b. refl) e)
+
+      pub eval-first-c : malformed ≡ part-c (at + 1) → malformed ≡ whole-c
+      unfolding evalC
+      eval-first-c e =
           elim (ℕ-discrete (sh .operands) 1) [
-            yes r ↦ rw (at-negation s at d ne lt p q r) (one-none fc fc pc s at negated (with1 (λ x. value (not x))) (λ a. refl) e)
+            yes r ↦ onward-none (with1 (λ x. value (not x))) e ∙ eval-negation r
             | no r ↦ rw (at-junction s at d ne lt p q r) (first-none fc fc pc s at (joined (junctionOf code)) (with2 (λ x y. value (join (junctionOf code) x y))) (λ a b. refl) e)
           ]
 
-      module _ (r : sh .operands ≡ 1 → ⊥) {v : Valued Bool} {m : ℕ} (e : gives v m ≡ part-c (at + 1)) where
-        pub second-none-c : malformed ≡ part-c m → malformed ≡ whole-c
-        unfolding evalC
-        second-none-c g = rw (at-junction s at d ne lt p q r) (second-none fc fc pc s at (joined (junctionOf code)) (with2 (λ x y. value (join (junctionOf code) x y))) (λ a b. refl) e g)
-
-        pub two-give-c : {u w : Valued Bool} {n : ℕ} {x : Junction} → gives u n ≡ part-c m → x ≡ junctionOf code → w ≡ with2 (λ a b. value (join x a b)) v u → gives w n ≡ whole-c
-        unfolding evalC
-        two-give-c {u} g i f = rw (at-junction s at d ne lt p q r) (both-give fc fc pc s at (joined (junctionOf code)) (with2 (λ x y. value (join (junctionOf code) x y))) (λ a b. refl) e g (f ∙ ap (λ (x : Junction). with2 (λ a b. value (join x a b)) v u) i))
-
     module _ (q : sh .each ≡ each.Expression) (r : sh .operands ≡ 0 → ⊥) where
-      pub first-none-x : malformed ≡ part-e (at + 1) → malformed ≡ whole-c
+      pub eval-compared : {v : Valued ℤ} {m : ℕ} → gives v m ≡ part-e (at + 1) → onward (with2 (λ x y. value (compare (comparisonOf code) x y)) v) (part-e m) ≡ whole-c
       unfolding evalC
-      first-none-x e = rw (at-comparison s at d ne lt p q r) (first-none fe fc pe s at (compared (comparisonOf code)) (with2 (λ x y. value (compare (comparisonOf code) x y))) (λ a b. refl) e)
+      eval-compared e = rw (at-comparison s at d ne lt p q r) (then-second fe fc pe s at (compared (comparisonOf code)) (with2 (λ x y. value (compare (comparisonOf code) x y))) (λ a b. refl) e)
 
-      module _ {v : Valued ℤ} {m : ℕ} (e : gives v m ≡ part-e (at + 1)) where
-        pub second-none-x : malformed ≡ part-e m → malformed ≡ whole-c
-        unfolding evalC
-        second-none-x g = rw (at-comparison s at d ne lt p q r) (second-none fe fc pe s at (compared (comparisonOf code)) (with2 (λ x y. value (compare (comparisonOf code) x y))) (λ a b. refl) e g)
-
-        pub two-give-x : {u : Valued ℤ} {w : Valued Bool} {n : ℕ} {x : Comparison} → gives u n ≡ part-e m → x ≡ comparisonOf code → w ≡ with2 (λ a b. value (compare x a b)) v u → gives w n ≡ whole-c
-        unfolding evalC
-        two-give-x {u} g i f = rw (at-comparison s at d ne lt p q r) (both-give fe fc pe s at (compared (comparisonOf code)) (with2 (λ x y. value (compare (comparisonOf code) x y))) (λ a b. refl) e g (f ∙ ap (λ (x : Comparison). with2 (λ a b. value (compare x a b)) v u) i))
+      pub eval-first-e : malformed ≡ part-e (at + 1) → malformed ≡ whole-c
+      unfolding evalC
+      eval-first-e e = rw (at-comparison s at d ne lt p q r) (first-none fe fc pe s at (compared (comparisonOf code)) (with2 (λ x y. value (compare (comparisonOf code) x y))) (λ a b. refl) e)

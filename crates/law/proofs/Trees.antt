@@ -134,6 +134,7 @@ module _ {sh : Shape} where
   is-comparison (constraint a-truth) p q r = absurd (r (cc))
   is-comparison (expression c) p q r = cc
   is-comparison no-code p q r = cc
+
   pub no-entry : (c : Code) → Expression sh ≡ opened c → sh .each ≡ each.EntryLag → ⊥
   no-entry (expression a-constant) p q = apart (cc)
   no-entry (expression a-fluent) p q = apart (cc)

@@ -55,6 +55,7 @@ module _ (pe : Parser Expr) (pc : Parser Con) (we : (l : List ℕ) → Within l 
 
 mutual
   unfolding parseE
+
   within-e : (d : ℕ) (l : List ℕ) → Within l (parseE d l)
   within-e zero l = tt
   within-e (suc d) [] = tt

@@ -33,6 +33,11 @@ abbrev pub meant : {T A : Type 0} → (T → A) → ℕ → Option (Parsed T) �
 meant f at none = malformed
 meant f at (some p) = gives (f (p .tree)) (at + p .used)
 
+-- an operator on what stands there
+abbrev pub onward : {A B : Type 0} → (A → B) → Meant A → Meant B
+onward op malformed = malformed
+onward op (gives a n) = gives (op a) n
+
 -- the code's two types
 abbrev pub evaluated : Evaluated → Meant (Valued ℤ)
 evaluated value-as.Malformed = malformed

@@ -7,13 +7,12 @@ ghost use lib.IntN.{pos};
 ghost use lib.ListN.{drop, getD};
 ghost use Rattle.bmap.specs.Plain.{both};
 ghost use Rattle.bmap.specs.Limits.{mostFluents, mostDepth};
-ghost use Rattle.bmap.specs.Number.{value, signedWord};
+ghost use Rattle.bmap.specs.Number.{value, with1, with2, operate, compare, join, flag, signedWord};
 ghost use Rattle.bmap.specs.Code.{codeOf, twoBytes};
-ghost use Rattle.number.specs.Answer.{valuedOf};
+ghost use Rattle.number.specs.Answer.{valuedOf, truthOf};
 ghost use Rattle.law.specs.Shape.{operationOf, singleOf, comparisonOf, junctionOf};
 ghost use Rattle.law.specs.Names.{bit};
-ghost use Rattle.law.specs.Evaluate.{evaluated, judged, meant, valueAt, truthAt};
-
+ghost use Rattle.law.specs.Evaluate.{evaluated, judged, meant, onward, valueAt, truthAt};
 use crate::names::has_bit;
 use crate::table::Node;
 use crate::table::Operand;
@@ -171,6 +170,48 @@ fn occurrence_in(s: &[u8], at: usize, occurred: &[u64], j: usize) -> Judged
     }
 }
 
+// "19 reified constraint": what the constraint gives, as a number.
+fn reified_of(t: Judged) -> Evaluated
+    ensures { λ r. ⌜ evaluated r ≡ onward (with1 (λ b. value (flag b))) (judged t) ⌝ }
+{
+    match t {
+        Judged::Gives(b, end) => Evaluated::Gives(number::reified(b), end),
+        Judged::Malformed => Evaluated::Malformed,
+    }
+}
+
+// An operator on a first operand and on what stands after it. "and" and "or" read both sides.
+fn operated_of(code: u8, a: Value, second: Evaluated) -> Evaluated
+    ensures { λ r. ⌜ evaluated r ≡ onward (with2 (operate (operationOf (codeOf code))) (valuedOf a)) (evaluated second) ⌝ }
+{
+    match second {
+        Evaluated::Gives(b, end) => {
+            Evaluated::Gives(number::operate(operation_of(code), a, b), end)
+        }
+        Evaluated::Malformed => Evaluated::Malformed,
+    }
+}
+
+fn compared_of(code: u8, a: Value, second: Evaluated) -> Judged
+    ensures { λ r. ⌜ judged r ≡ onward (with2 (λ x y. value (compare (comparisonOf (codeOf code)) x y)) (valuedOf a)) (evaluated second) ⌝ }
+{
+    match second {
+        Evaluated::Gives(b, end) => {
+            Judged::Gives(number::compare(comparison_of(code), a, b), end)
+        }
+        Evaluated::Malformed => Judged::Malformed,
+    }
+}
+
+fn joined_of(code: u8, a: Truth, second: Judged) -> Judged
+    ensures { λ r. ⌜ judged r ≡ onward (with2 (λ x y. value (join (junctionOf (codeOf code)) x y)) (truthOf a)) (judged second) ⌝ }
+{
+    match second {
+        Judged::Gives(b, end) => Judged::Gives(number::join(junction_of(code), a, b), end),
+        Judged::Malformed => Judged::Malformed,
+    }
+}
+
 // An expression with so much depth left.
 fn value_in(s: &[u8], at: usize, depth: usize, levels: &[i16], occurred: &[u64], j: usize) -> Evaluated
     ensures { λ r. ⌜ evaluated r ≡ valueAt depth (now (s .entry)) at (now (levels .entry)) (now (occurred .entry)) j ⌝ }
@@ -190,24 +231,16 @@ fn value_in(s: &[u8], at: usize, depth: usize, levels: &[i16], occurred: &[u64],
         Operand::Value => constant_in(s, at),
         Operand::FluentLag => fluent_in(s, at, levels, j),
         Operand::EntryLag => Evaluated::Malformed,
-        Operand::Constraint => match truth_in(s, at + 1, depth - 1, levels, occurred, j) {
-            Judged::Gives(b, end) => Evaluated::Gives(number::reified(b), end),
-            Judged::Malformed => Evaluated::Malformed,
-        },
-        Operand::Expression => match value_in(s, at + 1, depth - 1, levels, occurred, j) {
-            Evaluated::Gives(a, end) => {
-                if shape.operands == 1 {
-                    return Evaluated::Gives(number::change(single_of(code), a), end);
-                }
-                match value_in(s, end, depth - 1, levels, occurred, j) {
-                    Evaluated::Gives(b, end) => {
-                        Evaluated::Gives(number::operate(operation_of(code), a, b), end)
-                    }
-                    Evaluated::Malformed => Evaluated::Malformed,
-                }
+        Operand::Constraint => reified_of(truth_in(s, at + 1, depth - 1, levels, occurred, j)),
+        Operand::Expression => {
+            let Evaluated::Gives(a, next) = value_in(s, at + 1, depth - 1, levels, occurred, j) else {
+                return Evaluated::Malformed;
+            };
+            if shape.operands == 1 {
+                return Evaluated::Gives(number::change(single_of(code), a), next);
             }
-            Evaluated::Malformed => Evaluated::Malformed,
-        },
+            operated_of(code, a, value_in(s, next, depth - 1, levels, occurred, j))
+        }
     }
 }
 
@@ -231,27 +264,21 @@ fn truth_in(s: &[u8], at: usize, depth: usize, levels: &[i16], occurred: &[u64],
     let each = shape.each;
     match each {
         Operand::EntryLag => occurrence_in(s, at, occurred, j),
-        Operand::Constraint => match truth_in(s, at + 1, depth - 1, levels, occurred, j) {
-            Judged::Gives(a, end) => {
-                if shape.operands == 1 {
-                    return Judged::Gives(number::negate(a), end);
-                }
-                match truth_in(s, end, depth - 1, levels, occurred, j) {
-                    Judged::Gives(b, end) => Judged::Gives(number::join(junction_of(code), a, b), end),
-                    Judged::Malformed => Judged::Malformed,
-                }
+        Operand::Constraint => {
+            let Judged::Gives(a, next) = truth_in(s, at + 1, depth - 1, levels, occurred, j) else {
+                return Judged::Malformed;
+            };
+            if shape.operands == 1 {
+                return Judged::Gives(number::negate(a), next);
             }
-            Judged::Malformed => Judged::Malformed,
-        },
-        Operand::Expression => match value_in(s, at + 1, depth - 1, levels, occurred, j) {
-            Evaluated::Gives(a, end) => match value_in(s, end, depth - 1, levels, occurred, j) {
-                Evaluated::Gives(b, end) => {
-                    Judged::Gives(number::compare(comparison_of(code), a, b), end)
-                }
-                Evaluated::Malformed => Judged::Malformed,
-            },
-            Evaluated::Malformed => Judged::Malformed,
-        },
+            joined_of(code, a, truth_in(s, next, depth - 1, levels, occurred, j))
+        }
+        Operand::Expression => {
+            let Evaluated::Gives(a, next) = value_in(s, at + 1, depth - 1, levels, occurred, j) else {
+                return Judged::Malformed;
+            };
+            compared_of(code, a, value_in(s, next, depth - 1, levels, occurred, j))
+        }
         _ => Judged::Malformed,
     }
 }

@@ -4,7 +4,6 @@ ghost use lib.ListN.{drop};
 ghost use Rattle.bmap.specs.Limits.{mostDepth};
 ghost use Rattle.bmap.specs.Code.{parseC};
 ghost use Rattle.law.specs.Names.{bit, namesOnly};
-
 use crate::check::Checked;
 use crate::check::Test;
 use crate::check::constraint_in;
@@ -13,11 +12,7 @@ use crate::check::constraint_in;
 pub fn has_bit(mask: u64, i: u8) -> bool
     ensures { λ r. ⌜ r ≡ bit mask i ⌝ }
 {
-    if i < 64 {
-        (mask >> i) % 2 == 1
-    } else {
-        false
-    }
+    if i < 64 { (mask >> i) % 2 == 1 } else { false }
 }
 
 // Whether every fluent that the constraint names has its bit in the mask.

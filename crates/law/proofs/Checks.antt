@@ -4,13 +4,12 @@ use mathlib.Core.Bool.{Bool, true, false}
 use mathlib.Core.List.{List, [], _∷_, _++_}
 use mathlib.Core.Option.{Option, none, some}
 use Prim.Native.Nat.{ℕ, zero, suc, _+_, _-_, _*_, _/_, _%_, _^_, _≤_, _<_}
-use native.Mathlib.Nat.{add-assoc, lt-of-lt-of-le, div-eq-of-lt}
+use native.Mathlib.Nat.{add-assoc}
 use native.Mathlib.Omega.{arith}
 use native.Mathlib.Decide.{ℕ-discrete}
 use types.Run.{OneOf}
 use denote.Enum.Declared.{tagOf}
 use lib.Dec.{leb, ltb}
-use lib.Pow.{pow-mono}
 use lib.ListN.{length, drop, getD}
 use lib.Seq.{drop-drop}
 use Rattle.bmap.specs.declared.Operation.{Operation}
@@ -32,7 +31,8 @@ use Rattle.law.specs.declared.check.Checked.the-variants.{Next, Refused}
 use Rattle.law.specs.declared.check.Test.{Test}
 use Rattle.law.specs.declared.check.Test.the-variants.{Allowed, Known}
 use Rattle.law.specs.Shape.{opened, pairOf, operationOf, singleOf, comparisonOf, junctionOf}
-use Rattle.law.specs.Names.{bit, namesOnly}
+use Rattle.law.specs.Mask.{bit}
+use Rattle.law.specs.Names.{namesOnly}
 use Rattle.law.specs.Check.{checked, passesE, passesC}
 use Rattle.law.proofs.table.Operand as operand-type
 use Rattle.law.proofs.Trees.{at-constant, at-fluent, at-reified, at-one, at-two, at-truth, at-occurrence, at-negation, at-junction, at-comparison, no-entry, no-other, no-pair, a-pair}
@@ -112,13 +112,6 @@ module _ (t : Test) (n lag : ℕ) where
   pub entry-known : {m : ℕ} → t ≡ Known m → true ≡ passesC t (occurs n lag)
   unfolding namedC all
   entry-known e = rw e
-
--- a mask of w bits has none from w on
-pub no-bit : (w mask i : ℕ) → mask < 2 ^ w → w ≤ i → false ≡ bit mask i
-unfolding bit
-no-bit w mask i small past =
-    let z : mask / 2 ^ i ≡ 0 = div-eq-of-lt (lt-of-lt-of-le small (pow-mono past)) in
-    rw z
 
 -- One operand, and two.
 module _ {T A : Type 0} (okA : A → Bool) (okT : T → Bool) where

@@ -29,11 +29,11 @@ use Rattle.law.specs.declared.table.Shape.{Shape}
 use Rattle.law.specs.declared.table.Node.the-variants.{Expression, Constraint}
 use Rattle.law.specs.declared.table.Pair.the-variants.{Bytes, Short}
 use Rattle.law.specs.Shape.{opened, pairOf, operationOf, singleOf, comparisonOf, junctionOf}
-use Rattle.law.specs.Names.{bit}
+use Rattle.law.specs.Mask.{bit}
 use Rattle.law.specs.Evaluate.{Meant, malformed, gives, meant, onward, historyOf, valueAt, truthAt}
 use Rattle.law.proofs.table.Operand as operand-type
 use Rattle.law.proofs.Trees.{at-constant, at-fluent, at-reified, at-one, at-two, at-truth, at-occurrence, at-negation, at-junction, at-comparison, no-entry, no-other, no-pair, a-pair}
-use Rattle.law.proofs.Checks.{no-bit}
+use Rattle.law.proofs.Bits.{no-bit}
 
 -- The history: what was never written, and the step that code 29 looks at.
 pub no-level : (l : List ℤ) (k f : ℕ) → length l ≤ mostFluents * k + f → pos 0 ≡ getD l (mostFluents * k + f) (pos 0)

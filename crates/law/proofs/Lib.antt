@@ -1,5 +1,6 @@
 pub mod Codes
 pub mod Trees
+pub mod Bits
 pub mod Checks
 pub mod Evals
 pub mod Used

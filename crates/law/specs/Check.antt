@@ -5,7 +5,7 @@ use mathlib.Core.Option.{Option, none, some}
 use Rattle.bmap.specs.Plain.{if-else, all}
 use Rattle.bmap.specs.Tree.{Expr, Con, allowedE, allowedC, namedE, namedC}
 use Rattle.bmap.specs.Code.{Parsed}
-use Rattle.law.specs.Names.{bit}
+use Rattle.law.specs.Mask.{bit}
 use Rattle.law.specs.declared.check.Checked.{Checked}
 use Rattle.law.specs.declared.check.Checked.the-variants.{Next, Refused}
 use Rattle.law.specs.declared.check.Test.{Test}

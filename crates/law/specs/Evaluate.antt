@@ -10,7 +10,7 @@ use Rattle.bmap.specs.Number.{Valued}
 use Rattle.bmap.specs.Meaning.{History, evalE, evalC}
 use Rattle.bmap.specs.Code.{Parsed, parseE, parseC}
 use Rattle.number.specs.Answer.{valuedOf, truthOf}
-use Rattle.law.specs.Names.{bit}
+use Rattle.law.specs.Mask.{bit}
 use Rattle.law.specs.declared.eval.Evaluated.{Evaluated}
 use Rattle.law.specs.declared.eval.Evaluated.the-variants as value-as
 use Rattle.law.specs.declared.eval.Judged.{Judged}

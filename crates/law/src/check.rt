@@ -10,7 +10,7 @@ ghost use Rattle.bmap.specs.Tree.{allowedE, allowedC, constant, fluent, occurs}
 ghost use Rattle.bmap.specs.Number.{signedWord};
 ghost use Rattle.bmap.specs.Code.{parseE, parseC, twoBytes};
 ghost use Rattle.law.specs.Check.{checked, passesE, passesC};
-use crate::names::has_bit;
+use crate::mask::has_bit;
 use crate::table::Node;
 use crate::table::Operand;
 use crate::table::Pair;

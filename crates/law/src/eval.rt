@@ -11,9 +11,9 @@ ghost use Rattle.bmap.specs.Number.{value, with1, with2, operate, compare, join
 ghost use Rattle.bmap.specs.Code.{codeOf, twoBytes};
 ghost use Rattle.number.specs.Answer.{valuedOf, truthOf};
 ghost use Rattle.law.specs.Shape.{operationOf, singleOf, comparisonOf, junctionOf};
-ghost use Rattle.law.specs.Names.{bit};
+ghost use Rattle.law.specs.Mask.{bit};
 ghost use Rattle.law.specs.Evaluate.{evaluated, judged, meant, onward, valueAt, truthAt};
-use crate::names::has_bit;
+use crate::mask::has_bit;
 use crate::table::Node;
 use crate::table::Operand;
 use crate::table::Pair;

@@ -1,6 +1,10 @@
-// Expressions and constraints where they stand in bytes.
+// Expressions and constraints where they stand in bytes, as laws hold them. `table` says what each code opens and how many
+// operands follow; by it `check` accepts a tree and finds its end, `names` asks which fluents it names, and `eval` says what
+// it gives at a position of a history. Expressions hold constraints and constraints expressions, so the functions of
+// each call each other, with less depth left.
 mod check;
 mod eval;
+mod mask;
 mod names;
 mod table;
 

@@ -6,7 +6,7 @@ use lib.Dec.{leb}
 use lib.ListN.{getD}
 use Rattle.bmap.specs.Plain.{both}
 use Rattle.bmap.specs.Number.{value}
-use Rattle.law.specs.Names.{bit}
+use Rattle.law.specs.Mask.{bit}
 use Rattle.law.proofs.Trees.{pair-in}
 use Rattle.law.proofs.Evals.{leaf-none, leaf-gives}
 use Rattle.law.proofs.eval.occurrence_in.Statement.{statement}

@@ -1,10 +1,10 @@
 use native.Mathlib.Omega.{arith}
 use borrow.Author.Needs.{needs}
 use mathlib.Core.Path.{refl}
-use Rattle.law.specs.Names.{bit}
-use Rattle.law.proofs.Checks.{no-bit}
-use Rattle.law.proofs.names.has_bit.Statement.{statement}
-use Rattle.law.proofs.names.has_bit.Tie as tie
+use Rattle.law.specs.Mask.{bit}
+use Rattle.law.proofs.Bits.{no-bit}
+use Rattle.law.proofs.mask.has_bit.Statement.{statement}
+use Rattle.law.proofs.mask.has_bit.Tie as tie
 
 shr-result : tie.Need-shr-result
 shr-result c = search needs

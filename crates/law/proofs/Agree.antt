@@ -1,16 +1,16 @@
 -- A tree reads no more of a history than it may name, up to the present: where two histories agree on that, it gives the same.
-use mathlib.Core.Path.{_≡_, refl, ap, _∙_}
-use mathlib.Core.Bool.{Bool, true, false, not}
+use mathlib.Core.Path.{_≡_, refl, ap}
+use mathlib.Core.Bool.{Bool, true, false}
 use Prim.Native.Nat.{ℕ, _+_, _-_, _≤_, _<_}
 use native.Mathlib.Omega.{arith}
 use native.Mathlib.Decide.{decLe}
-use borrow.Author.Tests.{ltb-true, le-leb, lt-leb}
+use borrow.Author.Tests.{ltb-true, lt-leb}
 use lib.Dec.{leb, ltb}
 use lib.IntN.{ℤ}
 use Rattle.bmap.specs.declared.limits.Context.{Context}
 use Rattle.bmap.specs.Plain.{both}
 use Rattle.bmap.specs.Limits.{mostLag}
-use Rattle.bmap.specs.Number.{Valued, value, with1, with2, operate, change, compare, join, flag}
+use Rattle.bmap.specs.Number.{value}
 use Rattle.bmap.specs.Tree.{Expr, Con, constant, fluent, two, one, reified, compared, joined, negated, occurs, always, allowedE, allowedC}
 use Rattle.bmap.specs.Meaning.{History, evalE, evalC}
 

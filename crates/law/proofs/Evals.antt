@@ -3,7 +3,7 @@ use mathlib.Core.Path.{_≡_, refl, sym, ap, _∙_}
 use mathlib.Core.Bool.{Bool, true, false, not}
 use mathlib.Core.List.{List, [], _∷_}
 use mathlib.Core.Option.{Option, none, some}
-use Prim.Native.Nat.{ℕ, zero, suc, _+_, _-_, _*_, _≤_, _<_}
+use Prim.Native.Nat.{ℕ, _+_, _-_, _*_, _≤_, _<_}
 use native.Mathlib.Nat.{add-assoc}
 use native.Mathlib.Omega.{arith}
 use native.Mathlib.Decide.{ℕ-discrete}
@@ -22,8 +22,8 @@ use Rattle.bmap.specs.Plain.{both}
 use Rattle.bmap.specs.Limits.{mostFluents}
 use Rattle.bmap.specs.Number.{Valued, value, with1, with2, operate, change, compare, join, flag, signedWord}
 use Rattle.bmap.specs.Tree.{Expr, Con, constant, fluent, two, one, reified, compared, joined, negated, occurs}
-use Rattle.bmap.specs.Meaning.{History, evalE, evalC}
-use Rattle.bmap.specs.Code.{Code, Parsed, Parser, codeOf, parsed, made, second, operand, operands, twoBytes, parseE, parseC}
+use Rattle.bmap.specs.Meaning.{evalE, evalC}
+use Rattle.bmap.specs.Code.{Code, Parsed, Parser, codeOf, made, second, operand, operands, twoBytes, parseE, parseC}
 use Rattle.law.specs.declared.table.Operand.the-variants as each
 use Rattle.law.specs.declared.table.Shape.{Shape}
 use Rattle.law.specs.declared.table.Node.the-variants.{Expression, Constraint}

@@ -1,5 +1,5 @@
 -- What a caller learns from an answer: the tree that stands there. Two answers that satisfy the same statement are equal.
-use mathlib.Core.Path.{_≡_, refl, ap, _∙_}
+use mathlib.Core.Path.{_≡_, refl}
 use mathlib.Core.Bool.{Bool, true, false}
 use mathlib.Core.Option.{Option, none, some}
 use Prim.Native.Nat.{ℕ, _+_}
@@ -18,7 +18,7 @@ use Rattle.law.specs.declared.eval.Evaluated.the-variants as value-as
 use Rattle.law.specs.declared.eval.Judged.{Judged}
 use Rattle.law.specs.declared.eval.Judged.the-variants as truth-as
 use Rattle.law.specs.Check.{checked}
-use Rattle.law.specs.Evaluate.{Meant, malformed, gives, meant, evaluated, judged}
+use Rattle.law.specs.Evaluate.{gives, meant, evaluated, judged}
 
 -- the tree that was accepted
 pub record Accepted {T : Type 0} (ok : T → Bool) (at n : ℕ) (o : Option (Parsed T)) : Type 0 where

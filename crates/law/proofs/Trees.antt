@@ -1,8 +1,8 @@
 -- The tree at a place of some bytes, by its code: what the table says of the code, and what the parser does after it.
-use mathlib.Core.Path.{_≡_, refl, sym, ap, subst, _∙_}
+use mathlib.Core.Path.{_≡_, refl, subst}
 use mathlib.Core.Logic.{⊎-elim}
 use mathlib.Core.List.{List, [], _∷_}
-use mathlib.Core.Option.{Option, none, some}
+use mathlib.Core.Option.{none, some}
 use Prim.Native.Nat.{ℕ, zero, suc, _+_, _-_, _≤_, _<_}
 use native.Mathlib.Numerals.{add-one}
 use native.Mathlib.Decide.{decLe}
@@ -19,9 +19,9 @@ use Rattle.law.specs.declared.table.Operand.{Operand}
 use Rattle.law.specs.declared.table.Operand.the-variants as each
 use Rattle.law.specs.declared.table.Shape.{Shape}
 use Rattle.law.specs.declared.table.Node.{Node}
-use Rattle.law.specs.declared.table.Node.the-variants.{Expression, Constraint, Refused}
+use Rattle.law.specs.declared.table.Node.the-variants.{Expression, Constraint}
 use Rattle.law.specs.declared.table.Pair.the-variants.{Bytes, Short}
-use Rattle.law.specs.Shape.{shape, shapeOf, opened, pairOf, operationOf, singleOf, comparisonOf, junctionOf}
+use Rattle.law.specs.Shape.{opened, pairOf, operationOf, singleOf, comparisonOf, junctionOf}
 use Rattle.law.proofs.table.Node as node-type
 use Rattle.law.proofs.table.Operand as operand-type
 

@@ -6,7 +6,7 @@ use Prim.Native.Nat.{ℕ, zero, suc, _+_, _≤_}
 use native.Mathlib.Omega.{arith}
 use lib.ListN.{length, drop, length-drop}
 use Rattle.bmap.specs.Number.{signedWord}
-use Rattle.bmap.specs.Tree.{Expr, Con, constant, fluent, two, one, reified, compared, joined, negated, occurs, always}
+use Rattle.bmap.specs.Tree.{Expr, Con, constant, fluent, two, one, reified, compared, joined, negated, occurs}
 use Rattle.bmap.specs.Code.{Code, expression, constraint, no-code, a-constant, a-fluent, of-two, of-one, a-reified, of-comparison, of-junction, a-negation, an-occurrence, a-truth}
 use Rattle.bmap.specs.Code.{Parsed, Parser, twoBytes, made, second, operand, operands, codeOf, exprAfter, conAfter, parseE, parseC}
 

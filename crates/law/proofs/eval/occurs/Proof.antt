@@ -1,5 +1,4 @@
 use mathlib.Core.Path.{_∙_}
-use native.Mathlib.Omega.{arith}
 use borrow.Author.Needs.{needs}
 use Rattle.law.proofs.Evals.{before-steps, past-steps, at-step}
 use Rattle.law.proofs.eval.occurs.Statement.{statement}

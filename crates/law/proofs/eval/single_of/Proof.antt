@@ -1,4 +1,3 @@
-use mathlib.Core.Path.{refl}
 use Rattle.bmap.specs.Code.{codeOf}
 use Rattle.law.proofs.Codes.{else-negation}
 use Rattle.law.proofs.eval.single_of.Statement.{statement}

@@ -172,7 +172,7 @@ module _ (s : List ℕ) (at d : ℕ) (l : List ℤ) (o : List ℕ) (j : ℕ) (ne
       unfolding evalE
       eval-first e =
           elim (ℕ-discrete (sh .operands) 1) [
-            yes r ↦ onward-none (with1 (change (singleOf code))) e ∙ eval-one r
+            | yes r ↦ onward-none (with1 (change (singleOf code))) e ∙ eval-one r
             | no r ↦ rw (at-two s at d ne lt p q r) (first-none fe fe pe s at (two (operationOf code)) (with2 (operate (operationOf code))) (λ a b. refl) e)
           ]
 
@@ -201,7 +201,7 @@ module _ (s : List ℕ) (at d : ℕ) (l : List ℤ) (o : List ℕ) (j : ℕ) (ne
       unfolding evalC
       eval-first-c e =
           elim (ℕ-discrete (sh .operands) 1) [
-            yes r ↦ onward-none (with1 (λ x. value (not x))) e ∙ eval-negation r
+            | yes r ↦ onward-none (with1 (λ x. value (not x))) e ∙ eval-negation r
             | no r ↦ rw (at-junction s at d ne lt p q r) (first-none fc fc pc s at (joined (junctionOf code)) (with2 (λ x y. value (join (junctionOf code) x y))) (λ a b. refl) e)
           ]
 

@@ -16,12 +16,18 @@ use Rattle.law.specs.declared.eval.Evaluated.the-variants as value-as
 use Rattle.law.specs.declared.eval.Judged.{Judged}
 use Rattle.law.specs.declared.eval.Judged.the-variants as truth-as
 
--- The history that the code is lent: the levels state after state, room for the most fluents in each, and a mask of
--- entries for each step. What was never written is 0.
+-- The history that the code is lent: the levels state after state, with room for the most fluents in each, and a mask
+-- of entries for each step. What was never written is 0.
+abbrev pub levelAt : List ℤ → ℕ → ℕ → ℤ
+levelAt levels k f = getD levels (mostFluents * k + f) (pos 0)
+
+abbrev pub inStep : List ℕ → ℕ → ℕ → Bool
+inStep occurred e k = bit (getD occurred k 0) e
+
 abbrev pub historyOf : List ℤ → List ℕ → History
 historyOf levels occurred = record {
-  level = λ k f. getD levels (mostFluents * k + f) (pos 0);
-  occurred = λ e k. bit (getD occurred k 0) e;
+  level = λ k f. levelAt levels k f;
+  occurred = λ e k. inStep occurred e k;
 }
 
 -- what a tree at a place means, with the place just after the tree; or no tree stands there

@@ -3,16 +3,14 @@
 ghost use mathlib.Core.Path.{_≡_};
 ghost use Prim.Native.Nat.{_+_, _-_, _*_};
 ghost use lib.Dec.{leb};
-ghost use lib.IntN.{pos};
-ghost use lib.ListN.{drop, getD};
+ghost use lib.ListN.{drop};
 ghost use Rattle.bmap.specs.Plain.{both};
-ghost use Rattle.bmap.specs.Limits.{mostFluents, mostDepth};
+ghost use Rattle.bmap.specs.Limits.{mostDepth};
 ghost use Rattle.bmap.specs.Number.{value, with1, with2, operate, compare, join, flag, signedWord};
 ghost use Rattle.bmap.specs.Code.{codeOf, twoBytes};
 ghost use Rattle.number.specs.Answer.{valuedOf, truthOf};
 ghost use Rattle.law.specs.Shape.{operationOf, singleOf, comparisonOf, junctionOf};
-ghost use Rattle.law.specs.Mask.{bit};
-ghost use Rattle.law.specs.Evaluate.{evaluated, judged, meant, onward, valueAt, truthAt};
+ghost use Rattle.law.specs.Evaluate.{evaluated, judged, meant, onward, levelAt, inStep, valueAt, truthAt};
 use crate::mask::has_bit;
 use crate::table::Node;
 use crate::table::Operand;
@@ -93,7 +91,7 @@ fn state_of(j: usize, lag: u8) -> usize
 
 // The level of a fluent in a state; what was never written is 0.
 fn level(levels: &[i16], state: usize, f: u8) -> i16
-    ensures { λ r. ⌜ r ≡ getD (now (levels .entry)) (mostFluents * state + f) (pos 0) ⌝ }
+    ensures { λ r. ⌜ r ≡ levelAt (now (levels .entry)) state f ⌝ }
 {
     let f = f as usize;
     if levels.len() <= f {
@@ -108,7 +106,7 @@ fn level(levels: &[i16], state: usize, f: u8) -> i16
 
 // Whether an entry occurred in a step.
 fn in_step(occurred: &[u64], step: usize, e: u8) -> bool
-    ensures { λ r. ⌜ r ≡ bit (getD (now (occurred .entry)) step 0) e ⌝ }
+    ensures { λ r. ⌜ r ≡ inStep (now (occurred .entry)) e step ⌝ }
 {
     if occurred.len() <= step {
         return false;
@@ -118,7 +116,7 @@ fn in_step(occurred: &[u64], step: usize, e: u8) -> bool
 
 // "Code 29 with lag t (0 to 63) looks at step j+1−t and is false before step 1."
 fn occurs(occurred: &[u64], j: usize, e: u8, lag: u8) -> bool
-    ensures { λ r. ⌜ r ≡ both (leb lag j) (bit (getD (now (occurred .entry)) (j + 1 - lag) 0) e) ⌝ }
+    ensures { λ r. ⌜ r ≡ both (leb lag j) (inStep (now (occurred .entry)) e (j + 1 - lag)) ⌝ }
 {
     let t = lag as usize;
     if j < t {
@@ -151,7 +149,7 @@ fn constant_in(s: &[u8], at: usize) -> Evaluated
 }
 
 fn fluent_in(s: &[u8], at: usize, levels: &[i16], j: usize) -> Evaluated
-    ensures { λ r. ⌜ evaluated r ≡ meant (λ v. v) at (twoBytes (λ f t. value (getD (now (levels .entry)) (mostFluents * (j - t) + f) (pos 0))) (drop (at + 1) (now (s .entry)))) ⌝ }
+    ensures { λ r. ⌜ evaluated r ≡ meant (λ v. v) at (twoBytes (λ f t. value (levelAt (now (levels .entry)) (j - t) f)) (drop (at + 1) (now (s .entry)))) ⌝ }
 {
     match pair_after(s, at) {
         Pair::Bytes(f, lag) => {
@@ -162,7 +160,7 @@ fn fluent_in(s: &[u8], at: usize, levels: &[i16], j: usize) -> Evaluated
 }
 
 fn occurrence_in(s: &[u8], at: usize, occurred: &[u64], j: usize) -> Judged
-    ensures { λ r. ⌜ judged r ≡ meant (λ v. v) at (twoBytes (λ e t. value (both (leb t j) (bit (getD (now (occurred .entry)) (j + 1 - t) 0) e))) (drop (at + 1) (now (s .entry)))) ⌝ }
+    ensures { λ r. ⌜ judged r ≡ meant (λ v. v) at (twoBytes (λ e t. value (both (leb t j) (inStep (now (occurred .entry)) e (j + 1 - t)))) (drop (at + 1) (now (s .entry)))) ⌝ }
 {
     match pair_after(s, at) {
         Pair::Bytes(e, lag) => Judged::Gives(Truth::Is(occurs(occurred, j, e, lag)), at + 3),
@@ -213,7 +211,14 @@ fn joined_of(code: u8, a: Truth, second: Judged) -> Judged
 }
 
 // An expression with so much depth left.
-fn value_in(s: &[u8], at: usize, depth: usize, levels: &[i16], occurred: &[u64], j: usize) -> Evaluated
+fn value_in(
+    s: &[u8],
+    at: usize,
+    depth: usize,
+    levels: &[i16],
+    occurred: &[u64],
+    j: usize,
+) -> Evaluated
     ensures { λ r. ⌜ evaluated r ≡ valueAt depth (now (s .entry)) at (now (levels .entry)) (now (occurred .entry)) j ⌝ }
 {
     if depth == 0 {
@@ -233,7 +238,8 @@ fn value_in(s: &[u8], at: usize, depth: usize, levels: &[i16], occurred: &[u64],
         Operand::EntryLag => Evaluated::Malformed,
         Operand::Constraint => reified_of(truth_in(s, at + 1, depth - 1, levels, occurred, j)),
         Operand::Expression => {
-            let Evaluated::Gives(a, next) = value_in(s, at + 1, depth - 1, levels, occurred, j) else {
+            let Evaluated::Gives(a, next) = value_in(s, at + 1, depth - 1, levels, occurred, j)
+            else {
                 return Evaluated::Malformed;
             };
             if shape.operands == 1 {
@@ -274,7 +280,8 @@ fn truth_in(s: &[u8], at: usize, depth: usize, levels: &[i16], occurred: &[u64],
             joined_of(code, a, truth_in(s, next, depth - 1, levels, occurred, j))
         }
         Operand::Expression => {
-            let Evaluated::Gives(a, next) = value_in(s, at + 1, depth - 1, levels, occurred, j) else {
+            let Evaluated::Gives(a, next) = value_in(s, at + 1, depth - 1, levels, occurred, j)
+            else {
                 return Judged::Malformed;
             };
             compared_of(code, a, value_in(s, next, depth - 1, levels, occurred, j))

@@ -1,0 +1,215 @@
+-- What a tree gives, by what its operands give.
+use mathlib.Core.Path.{_≡_, refl, sym, ap, _∙_}
+use mathlib.Core.Bool.{Bool, true, false, not}
+use mathlib.Core.List.{List, [], _∷_}
+use mathlib.Core.Option.{Option, none, some}
+use Prim.Native.Nat.{ℕ, _+_, _-_, _*_, _≤_, _<_}
+use native.Mathlib.Nat.{add-assoc}
+use native.Mathlib.Omega.{arith}
+use native.Mathlib.Decide.{ℕ-discrete}
+use types.Run.{OneOf}
+use denote.Enum.Declared.{tagOf}
+use mir.Syntax.{w16, w32}
+use mir.Val.{SFits, toZ, ofZ}
+use mir.Facts.{sfits-widen, toZ-ofZ}
+use borrow.Author.Tests.{le-leb, lt-leb}
+use lib.Dec.{leb}
+use lib.IntN.{ℤ, pos}
+use lib.Signed.{mag}
+use lib.ListN.{length, drop, getD, List·getD-eq-default}
+use lib.Seq.{drop-drop}
+use Rattle.bmap.specs.Plain.{both}
+use Rattle.bmap.specs.Limits.{mostFluents}
+use Rattle.bmap.specs.Number.{Valued, value, with1, with2, operate, change, compare, join, flag, signedWord}
+use Rattle.bmap.specs.Tree.{Expr, Con, constant, fluent, two, one, reified, compared, joined, negated, occurs}
+use Rattle.bmap.specs.Meaning.{evalE, evalC}
+use Rattle.bmap.specs.Code.{Code, Parsed, Parser, codeOf, made, second, operand, operands, twoBytes, parseE, parseC}
+use Rattle.law.specs.declared.table.Operand.the-variants as each
+use Rattle.law.specs.declared.table.Shape.{Shape}
+use Rattle.law.specs.declared.table.Node.the-variants.{Expression, Constraint}
+use Rattle.law.specs.declared.table.Pair.the-variants.{Bytes, Short}
+use Rattle.law.specs.Shape.{opened, pairOf, operationOf, singleOf, comparisonOf, junctionOf}
+use Rattle.law.specs.Mask.{bit}
+use Rattle.law.specs.Evaluate.{Meant, malformed, gives, meant, onward, historyOf, valueAt, truthAt}
+use Rattle.law.proofs.table.Operand as operand-type
+use Rattle.law.proofs.Trees.{at-constant, at-fluent, at-reified, at-one, at-two, at-truth, at-occurrence, at-negation, at-junction, at-comparison, no-entry, no-other, no-pair, a-pair}
+use Rattle.law.proofs.Bits.{no-bit}
+
+-- The history: what was never written, and the step that code 29 looks at.
+pub no-level : (l : List ℤ) (k f : ℕ) → length l ≤ mostFluents * k + f → pos 0 ≡ getD l (mostFluents * k + f) (pos 0)
+no-level l k f h = sym (List·getD-eq-default l (pos 0) h)
+
+pub no-step : (o : List ℕ) (k e : ℕ) → length o ≤ k → false ≡ bit (getD o k 0) e
+no-step o k e h = rw (List·getD-eq-default o 0 h) (no-bit 0 0 e (omega arith) (omega arith))
+
+module _ (o : List ℕ) (j e t : ℕ) where
+  pub before-steps : j < t → false ≡ both (leb t j) (bit (getD o (j + 1 - t) 0) e)
+  before-steps h = rw (lt-leb t j h)
+
+  pub past-steps : t ≤ j → length o ≤ j - t → false ≡ both (leb t j) (bit (getD o (j + 1 - t) 0) e)
+  past-steps h out = rw (le-leb t j h) (no-step o (j + 1 - t) e (omega arith))
+
+  pub at-step : t ≤ j → bit (getD o (j - t + 1) 0) e ≡ both (leb t j) (bit (getD o (j + 1 - t) 0) e)
+  at-step h = let k : j + 1 - t ≡ j - t + 1 = omega arith in rw (le-leb t j h, k)
+
+-- sixteen bits read back as they are, and fit thirty-two
+pub read-back : (z : ℤ) → mag z < 32_768 → toZ w16 (ofZ w16 z) ≡ z
+read-back z h = toZ-ofZ {w = w16} {z = z} (record { sfits = h })
+
+module _ {z : ℤ} (f : SFits w16 z) where
+  pub widens : SFits w32 (toZ w16 (ofZ w16 z))
+  widens = rw (toZ-ofZ f) (sfits-widen tt f)
+
+  pub widened : value (toZ w32 (ofZ w32 (toZ w16 (ofZ w16 z)))) ≡ value z
+  widened = rw (toZ-ofZ f, toZ-ofZ (sfits-widen {w = w16} {w′ = w32} tt f))
+
+-- The leaves.
+module _ {A : Type 0} (make : ℕ → ℕ → A) (s : List ℕ) (at : ℕ) where
+  pub leaf-none : Short ≡ pairOf (drop (at + 1) s) → malformed ≡ meant (λ v. v) at (twoBytes make (drop (at + 1) s))
+  leaf-none e = rw (no-pair make (drop (at + 1) s) e)
+
+  pub leaf-gives : {a b : ℕ} {v : A} → Bytes a b ≡ pairOf (drop (at + 1) s) → v ≡ make a b → gives v (at + 3) ≡ meant (λ v. v) at (twoBytes make (drop (at + 1) s))
+  leaf-gives e q = rw (a-pair make (drop (at + 1) s) e, q)
+
+leaf-meant : {T A : Type 0} (f : T → A) (make : ℕ → ℕ → T) (at : ℕ) (l : List ℕ) → meant (λ v. v) at (twoBytes (λ a b. f (make a b)) l) ≡ meant f at (twoBytes make l)
+leaf-meant f make at [] = refl
+leaf-meant f make at (a ∷ []) = refl
+leaf-meant f make at (a ∷ b ∷ l) = refl
+
+-- no tree gives nothing
+pub nothing-there : {T A : Type 0} (f : T → A) (at : ℕ) {o : Option (Parsed T)} → o ≡ none → malformed ≡ meant f at o
+nothing-there f at e = rw e
+
+-- One operand, and two.
+module _ {A B : Type 0} (op : A → B) {x : Meant A} where
+  pub onward-none : malformed ≡ x → malformed ≡ onward op x
+  onward-none e = ap (onward op) e
+
+  pub onward-gives : {v : A} {w : B} {n : ℕ} → gives v n ≡ x → w ≡ op v → gives w n ≡ onward op x
+  onward-gives {n = n} e q = ap (λ (y : B). gives y n) q ∙ ap (onward op) e
+
+module _ {S T A B : Type 0} (fs : S → A) (ft : T → B) where
+  made-meant : (make : S → T) (op : A → B) → ((a : S) → ft (make a) ≡ op (fs a)) → (at k : ℕ) (o : Option (Parsed S)) → onward op (meant fs (at + k) o) ≡ meant ft at (made make k o)
+  made-meant make op h at k none = refl
+  made-meant make op h at k (some p) = rw (h (p .tree), add-assoc at k (p .used))
+
+  module _ (ps : Parser S) (s : List ℕ) (at : ℕ) where
+    one-meant : (make : S → T) (op : A → B) → ((a : S) → ft (make a) ≡ op (fs a)) → onward op (meant fs (at + 1) (ps (drop (at + 1) s))) ≡ meant ft at (operand make ps (drop (at + 1) s))
+    one-meant make op h = made-meant make op h at 1 (ps (drop (at + 1) s))
+
+    module _ (make : S → S → T) (op : A → A → B) (h : (a b : S) → ft (make a b) ≡ op (fs a) (fs b)) where
+      abbrev after : Meant A → Meant B
+      after malformed = malformed
+      after (gives v m) = onward (op v) (meant fs m (ps (drop m s)))
+
+      two-meant : (o : Option (Parsed S)) → after (meant fs (at + 1) o) ≡ meant ft at (second make ps (drop (at + 1) s) o)
+      two-meant none = refl
+      two-meant (some p) =
+          rw (drop-drop (p .used) (at + 1) s, add-assoc at 1 (p .used))
+          (made-meant (make (p .tree)) (op (fs (p .tree))) (h (p .tree)) at (1 + p .used) (ps (drop (at + (1 + p .used)) s)))
+
+      first-none : malformed ≡ meant fs (at + 1) (ps (drop (at + 1) s)) → malformed ≡ meant ft at (operands make ps (drop (at + 1) s))
+      first-none e = ap after e ∙ two-meant (ps (drop (at + 1) s))
+
+      then-second : {v : A} {m : ℕ} → gives v m ≡ meant fs (at + 1) (ps (drop (at + 1) s)) → onward (op v) (meant fs m (ps (drop m s))) ≡ meant ft at (operands make ps (drop (at + 1) s))
+      then-second e = ap after e ∙ two-meant (ps (drop (at + 1) s))
+
+-- The tree at a place, by its code.
+module _ (s : List ℕ) (at d : ℕ) (l : List ℤ) (o : List ℕ) (j : ℕ) (ne : d ≡ 0 → ⊥) (lt : at < length s) where
+  abbrev code : Code
+  code = codeOf (getD s at 0)
+
+  abbrev fe : Expr → Valued ℤ
+  fe t = evalE t (historyOf l o) j
+
+  abbrev fc : Con → Valued Bool
+  fc t = evalC t (historyOf l o) j
+
+  abbrev pe : Parser Expr
+  pe = parseE (d - 1)
+
+  abbrev pc : Parser Con
+  pc = parseC (d - 1)
+
+  abbrev whole-e : Meant (Valued ℤ)
+  whole-e = valueAt d s at l o j
+
+  abbrev part-e : ℕ → Meant (Valued ℤ)
+  part-e m = valueAt (d - 1) s m l o j
+
+  abbrev whole-c : Meant (Valued Bool)
+  whole-c = truthAt d s at l o j
+
+  abbrev part-c : ℕ → Meant (Valued Bool)
+  part-c m = truthAt (d - 1) s m l o j
+
+  module _ {sh : Shape} (p : Expression sh ≡ opened code) where
+    pub eval-constant : sh .each ≡ each.Value → meant (λ v. v) at (twoBytes (λ hi lo. value (signedWord hi lo)) (drop (at + 1) s)) ≡ whole-e
+    unfolding evalE
+    eval-constant q = rw (at-constant s at d ne lt p q) (leaf-meant fe (λ hi lo. constant (signedWord hi lo)) at (drop (at + 1) s))
+
+    pub eval-fluent : sh .each ≡ each.FluentLag → meant (λ v. v) at (twoBytes (λ f t. value (getD l (mostFluents * (j - t) + f) (pos 0))) (drop (at + 1) s)) ≡ whole-e
+    unfolding evalE
+    eval-fluent q = rw (at-fluent s at d ne lt p q) (leaf-meant fe fluent at (drop (at + 1) s))
+
+    pub eval-entry : sh .each ≡ each.EntryLag → malformed ≡ whole-e
+    eval-entry q = absurd (no-entry code p q)
+
+    pub eval-reified : sh .each ≡ each.Constraint → onward (with1 (λ b. value (flag b))) (part-c (at + 1)) ≡ whole-e
+    unfolding evalE
+    eval-reified q = rw (at-reified s at d ne lt p q) (one-meant fc fe pc s at reified (with1 (λ b. value (flag b))) (λ a. refl))
+
+    module _ (q : sh .each ≡ each.Expression) where
+      pub eval-one : sh .operands ≡ 1 → onward (with1 (change (singleOf code))) (part-e (at + 1)) ≡ whole-e
+      unfolding evalE
+      eval-one r = rw (at-one s at d ne lt p q r) (one-meant fe fe pe s at (one (singleOf code)) (with1 (change (singleOf code))) (λ a. refl))
+
+      pub eval-two : {v : Valued ℤ} {m : ℕ} → (sh .operands ≡ 1 → ⊥) → gives v m ≡ part-e (at + 1) → onward (with2 (operate (operationOf code)) v) (part-e m) ≡ whole-e
+      unfolding evalE
+      eval-two r e = rw (at-two s at d ne lt p q r) (then-second fe fe pe s at (two (operationOf code)) (with2 (operate (operationOf code))) (λ a b. refl) e)
+
+      pub eval-first : malformed ≡ part-e (at + 1) → malformed ≡ whole-e
+      unfolding evalE
+      eval-first e =
+          elim (ℕ-discrete (sh .operands) 1) [
+            | yes r ↦ onward-none (with1 (change (singleOf code))) e ∙ eval-one r
+            | no r ↦ rw (at-two s at d ne lt p q r) (first-none fe fe pe s at (two (operationOf code)) (with2 (operate (operationOf code))) (λ a b. refl) e)
+          ]
+
+  module _ {sh : Shape} (p : Constraint sh ≡ opened code) where
+    pub eval-truth : sh .operands ≡ 0 → gives (value true) (at + 1) ≡ whole-c
+    unfolding evalC
+    eval-truth q = rw (at-truth s at d ne lt p q)
+
+    pub eval-occurrence : sh .each ≡ each.EntryLag → meant (λ v. v) at (twoBytes (λ e t. value (both (leb t j) (bit (getD o (j + 1 - t) 0) e))) (drop (at + 1) s)) ≡ whole-c
+    unfolding evalC
+    eval-occurrence q = rw (at-occurrence s at d ne lt p q) (leaf-meant fc occurs at (drop (at + 1) s))
+
+    pub eval-other : OneOf (2 ∷ 3 ∷ []) (tagOf operand-type.the-type (sh .each)) → malformed ≡ whole-c
+    eval-other q = absurd (no-other code p q)
+
+    module _ (q : sh .each ≡ each.Constraint) where
+      pub eval-negation : sh .operands ≡ 1 → onward (with1 (λ x. value (not x))) (part-c (at + 1)) ≡ whole-c
+      unfolding evalC
+      eval-negation r = rw (at-negation s at d ne lt p q r) (one-meant fc fc pc s at negated (with1 (λ x. value (not x))) (λ a. refl))
+
+      pub eval-junction : {v : Valued Bool} {m : ℕ} → (sh .operands ≡ 1 → ⊥) → gives v m ≡ part-c (at + 1) → onward (with2 (λ x y. value (join (junctionOf code) x y)) v) (part-c m) ≡ whole-c
+      unfolding evalC
+      eval-junction r e = rw (at-junction s at d ne lt p q r) (then-second fc fc pc s at (joined (junctionOf code)) (with2 (λ x y. value (join (junctionOf code) x y))) (λ a b. refl) e)
+
+      pub eval-first-c : malformed ≡ part-c (at + 1) → malformed ≡ whole-c
+      unfolding evalC
+      eval-first-c e =
+          elim (ℕ-discrete (sh .operands) 1) [
+            | yes r ↦ onward-none (with1 (λ x. value (not x))) e ∙ eval-negation r
+            | no r ↦ rw (at-junction s at d ne lt p q r) (first-none fc fc pc s at (joined (junctionOf code)) (with2 (λ x y. value (join (junctionOf code) x y))) (λ a b. refl) e)
+          ]
+
+    module _ (q : sh .each ≡ each.Expression) (r : sh .operands ≡ 0 → ⊥) where
+      pub eval-compared : {v : Valued ℤ} {m : ℕ} → gives v m ≡ part-e (at + 1) → onward (with2 (λ x y. value (compare (comparisonOf code) x y)) v) (part-e m) ≡ whole-c
+      unfolding evalC
+      eval-compared e = rw (at-comparison s at d ne lt p q r) (then-second fe fc pe s at (compared (comparisonOf code)) (with2 (λ x y. value (compare (comparisonOf code) x y))) (λ a b. refl) e)
+
+      pub eval-first-e : malformed ≡ part-e (at + 1) → malformed ≡ whole-c
+      unfolding evalC
+      eval-first-e e = rw (at-comparison s at d ne lt p q r) (first-none fe fc pe s at (compared (comparisonOf code)) (with2 (λ x y. value (compare (comparisonOf code) x y))) (λ a b. refl) e)

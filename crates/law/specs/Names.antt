@@ -1,0 +1,13 @@
+-- The fluents that a law names.
+use Prim.Native.Nat.{ℕ}
+use mathlib.Core.Bool.{Bool, false}
+use mathlib.Core.Option.{Option, none, some}
+use Rattle.bmap.specs.Plain.{all}
+use Rattle.bmap.specs.Tree.{Con, namedC}
+use Rattle.bmap.specs.Code.{Parsed}
+use Rattle.law.specs.Mask.{bit}
+
+-- whether a constraint stands there, and every fluent that it names is in the mask
+abbrev pub namesOnly : ℕ → Option (Parsed Con) → Bool
+namesOnly mask none = false
+namesOnly mask (some p) = all (bit mask) (namedC (p .tree))

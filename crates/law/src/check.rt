@@ -59,7 +59,7 @@ fn entry_passes(test: Test, e: u8, lag: u8) -> bool
             if x.occurrences {
                 below(e, x.entries, lag)
             } else {
-                false
+                false // in A7 and A9
             }
         }
         Test::Known(_) => true,

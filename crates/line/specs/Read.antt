@@ -42,16 +42,11 @@ lineRead text out = if-else (leb frameSize (length out)) (firstOf (linesOf text)
 
 -- ---- the bytes
 
--- a digit's value, 256 where the character is none
-abbrev pub worth : Answer ℕ → ℕ
-worth (got d) = d
-worth (refused n) = 256
+-- the byte that two digits spell
+abbrev pub pair : ℕ → ℕ → Answer ℕ
+pair a b = then (digit a) (λ hi. then (digit b) (λ lo. got (hi * 16 + lo)))
 
--- the byte that two digits spell, above 255 where one is none
-unfoldable pub pairOf : ℕ → ℕ → ℕ
-pairOf a b = worth (digit a) * 16 + worth (digit b)
-
--- the bytes that the pairs of digits at the front spell, up to the first character that is no digit; at most so many
+-- the bytes that the pairs of digits at the front spell, up to the first pair that is none; at most so many
 abbrev pub andThen : Answer ℕ → List ℕ → List ℕ
 andThen (got b) l = b ∷ l
 andThen (refused n) l = []
@@ -60,13 +55,22 @@ unfoldable pub spelt : ℕ → List ℕ → List ℕ
 spelt zero s = []
 spelt (suc most) [] = []
 spelt (suc most) (a ∷ []) = []
-spelt (suc most) (a ∷ b ∷ s) = andThen (then (digit a) (λ hi. then (digit b) (λ lo. got (hi * 16 + lo)))) (spelt most s)
+spelt (suc most) (a ∷ b ∷ s) = andThen (pair a b) (spelt most s)
 
 -- they stand at the front; after 10 every byte is kept
 unfoldable pub bytesRead : List ℕ → List ℕ → List ℕ
 bytesRead text out = if-else (leb frameSize (length out)) (over (spelt frameSize text) out) out
 
 -- ---- within the reader
+
+-- a digit's value, 256 where the character is none
+abbrev pub worth : Answer ℕ → ℕ
+worth (got d) = d
+worth (refused n) = 256
+
+-- the byte that two digits spell, above 255 where one is none
+unfoldable pub pairOf : ℕ → ℕ → ℕ
+pairOf a b = worth (digit a) * 16 + worth (digit b)
 
 -- the text begins with n pairs of digits, as many as stand there or as a frame has bytes at most; the second byte is a count
 pub record Begins (text : List ℕ) (n count : ℕ) : Type 0 where

@@ -4,7 +4,7 @@ use bmap::Refusal;
 use crate::digit::pair;
 ghost use mathlib.Core.Path.{_≡_};
 ghost use mathlib.Core.List.{_++_};
-ghost use Prim.Native.Nat.{_≤_, _*_};
+ghost use Prim.Native.Nat.{min, _≤_, _*_};
 ghost use lib.ListN.{length, getD, drop};
 ghost use lib.Dec.{eqb};
 ghost use Rattle.bmap.specs.Buffer.{over};
@@ -104,11 +104,7 @@ fn pairs(text: &[u8]) -> usize
 fn spell(text: &[u8], out: &mut [u8]) -> usize
     ensures { λ r. ⌜ (r ≡ length (spelt (length (now (out .entry))) (now (text .entry)))) × (now (out .exit) ≡ over (spelt (length (now (out .entry))) (now (text .entry))) (now (out .entry))) ⌝ }
 {
-    let pairs = text.len() / 2;
-    let mut most = out.len();
-    if pairs < most {
-        most = pairs;
-    }
+    let most = least(out.len(), text.len() / 2);
     let mut n: usize = 0;
     while n < most {
         let byte = pair(text[2 * n], text[2 * n + 1]);
@@ -119,4 +115,13 @@ fn spell(text: &[u8], out: &mut [u8]) -> usize
         n += 1;
     }
     n
+}
+
+fn least(a: usize, b: usize) -> usize
+    ensures { λ r. ⌜ r ≡ min a b ⌝ }
+{
+    if a < b {
+        return a;
+    }
+    b
 }

@@ -1,7 +1,8 @@
 // A frame to its line.
 use bmap::PAYLOAD;
 use bmap::Refusal;
-use crate::digit::digit_for;
+use crate::digit::high_digit;
+use crate::digit::low_digit;
 ghost use mathlib.Core.Path.{_≡_};
 ghost use Prim.Native.Nat.{_≤_, _*_};
 ghost use lib.ListN.{length};
@@ -44,8 +45,8 @@ fn put_bytes(bytes: &[u8], out: &mut [u8])
     while i < bytes.len() {
         let b = bytes[i];
         let at = 2 * i;
-        out[at] = digit_for(b / 16);
-        out[at + 1] = digit_for(b % 16);
+        out[at] = high_digit(b);
+        out[at + 1] = low_digit(b);
         i += 1;
     }
 }

@@ -1,6 +1,6 @@
 -- The steps of a sheet, one by one, to its lines.
 use Prim.Native.Nat.{ℕ, zero, suc, _+_, _-_, _*_, _/_, _%_, _≤_, _<_}
-use native.Mathlib.Nat.{div-add-mod', not-suc-le-zero, zero-mul, suc-mul, add-comm}
+use native.Mathlib.Nat.{div-add-mod', not-suc-le-zero, zero-mul, suc-mul, add-comm, mul-le-mul}
 use native.Mathlib.Numerals.{add-one}
 use native.Mathlib.Omega.{arith}
 use mathlib.Core.Path.{_≡_, refl, sym, ap, _∙_}
@@ -110,6 +110,9 @@ module _ (agents steps : ℕ) (sheet text₀ : List ℕ) where
         }
 
 -- ---- the whole
+
+pub total-most : (steps agents : ℕ) → steps ≤ mostSteps → agents ≤ mostAgents → steps * lineSize agents ≤ mostSteps * lineSize mostAgents
+total-most steps agents h k = let l : lineSize agents ≤ lineSize mostAgents = omega arith in mul-le-mul h l
 
 module _ (sheet text : List ℕ) (agents : ℕ) where
   pub write-agents : agentsAllowed agents ≡ false → (refused 4 ≡ writeSheet sheet agents text .answer) × (text ≡ writeSheet sheet agents text .buffer)

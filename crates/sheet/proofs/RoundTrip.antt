@@ -97,7 +97,7 @@ there agents (l ∷ ls) text done steps el e =
       later = names ∷ t .later;
       all = t .all ∙ append-assoc done (names ∷ []) (t .later);
       rows = more size (t .rows);
-      text-is = et ∙ rw (fr, t .text-is) refl;
+      text-is = et ∙ ap (λ (x : Frame). lineFor x ++ r) fr ∙ ap (λ (x : List ℕ). stepLine names ++ x) (t .text-is);
       few = λ h. t .few (rw (length-append done (names ∷ [])) (omega arith));
     }
 
@@ -149,7 +149,41 @@ read-then-write agents n text buffer out e h =
 
 -- ---- the sheet that was written
 
--- each step's names are bytes
-pub data Named : List Names → Type 0 where
-  none : Named []
-  more : {names : Names} {steps : List Names} → Bytes names → Named steps → Named (names ∷ steps)
+-- the lines of a sheet's steps are read as those steps
+back : (agents n : ℕ) (s : List ℕ) (done : List Names) → agents ≤ mostAgents → length s ≡ n * agents → Bytes s → length done + n ≤ mostSteps
+    → stepsFrom agents done (map decode (linesOf (linesIn agents n s))) ≡ read (done ++ rows agents n s)
+unfolding linesIn rows flat stepsFrom stepOf
+back agents zero s done k e h m = unfold linesOf in ap read (sym (append-nil done))
+back agents (suc n) s done k e h m =
+    let names = take agents s in
+    let rest = drop agents s in
+    let w : suc n * agents ≡ agents + n * agents = product-suc n agents in
+    let l : length names ≡ agents = length-take-le agents s (omega arith) in
+    let lr : length rest ≡ n * agents = length-drop agents s ∙ omega arith in
+    let d = decode-line (record { kind = 0xB1; payload = names }) (omega arith) (bytes-take agents s h) (omega arith) in
+    rw (lines-line (record { kind = 0xB1; payload = names }) (linesIn agents n rest), d)
+    (simp (lt-ltb (length done) mostSteps (omega arith), eq-eqb (length names) agents l)
+    (back agents n rest (done ++ (names ∷ [])) k lr (bytes-drop agents s h) (rw (length-append done (names ∷ [])) (omega arith))
+    ∙ ap read (append-assoc done (names ∷ []) (rows agents n rest))))
+
+-- THEOREM. A sheet of whole steps, at most 64 of them, of 1 to 16 agents, is written into any text that has room; what was written is
+-- read, into any buffer that is long enough, as that many steps and the same bytes, zeros after.
+pub write-then-read : (agents n : ℕ) (sheet out buffer : List ℕ) → agentsAllowed agents ≡ true → length sheet ≡ n * agents → n ≤ mostSteps → Bytes sheet
+    → n * lineSize agents ≤ length out → sheetSize ≤ length buffer
+    → (writeSheet sheet agents out .answer ≡ got (n * lineSize agents))
+    × (readSheet agents (take (n * lineSize agents) (writeSheet sheet agents out .buffer)) buffer ≡ record { answer = read n; buffer = padded (length buffer) sheet })
+unfolding readSheet stepsIn
+write-then-read agents n sheet out buffer a e h bytes room size =
+    let some-agents = known-agents agents a in
+    let d : length sheet / agents ≡ n = ap (λ (x : ℕ). x / agents) e ∙ mul-div-cancel n (some-agents .0) in
+    let m : length sheet % agents ≡ 0 = ap (λ (x : ℕ). x % agents) e ∙ mul-mod-left n agents in
+    let text = linesIn agents n sheet in
+    let l : length text ≡ n * lineSize agents = length-lines agents n sheet e in
+    let w : writeSheet sheet agents out ≡ record { answer = got (length text); buffer = over text out }
+    = written-is sheet out agents a m (rw d h) ∙ rw d (simp (le-leb (length text) (length out) (omega arith))) in
+    let t : take (n * lineSize agents) (writeSheet sheet agents out .buffer) ≡ text
+    = ap (λ (x : Written). take (n * lineSize agents) (x .buffer)) w ∙ take-at text (drop (length text) out) (n * lineSize agents) l in
+    let o : outcome agents text ≡ read (rows agents n sheet) = back agents n sheet [] (some-agents .1) e bytes (omega arith) in (
+      ap (λ (x : Written). x .answer) w ∙ ap got l,
+      rw t (simp (le-leb sheetSize (length buffer) size, a, o, length-rows agents n sheet, flat-rows agents n sheet e)),
+    )

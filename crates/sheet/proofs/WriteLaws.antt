@@ -24,7 +24,7 @@ use Rattle.sheet.specs.Step.{agentsAllowed, lineSize, linesIn}
 
 -- ---- the lines
 
-product-suc : (n w : ℕ) → suc n * w ≡ w + n * w
+pub product-suc : (n w : ℕ) → suc n * w ≡ w + n * w
 product-suc n w = suc-mul n w ∙ add-comm (n * w) w
 
 pub product-less : (n w : ℕ) → 0 < n → n * w ≡ w + (n - 1) * w
@@ -132,7 +132,7 @@ module _ (sheet text : List ℕ) (agents : ℕ) where
   pub whole-steps : length sheet % agents ≡ 0 → length sheet ≡ length sheet / agents * agents
   whole-steps h = omega (arith, div-add-mod' (length sheet) agents)
 
-  written-is : agentsAllowed agents ≡ true → length sheet % agents ≡ 0 → length sheet / agents ≤ mostSteps
+  pub written-is : agentsAllowed agents ≡ true → length sheet % agents ≡ 0 → length sheet / agents ≤ mostSteps
       → writeSheet sheet agents text ≡ written text (got (linesIn agents (length sheet / agents) sheet))
   unfolding writeSheet sheetOf linesIn
   written-is e h k = simp (e, eq-eqb (length sheet % agents) 0 h, le-leb (length sheet / agents) mostSteps k)

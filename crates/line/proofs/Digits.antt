@@ -1,18 +1,17 @@
 -- Digits, pairs of them, and the bytes that the pairs at the front of a text spell.
 use Prim.Native.Nat.{ℕ, min, zero, suc, _+_, _-_, _*_, _/_, _%_, _≤_, _<_, zero-le, suc-le-suc}
-use native.Mathlib.Nat.{le-of-suc-le-suc, not-suc-le-zero}
 use native.Mathlib.Numerals.{add-one}
 use native.Mathlib.Omega.{arith}
-use mathlib.Core.Path.{_≡_, refl, sym, ap, _∙_}
+use mathlib.Core.Path.{_≡_, refl, sym, ap}
 use mathlib.Core.Logic.{_⊎_, inl, inr}
 use mathlib.Core.Bool.{Bool, true, false}
 use mathlib.Core.List.{List, [], _∷_, _++_, append-nil, append-assoc}
 use lib.Dec.{T, eqb, leb, ltb, eqb→eq}
-use lib.ListN.{length, getD, take, drop, set, replicate, drop-of-length-le, length-drop, length-append, length-set, take-append-drop}
+use lib.ListN.{length, getD, take, drop, set, replicate, length-drop, take-append-drop}
 use lib.Seq.{drop-cons, length-take-le, take-suc-set, drop-set-lt, drop-drop}
 use borrow.Author.Tests.{ne-eqb, leb-true, ltb-true, ltb-false, le-leb, lt-leb, lt-ltb, le-ltb}
 use Rattle.bmap.specs.Plain.{both, either, if-else, any}
-use Rattle.bmap.specs.Refusal.{Answer, got, refused, then}
+use Rattle.bmap.specs.Refusal.{Answer, got, refused}
 use Rattle.bmap.specs.Line.{digit, digitFor}
 use Rattle.bmap.specs.Buffer.{over}
 use Rattle.line.specs.Read.{worth, pair, pairOf, andThen, spelt}

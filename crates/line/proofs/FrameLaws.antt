@@ -1,17 +1,15 @@
 -- The frame at a place of a store, by the tests of the code.
 use Prim.Native.Nat.{ℕ, suc, _+_, _≤_, _<_}
 use native.Mathlib.Omega.{arith}
-use mathlib.Core.Path.{_≡_, refl, sym, ap, _∙_}
+use mathlib.Core.Path.{_≡_, refl}
 use mathlib.Core.Bool.{Bool, true, false}
-use mathlib.Core.Option.{Option, none, some}
+use mathlib.Core.Option.{none, some}
 use mathlib.Core.List.{List}
-use lib.Dec.{eqb, leb}
 use lib.ListN.{length, getD, take, drop, length-drop}
 use lib.Seq.{length-take-le}
 use borrow.Author.Tests.{le-leb, lt-leb, eq-eqb, ne-eqb}
 use Rattle.bmap.specs.Limits.{mostPayload}
 use Rattle.bmap.specs.Plain.{both}
-use Rattle.bmap.specs.Line.{Frame, stored}
 use Rattle.bmap.specs.Store.{standsAt, frameAt}
 use Rattle.line.specs.Frame.{frameSizeAt}
 

@@ -1,12 +1,16 @@
--- A table's rule by one computed test.
+-- A table's rule by one computed test; lists; answers taken apart.
 pub mod Table
--- Lists.
 pub mod Lists
--- Digits and the bytes that pairs of them spell.
+pub mod Answers
+-- Digits, a text's lines, the bytes that pairs of digits spell, and a frame's line there and back.
 pub mod Digits
--- The first line of a text.
+pub mod Lines
+pub mod Spelling
+pub mod HexLaws
+-- What the functions' proofs cite, and callers of `read_line` and `put_line`.
+pub mod FirstLaws
 pub mod LineLaws
--- A frame's line.
 pub mod WriteLaws
--- The frame at a place of a store.
 pub mod FrameLaws
+-- One answer for each promise.
+pub mod Theorems

@@ -1,13 +1,17 @@
 -- Laws of lists: zeros after a front, a part to the end, what is written over a front.
-use Prim.Native.Nat.{ℕ, min, zero, suc, _+_, _-_, _*_, _≤_, _<_, zero-le, suc-le-suc}
-use native.Mathlib.Nat.{le-of-suc-le-suc, not-suc-le-zero}
+use Prim.Native.Nat.{ℕ, min, zero, suc, _+_, _-_, _≤_, _<_}
 use native.Mathlib.Numerals.{add-one}
 use native.Mathlib.Omega.{arith}
 use mathlib.Core.Path.{_≡_, refl, sym, ap, _∙_}
+use mathlib.Core.Bool.{Bool, true, false}
 use mathlib.Core.List.{List, [], _∷_, _++_, append-nil, append-assoc}
+use lib.Dec.{T, ltb}
 use lib.ListN.{length, getD, take, drop, set, replicate, drop-of-length-le, length-drop, length-append, length-take, length-replicate, take-append-drop, replicate-append-replicate}
-use lib.Seq.{drop-cons, take-all, length-take-le, set-at, take-at, drop-at, take-suc-set, drop-set-lt, getD-drop}
-use Rattle.bmap.specs.Buffer.{padded, over}
+use lib.Seq.{drop-cons, take-all, length-take-le, set-at, getD-drop}
+use borrow.Author.Tests.{ltb-true}
+use Rattle.bmap.specs.Plain.{both, all}
+use Rattle.bmap.specs.Buffer.{padded}
+use Rattle.bmap.specs.Theorems.{AreBytes}
 
 -- a part to the end
 pub part-to-end : (l : List ℕ) (a : ℕ) → take (length l - a) (drop a l) ≡ drop a l
@@ -24,6 +28,16 @@ length-back buf p a h e =
 -- each element is a byte
 abbrev pub Bytes : List ℕ → Type 0
 Bytes s = (i : ℕ) → getD s i 0 < 256
+
+pub bytes-are : (s : List ℕ) → AreBytes s → Bytes s
+unfolding all
+bytes-are [] h i = omega arith
+bytes-are (x ∷ s) h i = go (ltb x 256) refl h i (bytes-are s)
+  where
+    go : (b : Bool) → ltb x 256 ≡ b → T (both b (all (λ y. ltb y 256) s)) → (i : ℕ) → (AreBytes s → Bytes s) → getD (x ∷ s) i 0 < 256
+    go true e t zero r = ltb-true x 256 e
+    go true e t (suc i) r = r t i
+    go false e t i r = absurd t
 
 pub bytes-take : (n : ℕ) (s : List ℕ) → Bytes s → Bytes (take n s)
 bytes-take zero s h i = omega arith

@@ -4,20 +4,18 @@ use native.Mathlib.Nat.{le-of-suc-le-suc, not-suc-le-zero}
 use native.Mathlib.Numerals.{add-one}
 use native.Mathlib.Omega.{arith}
 use mathlib.Core.Path.{_≡_, refl, sym, ap, _∙_}
-use mathlib.Core.Bool.{Bool, true, false}
 use mathlib.Core.List.{List, [], _∷_, _++_, append-nil, append-assoc}
-use lib.Dec.{leb}
 use lib.ListN.{length, getD, take, drop, set, drop-of-length-le, length-drop, length-append}
 use lib.Seq.{drop-cons, take-length, set-at, take-at, drop-at, drop-drop}
 use borrow.Author.Tests.{le-leb, lt-leb}
 use Rattle.bmap.specs.Limits.{mostPayload}
 use Rattle.bmap.specs.Refusal.{got, refused}
-use Rattle.bmap.specs.Line.{lineFeed, stored, digitFor, hex, lineFor}
+use Rattle.bmap.specs.Line.{digitFor, hex, lineFor}
 use Rattle.bmap.specs.Buffer.{over}
 use Rattle.line.specs.Write.{lineWritten}
 use Rattle.line.proofs.Lists.{part-to-end}
 use Rattle.line.proofs.Digits.{two-suc}
-use Rattle.line.proofs.LineLaws.{length-hex}
+use Rattle.line.proofs.HexLaws.{length-hex}
 
 -- ---- the loop over the bytes
 

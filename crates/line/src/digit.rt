@@ -1,8 +1,10 @@
-// Digits: the value of a character, and the character of a value.
+// The characters of a line: its digits, each with its value, and its LF.
 ghost use mathlib.Core.Path.{_≡_};
 ghost use Prim.Native.Nat.{_/_, _%_, _<_};
 ghost use Rattle.bmap.specs.Line.{digit, digitFor};
 ghost use Rattle.line.specs.Read.{pairOf, worth};
+
+pub const LINE_FEED: u8 = 10;
 
 // The byte that two digits spell; above 255 where one is no digit.
 pub fn pair(high: u8, low: u8) -> u16

@@ -1,11 +1,11 @@
 // The line at the front of a text, to the bytes of its frame.
 use bmap::PAYLOAD;
 use bmap::Refusal;
+use crate::digit::LINE_FEED;
 use crate::digit::pair;
 ghost use mathlib.Core.Path.{_≡_};
-ghost use mathlib.Core.List.{_++_};
 ghost use Prim.Native.Nat.{min, _≤_, _*_};
-ghost use lib.ListN.{length, getD, drop};
+ghost use lib.ListN.{length, getD};
 ghost use lib.Dec.{eqb};
 ghost use Rattle.bmap.specs.Buffer.{over};
 ghost use Rattle.bmap.specs.Line.{linesOf, lineFeed};
@@ -13,8 +13,6 @@ ghost use Rattle.line.specs.Read.{frameSize, said, firstOf, lineRead, sp
 
 // Kind, count and payload, at most.
 pub const FRAME: usize = PAYLOAD + 2;
-
-const LINE_FEED: u8 = 10;
 
 pub enum FirstLine {
     // No character is left.

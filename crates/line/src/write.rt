@@ -1,6 +1,7 @@
 // A frame to its line.
 use bmap::PAYLOAD;
 use bmap::Refusal;
+use crate::digit::LINE_FEED;
 use crate::digit::high_digit;
 use crate::digit::low_digit;
 ghost use mathlib.Core.Path.{_≡_};
@@ -9,8 +10,6 @@ ghost use lib.ListN.{length};
 ghost use Rattle.bmap.specs.Line.{hex};
 ghost use Rattle.bmap.specs.Buffer.{over};
 ghost use Rattle.line.specs.Write.{answerOf, lineWritten};
-
-const LINE_FEED: u8 = 10;
 
 pub enum Written {
     // So many bytes.

@@ -6,3 +6,5 @@ pub mod ReadLaws
 pub mod WriteLaws
 -- What is written of a sheet that was read is the text that was read, and back.
 pub mod RoundTrip
+-- One answer for each promise.
+pub mod Theorems

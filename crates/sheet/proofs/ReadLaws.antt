@@ -1,26 +1,25 @@
 -- The lines of a sheet, one by one, to the names in the buffer.
-use Prim.Native.Nat.{ℕ, zero, suc, _+_, _-_, _*_, _≤_, _<_}
+use Prim.Native.Nat.{ℕ, suc, _+_, _-_, _≤_, _<_}
 use native.Mathlib.Numerals.{add-one}
 use native.Mathlib.Omega.{arith}
 use mathlib.Core.Path.{_≡_, refl, sym, ap, _∙_}
-use mathlib.Core.Bool.{Bool, true, false}
+use mathlib.Core.Bool.{true, false}
 use mathlib.Core.Option.{none, some}
 use mathlib.Core.List.{List, [], _∷_, _++_, map, append-nil, append-assoc}
-use lib.Dec.{eqb, leb, ltb}
-use lib.ListN.{length, getD, take, drop, set, length-drop, length-append, length-take}
-use lib.Seq.{drop-cons, take-suc, length-take-le, set-at, take-at, getD-drop, take-append-le, drop-append-le}
+use lib.ListN.{length, getD, take, drop, set, length-drop, length-append}
+use lib.Seq.{drop-cons, take-suc, length-take-le, set-at, take-at, getD-drop}
 use borrow.Author.Tests.{lt-ltb, le-ltb, le-leb, lt-leb, eq-eqb, ne-eqb}
-use Rattle.bmap.specs.Plain.{both, if-else, flat}
-use Rattle.bmap.specs.Limits.{mostSteps, mostPayload, sheetSize}
-use Rattle.bmap.specs.Refusal.{Answer, got, refused, need, then}
-use Rattle.bmap.specs.Line.{Line, Frame, linesOf, decode, stored}
+use Rattle.bmap.specs.Plain.{flat}
+use Rattle.bmap.specs.Limits.{mostSteps, sheetSize}
+use Rattle.bmap.specs.Refusal.{refused}
+use Rattle.bmap.specs.Line.{linesOf, decode, stored}
 use Rattle.bmap.specs.Domain.{Names}
-use Rattle.bmap.specs.Accept.{Reading, read, refusedAt, atLine, afterwards}
+use Rattle.bmap.specs.Accept.{Reading, read, refusedAt, afterwards}
 use Rattle.bmap.specs.Buffer.{over, padded, fill}
 use Rattle.bmap.specs.Sheet.{stepOf, stepsFrom, stepsIn, readSheet}
-use Rattle.line.specs.Read.{frameSize, lineRead, bytesRead}
+use Rattle.line.specs.Read.{frameSize, lineRead}
 use Rattle.line.proofs.Lists.{part-to-end}
-use Rattle.line.proofs.LineLaws.{Takes, Refuses, line-nothing, line-refused, line-taken}
+use Rattle.line.proofs.LineLaws.{Takes, line-nothing, line-refused}
 use Rattle.sheet.specs.Step.{agentsAllowed, outcome, counted, namesIn, LineRefused, LineStep}
 
 -- ---- the names of a frame

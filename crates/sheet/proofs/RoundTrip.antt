@@ -1,7 +1,7 @@
 -- There and back: what is written of the names that were read is the text that was read, and what is read of the lines that
 -- were written is the sheet that was written.
 use Prim.Native.Nat.{ℕ, zero, suc, _+_, _-_, _*_, _/_, _%_, _≤_, _<_}
-use native.Mathlib.Nat.{zero-mul, suc-mul, add-comm, mul-mod-left, mul-div-cancel}
+use native.Mathlib.Nat.{zero-mul, mul-mod-left, mul-div-cancel}
 use native.Mathlib.Omega.{arith}
 use mathlib.Core.Path.{_≡_, refl, sym, ap, _∙_}
 use mathlib.Core.Bool.{Bool, true, false}
@@ -9,20 +9,23 @@ use mathlib.Core.List.{List, [], _∷_, _++_, map, append-nil, append-assoc}
 use lib.Dec.{eqb, leb, ltb}
 use lib.ListN.{length, take, drop, replicate, length-append, length-drop, take-append-drop}
 use lib.Seq.{take-at, drop-at, length-take-le}
-use borrow.Author.Tests.{ltb-true, eqb-true, lt-ltb, le-leb, eq-eqb}
-use Rattle.bmap.specs.Plain.{both, if-else, flat}
-use Rattle.bmap.specs.Limits.{mostAgents, mostSteps, mostPayload, sheetSize}
+use borrow.Author.Tests.{ltb-true, leb-true, leb-false, eqb-true, eqb-false, lt-ltb, le-leb, eq-eqb}
+use Rattle.bmap.specs.Plain.{flat}
+use Rattle.bmap.specs.Limits.{mostAgents, mostSteps, sheetSize}
 use Rattle.bmap.specs.Refusal.{Answer, got, refused, need, then}
-use Rattle.bmap.specs.Line.{Line, Frame, linesOf, decode, stored, hex, lineFor}
+use Rattle.bmap.specs.Line.{Line, Frame, linesOf, decode, lineFor}
 use Rattle.bmap.specs.Domain.{Names}
-use Rattle.bmap.specs.Accept.{Reading, read, refusedAt, atLine, afterwards}
-use Rattle.bmap.specs.Buffer.{Filled, Written, over, padded, fill, written, bytesWritten}
+use Rattle.bmap.specs.Accept.{Reading, read, refusedAt, atLine}
+use Rattle.bmap.specs.Buffer.{Filled, Written, over, padded, written}
 use Rattle.bmap.specs.Sheet.{stepOf, stepsFrom, stepsIn, readSheet, rows, stepLine, writeSheet}
-use Rattle.line.proofs.Lists.{Bytes, bytes-take, bytes-drop}
-use Rattle.line.proofs.LineLaws.{decode-line, lines-line, text-line, no-lines, need-got, then-got-inv}
-use Rattle.sheet.specs.Step.{agentsAllowed, outcome, lineSize, linesIn}
+use Rattle.bmap.specs.Theorems.{SheetLinesReturn, SheetReturns}
+use Rattle.line.proofs.Lists.{Bytes, bytes-are, bytes-take, bytes-drop}
+use Rattle.line.proofs.Answers.{need-got, then-got-inv}
+use Rattle.line.proofs.Lines.{no-lines}
+use Rattle.line.proofs.HexLaws.{decode-line, lines-line, text-line}
+use Rattle.sheet.specs.Step.{agentsAllowed, outcome, linesIn}
 use Rattle.sheet.proofs.Agents.{known-agents}
-use Rattle.sheet.proofs.WriteLaws.{product-suc, length-lines, written-is}
+use Rattle.sheet.proofs.WriteLaws.{product-suc, whole-steps, written-is, write-agents, write-not-whole, write-too-long}
 
 -- ---- rows
 
@@ -101,26 +104,20 @@ there agents (l ∷ ls) text done steps el e =
       few = λ h. t .few (rw (length-append done (names ∷ [])) (omega arith));
     }
 
--- what an accepted sheet says
-pub record Accepted (agents n : ℕ) (text buffer : List ℕ) : Type 0 where
-  pub steps : List Names
-  pub allowed : agentsAllowed agents ≡ true
-  pub goes : outcome agents text ≡ read steps
-  pub count : n ≡ length steps
-  pub left : readSheet agents text buffer .buffer ≡ padded (length buffer) (flat steps)
-
-accepted : (agents n : ℕ) (text buffer : List ℕ) → readSheet agents text buffer .answer ≡ read n → Accepted agents n text buffer
-unfolding readSheet stepsIn
-accepted agents n text buffer e = go (leb sheetSize (length buffer)) refl (agentsAllowed agents) refl (outcome agents text) refl
+-- what a text whose steps are read says
+stepped : (agents : ℕ) (text : List ℕ) (steps : List Names) → stepsIn agents text ≡ read steps → (agentsAllowed agents ≡ true) × (outcome agents text ≡ read steps)
+unfolding stepsIn
+stepped agents text steps e = go (agentsAllowed agents) refl
   where
-    go : (p : Bool) → leb sheetSize (length buffer) ≡ p → (q : Bool) → agentsAllowed agents ≡ q → (o : Reading (List Names)) → outcome agents text ≡ o → Accepted agents n text buffer
-    go true p true q (read steps) o =
-        let h : read (length steps) ≡ read n = simp (p, q, o) at e in
-        let k : length steps ≡ n = cc in
-        record { steps = steps; allowed = q; goes = o; count = sym k; left = simp (p, q, o) }
-    go true p true q (refusedAt m line) o = absurd (let h : refusedAt m line ≡ read n = simp (p, q, o) at e in let z : _≡_ {A = ℕ} 0 1 = cc in omega arith)
-    go true p false q o x = absurd (let h : refusedAt 4 0 ≡ read n = simp (p, q) at e in let z : _≡_ {A = ℕ} 0 1 = cc in omega arith)
-    go false p q x o y = absurd (let h : refusedAt 10 0 ≡ read n = simp p at e in let z : _≡_ {A = ℕ} 0 1 = cc in omega arith)
+    go : (b : Bool) → agentsAllowed agents ≡ b → (agentsAllowed agents ≡ true) × (outcome agents text ≡ read steps)
+    go true q = (q, simp q at e)
+    go false q = absurd (let h : refusedAt 4 0 ≡ read steps = simp q at e in let z : _≡_ {A = ℕ} 0 1 = cc in omega arith)
+
+-- what is left of them
+names-left : (agents : ℕ) (text buffer : List ℕ) (steps : List Names) → stepsIn agents text ≡ read steps → sheetSize ≤ length buffer
+    → readSheet agents text buffer ≡ record { answer = read (length steps); buffer = padded (length buffer) (flat steps) }
+unfolding readSheet
+names-left agents text buffer steps e h = simp (le-leb sheetSize (length buffer) h, e)
 
 -- the lines of rows
 written-rows : (agents : ℕ) (steps : List Names) (out : List ℕ) → agentsAllowed agents ≡ true → Rows agents steps → length steps ≤ mostSteps
@@ -135,17 +132,16 @@ written-rows agents steps out a r h =
 
 -- THEOREM. Where the reader accepts a text, the writer gives that text for the names that were left, into any text that has room,
 -- and nothing after it is touched.
-pub read-then-write : (agents n : ℕ) (text buffer out : List ℕ) → readSheet agents text buffer .answer ≡ read n → length text ≤ length out
-    → writeSheet (take (n * agents) (readSheet agents text buffer .buffer)) agents out ≡ record { answer = got (length text); buffer = over text out }
-read-then-write agents n text buffer out e h =
-    let x = accepted agents n text buffer e in
-    let t = there agents (linesOf text) text [] (x .steps) refl (x .goes) in
-    let r : Rows agents (x .steps) = rw (t .all) (t .rows) in
-    let l : length (flat (x .steps)) ≡ n * agents = length-flat agents r ∙ ap (λ (k : ℕ). k * agents) (sym (x .count)) in
-    let names : take (n * agents) (readSheet agents text buffer .buffer) ≡ flat (x .steps)
-    = ap (take (n * agents)) (x .left) ∙ take-at (flat (x .steps)) (replicate (length buffer - length (flat (x .steps))) 0) (n * agents) l in
-    let lines : flat (map stepLine (x .steps)) ≡ text = ap (λ (s : List Names). flat (map stepLine s)) (t .all) ∙ sym (t .text-is) in
-    rw names (written-rows agents (x .steps) out (x .allowed) r (t .few (omega arith)) ∙ rw lines (simp (le-leb (length text) (length out) h)))
+pub sheet-lines-return : SheetLinesReturn
+sheet-lines-return agents lines buffer text steps e size room =
+    let x = stepped agents lines steps e in
+    let t = there agents (linesOf lines) lines [] steps refl (x .1) in
+    let r : Rows agents steps = rw (t .all) (t .rows) in
+    let names : take (length steps * agents) (readSheet agents lines buffer .buffer) ≡ flat steps
+    = ap (λ (f : Filled). take (length steps * agents) (f .buffer)) (names-left agents lines buffer steps e size)
+    ∙ take-at (flat steps) (replicate (length buffer - length (flat steps)) 0) (length steps * agents) (length-flat agents r) in
+    let same : flat (map stepLine steps) ≡ lines = ap (λ (s : List Names). flat (map stepLine s)) (t .all) ∙ sym (t .text-is) in
+    rw names (written-rows agents steps text (x .0) r (t .few (omega arith)) ∙ rw same (simp (le-leb (length lines) (length text) room)))
 
 -- ---- the sheet that was written
 
@@ -166,24 +162,49 @@ back agents (suc n) s done k e h m =
     (back agents n rest (done ++ (names ∷ [])) k lr (bytes-drop agents s h) (rw (length-append done (names ∷ [])) (omega arith))
     ∙ ap read (append-assoc done (names ∷ []) (rows agents n rest))))
 
--- THEOREM. A sheet of whole steps, at most 64 of them, of 1 to 16 agents, is written into any text that has room; what was written is
--- read, into any buffer that is long enough, as that many steps and the same bytes, zeros after.
-pub write-then-read : (agents n : ℕ) (sheet out buffer : List ℕ) → agentsAllowed agents ≡ true → length sheet ≡ n * agents → n ≤ mostSteps → Bytes sheet
-    → n * lineSize agents ≤ length out → sheetSize ≤ length buffer
-    → (writeSheet sheet agents out .answer ≡ got (n * lineSize agents))
-    × (readSheet agents (take (n * lineSize agents) (writeSheet sheet agents out .buffer)) buffer ≡ record { answer = read n; buffer = padded (length buffer) sheet })
-unfolding readSheet stepsIn
-write-then-read agents n sheet out buffer a e h bytes room size =
-    let some-agents = known-agents agents a in
-    let d : length sheet / agents ≡ n = ap (λ (x : ℕ). x / agents) e ∙ mul-div-cancel n (some-agents .0) in
-    let m : length sheet % agents ≡ 0 = ap (λ (x : ℕ). x % agents) e ∙ mul-mod-left n agents in
-    let text = linesIn agents n sheet in
-    let l : length text ≡ n * lineSize agents = length-lines agents n sheet e in
-    let w : writeSheet sheet agents out ≡ record { answer = got (length text); buffer = over text out }
-    = written-is sheet out agents a m (rw d h) ∙ rw d (simp (le-leb (length text) (length out) (omega arith))) in
-    let t : take (n * lineSize agents) (writeSheet sheet agents out .buffer) ≡ text
-    = ap (λ (x : Written). take (n * lineSize agents) (x .buffer)) w ∙ take-at text (drop (length text) out) (n * lineSize agents) l in
-    let o : outcome agents text ≡ read (rows agents n sheet) = back agents n sheet [] (some-agents .1) e bytes (omega arith) in (
-      ap (λ (x : Written). x .answer) w ∙ ap got l,
-      rw t (simp (le-leb sheetSize (length buffer) size, a, o, length-rows agents n sheet, flat-rows agents n sheet e)),
-    )
+-- what a writer that wrote says
+pub record Wrote (agents : ℕ) (sheet text : List ℕ) (n : ℕ) : Type 0 where
+  pub allowed : agentsAllowed agents ≡ true
+  pub whole : length sheet % agents ≡ 0
+  pub few : length sheet / agents ≤ mostSteps
+  pub size : n ≡ length (linesIn agents (length sheet / agents) sheet)
+  pub left : writeSheet sheet agents text .buffer ≡ over (linesIn agents (length sheet / agents) sheet) text
+
+written-got : (text lines : List ℕ) (n : ℕ) → written text (got lines) .answer ≡ got n → (n ≡ length lines) × (written text (got lines) .buffer ≡ over lines text)
+written-got text lines n e = go (leb (length lines) (length text)) refl
+  where
+    go : (b : Bool) → leb (length lines) (length text) ≡ b → (n ≡ length lines) × (written text (got lines) .buffer ≡ over lines text)
+    go true q = let h : got (length lines) ≡ got n = simp q at e in let k : n ≡ length lines = cc in (k, simp q)
+    go false q = absurd (let h : refused 10 ≡ got n = simp q at e in let z : _≡_ {A = ℕ} 0 1 = cc in omega arith)
+
+wrote : (agents : ℕ) (sheet text : List ℕ) (n : ℕ) → writeSheet sheet agents text .answer ≡ got n → Wrote agents sheet text n
+wrote agents sheet text n e = go (agentsAllowed agents) refl (eqb (length sheet % agents) 0) refl (leb (length sheet / agents) mostSteps) refl
+  where
+    refuses : (m : ℕ) → writeSheet sheet agents text .answer ≡ refused m → ⊥
+    refuses m h = let k : got n ≡ refused m = sym e ∙ h in let z : _≡_ {A = ℕ} 0 1 = cc in omega arith
+
+    go : (p : Bool) → agentsAllowed agents ≡ p → (q : Bool) → eqb (length sheet % agents) 0 ≡ q → (r : Bool) → leb (length sheet / agents) mostSteps ≡ r → Wrote agents sheet text n
+    go true p true q true r =
+        let m = eqb-true (length sheet % agents) 0 q in
+        let k = leb-true (length sheet / agents) mostSteps r in
+        let w = written-is sheet text agents p m k in
+        let g = written-got text (linesIn agents (length sheet / agents) sheet) n (sym (ap (λ (x : Written). x .answer) w) ∙ e) in
+        record { allowed = p; whole = m; few = k; size = g .0; left = ap (λ (x : Written). x .buffer) w ∙ g .1 }
+    go true p true q false r = absurd (refuses 9 (sym (write-too-long sheet text agents p (eqb-true (length sheet % agents) 0 q) (leb-false (length sheet / agents) mostSteps r) .0)))
+    go true p false q t r = absurd (refuses 8 (sym (write-not-whole sheet text agents p (eqb-false (length sheet % agents) 0 q) .0)))
+    go false p s q t r = absurd (refuses 4 (sym (write-agents sheet text agents p .0)))
+
+-- THEOREM. Where the writer writes a sheet of bytes, the reader takes what was written, into any buffer that is long enough, as that
+-- many steps and the same bytes, zeros after.
+pub sheet-returns : SheetReturns
+unfolding stepsIn
+sheet-returns agents sheet text buffer n bytes e size =
+    let w = wrote agents sheet text n e in
+    let steps = length sheet / agents in
+    let lines = linesIn agents steps sheet in
+    let l : length sheet ≡ steps * agents = whole-steps sheet text agents (w .whole) in
+    let t : take n (writeSheet sheet agents text .buffer) ≡ lines = ap (take n) (w .left) ∙ take-at lines (drop (length lines) text) n (sym (w .size)) in
+    let o : outcome agents lines ≡ read (rows agents steps sheet)
+    = back agents steps sheet [] (known-agents agents (w .allowed) .1) l (bytes-are sheet bytes) (omega (arith, w .few)) in
+    let s : stepsIn agents lines ≡ read (rows agents steps sheet) = simp (w .allowed) o in
+    rw t (names-left agents lines buffer (rows agents steps sheet) s size ∙ rw (length-rows agents steps sheet, flat-rows agents steps sheet l) refl)

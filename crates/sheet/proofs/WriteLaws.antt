@@ -1,20 +1,16 @@
 -- The steps of a sheet, one by one, to its lines.
 use Prim.Native.Nat.{ℕ, zero, suc, _+_, _-_, _*_, _/_, _%_, _≤_, _<_}
 use native.Mathlib.Nat.{div-add-mod', not-suc-le-zero, zero-mul, suc-mul, add-comm, mul-le-mul}
-use native.Mathlib.Numerals.{add-one}
 use native.Mathlib.Omega.{arith}
 use mathlib.Core.Path.{_≡_, refl, sym, ap, _∙_}
-use mathlib.Core.Bool.{Bool, true, false}
-use mathlib.Core.List.{List, [], _∷_, _++_, map, append-nil, append-assoc}
-use lib.Dec.{eqb, leb}
+use mathlib.Core.Bool.{true, false}
+use mathlib.Core.List.{List, [], _++_, append-nil, append-assoc}
 use lib.ListN.{length, take, drop, length-drop, length-append, drop-of-length-le, take-append-drop}
 use lib.Seq.{length-take-le, take-at, drop-at, drop-drop}
 use borrow.Author.Tests.{le-leb, lt-leb, eq-eqb, ne-eqb}
-use Rattle.bmap.specs.Plain.{both, if-else, flat}
-use Rattle.bmap.specs.Limits.{mostAgents, mostSteps, mostPayload}
-use Rattle.bmap.specs.Refusal.{Answer, got, refused, need, then}
-use Rattle.bmap.specs.Line.{Frame, lineFor}
-use Rattle.bmap.specs.Domain.{Names}
+use Rattle.bmap.specs.Plain.{flat}
+use Rattle.bmap.specs.Limits.{mostAgents, mostSteps}
+use Rattle.bmap.specs.Refusal.{got, refused}
 use Rattle.bmap.specs.Buffer.{over, written}
 use Rattle.bmap.specs.Sheet.{rows, sheetOf, stepLine, writeSheet}
 use Rattle.line.specs.Write.{lineWritten}

@@ -1,5 +1,5 @@
 -- What the reader's answers say, and the lines of a sheet one by one.
-use Prim.Native.Nat.{ℕ, zero, suc, _+_, _*_, _≤_, _<_}
+use Prim.Native.Nat.{ℕ, _+_, _*_, _≤_, _<_}
 use mathlib.Core.Bool.{Bool}
 use mathlib.Core.List.{List, [], _∷_, map}
 use mathlib.Core.Path.{_≡_}
@@ -7,7 +7,7 @@ use lib.Dec.{leb}
 use lib.ListN.{length, take, drop}
 use Rattle.bmap.specs.Plain.{both, flat}
 use Rattle.bmap.specs.Limits.{mostAgents, mostSteps}
-use Rattle.bmap.specs.Refusal.{Answer, got, refused, then, numberOf}
+use Rattle.bmap.specs.Refusal.{got, refused, then, numberOf}
 use Rattle.bmap.specs.Line.{Line, linesOf, decode}
 use Rattle.bmap.specs.Domain.{Names}
 use Rattle.bmap.specs.Accept.{Reading, read, refusedAt, afterwards}

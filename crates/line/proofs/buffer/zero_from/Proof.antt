@@ -1,5 +1,5 @@
 use Prim.Native.Nat.{_≤_, _-_}
-use mathlib.Core.Path.{_≡_, refl, sym, _∙_}
+use mathlib.Core.Path.{_≡_, refl, _∙_}
 use lib.ListN.{length, length-set}
 use native.Mathlib.Omega.{arith}
 use Rattle.line.proofs.Lists.{zeroing, zero-start, zero-more, zero-end}

@@ -1,5 +1,4 @@
-use Prim.Native.Nat.{_≤_, _<_, _+_, _-_}
-use mathlib.Core.Path.{_≡_, refl, sym, ap, _∙_}
+use Prim.Native.Nat.{_+_}
 use native.Mathlib.Omega.{arith}
 use Rattle.line.proofs.FrameLaws.{no-head, no-kind, long-count, no-payload, frame-stands}
 use borrow.Author.Needs.{needs}

@@ -1,5 +1,4 @@
-use Prim.Native.Nat.{_≤_}
-use lib.ListN.{length, List·getD-eq-default}
+use lib.ListN.{List·getD-eq-default}
 use native.Mathlib.Omega.{arith}
 use borrow.Author.Needs.{needs}
 use Rattle.line.proofs.read.feed_at.Statement.{statement}

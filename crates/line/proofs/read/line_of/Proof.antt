@@ -1,12 +1,12 @@
-use Prim.Native.Nat.{_≤_, _<_, _+_, _-_, _*_}
-use mathlib.Core.Path.{_≡_, refl, sym, ap, _∙_}
-use lib.ListN.{length, drop, getD, length-drop}
+use Prim.Native.Nat.{_≤_, _+_, _*_}
+use mathlib.Core.Path.{_≡_, sym, ap, _∙_}
+use lib.ListN.{length, drop, length-drop}
 use native.Mathlib.Omega.{arith}
 use borrow.Author.Tests.{eqb-true, eqb-false}
 use Rattle.line.specs.Read.{spelt, frameSize, said}
 use Rattle.line.proofs.Lists.{part-to-end}
 use Rattle.line.proofs.Digits.{spelt-most, spelt-half}
-use Rattle.line.proofs.LineLaws.{line-ends, line-stops, line-too-long, line-stops-late}
+use Rattle.line.proofs.FirstLaws.{line-ends, line-stops, line-too-long, line-stops-late}
 use borrow.Author.Needs.{needs}
 use Rattle.line.proofs.read.line_of.Statement.{statement}
 use Rattle.line.proofs.read.line_of.Tie as tie

@@ -1,5 +1,5 @@
-use Prim.Native.Nat.{min, _≤_, _<_, _+_, _-_, _*_, _/_}
-use mathlib.Core.Path.{_≡_, refl, sym, ap, _∙_}
+use Prim.Native.Nat.{min, _≤_, _-_, _*_, _/_}
+use mathlib.Core.Path.{_≡_, refl, ap, _∙_}
 use mathlib.Core.List.{_++_}
 use lib.ListN.{length, take, drop, length-set}
 use native.Mathlib.Omega.{arith}

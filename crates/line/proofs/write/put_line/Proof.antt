@@ -1,6 +1,6 @@
-use mathlib.Core.Path.{_≡_, _∙_}
+use mathlib.Core.Path.{_∙_}
 use native.Mathlib.Omega.{arith}
-use lib.ListN.{length, length-set}
+use lib.ListN.{length-set}
 use Rattle.line.proofs.Lists.{length-back}
 use Rattle.line.proofs.WriteLaws.{put-long, put-short, put-done}
 use borrow.Author.Needs.{needs}

@@ -1,6 +1,4 @@
-use Prim.Native.Nat.{_≤_, _<_, _+_}
-use mathlib.Core.Path.{_≡_, sym, ap, _∙_}
-use native.Mathlib.Omega.{arith}
+use mathlib.Core.Path.{sym, ap, _∙_}
 use Rattle.line.specs.Read.{said}
 use Rattle.line.proofs.LineLaws.{Takes, line-taken}
 use Rattle.sheet.proofs.ReadLaws.{next-end, next-refused, bad-kind, too-long, not-whole, a-step}

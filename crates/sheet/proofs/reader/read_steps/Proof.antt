@@ -6,9 +6,9 @@ use Rattle.bmap.specs.Limits.{mostSteps}
 use denote.Ref.{now}
 use borrow.Author.Needs.{needs}
 use native.Mathlib.Omega.{arith}
-use lib.ListN.{length, length-drop, length-replicate}
-use mathlib.Core.Path.{_≡_, refl, sym, ap, subst, _∙_}
-use Prim.Native.Nat.{_≤_, _<_, _+_, _-_, _*_}
+use lib.ListN.{length, length-drop}
+use mathlib.Core.Path.{_≡_, refl, sym, subst, _∙_}
+use Prim.Native.Nat.{_≤_, _*_}
 use Rattle.sheet.proofs.reader.read_steps.Statement.{statement}
 use Rattle.sheet.proofs.reader.read_steps.Tie as tie
 

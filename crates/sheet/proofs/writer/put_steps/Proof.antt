@@ -1,11 +1,10 @@
 use Rattle.sheet.proofs.WriteLaws.{Put, put-start, put-more, put-end, step-left}
-use Rattle.line.proofs.Lists.{length-back}
 use borrow.Author.Needs.{needs}
 use native.Mathlib.Omega.{arith}
 use lib.Seq.{length-take-le}
 use lib.ListN.{length}
-use mathlib.Core.Path.{_≡_, refl, sym, _∙_}
-use Prim.Native.Nat.{_≤_, _<_, _+_, _-_, _*_}
+use mathlib.Core.Path.{sym}
+use Prim.Native.Nat.{_≤_, _+_, _*_}
 use Rattle.sheet.proofs.writer.put_steps.Statement.{statement}
 use Rattle.sheet.proofs.writer.put_steps.Tie as tie
 

@@ -14,7 +14,8 @@ use Rattle.bmap.specs.Plain.{both, either, if-else, any}
 use Rattle.bmap.specs.Refusal.{Answer, got, refused}
 use Rattle.bmap.specs.Line.{digit, digitFor}
 use Rattle.bmap.specs.Buffer.{over}
-use Rattle.line.specs.Read.{worth, pair, pairOf, andThen, spelt}
+use Rattle.line.specs.Read.{pair, andThen, spelt}
+use Rattle.line.specs.Within.{worth, pairOf}
 use Rattle.line.proofs.Table.{at}
 
 -- ---- what is no digit
@@ -135,15 +136,18 @@ pair-is a b = go (digit-is a) (digit-is b)
         let t = y .small in
         let q : (h * 16 + l) / 16 ≡ h = omega arith in
         let r : (h * 16 + l) % 16 ≡ l = omega arith in
-        inl (h * 16 + l, record {
-          is = simp (x .is, y .is);
-          of = simp (x .is, y .is);
-          small = omega arith;
-          high = rw q (x .back);
-          low = rw r (y .back);
-          high-no-feed = digit-no-feed a h x;
-          low-no-feed = digit-no-feed b l y;
-        })
+        inl (
+          h * 16 + l,
+          record {
+            is = simp (x .is, y .is);
+            of = simp (x .is, y .is);
+            small = omega arith;
+            high = rw q (x .back);
+            low = rw r (y .back);
+            high-no-feed = digit-no-feed a h x;
+            low-no-feed = digit-no-feed b l y;
+          },
+        )
     go (inl (h, x)) (inr e) = inr (record { is = simp (x .is, e); of = simp (x .is, e) (omega arith) })
     go (inr e) y = inr (record { is = simp e; of = simp e (omega arith) })
 

@@ -13,7 +13,8 @@ use lib.Seq.{getD-drop}
 use borrow.Author.Tests.{eqb-true, eqb-false, eq-eqb, ne-eqb, le-leb}
 use Rattle.bmap.specs.Refusal.{Answer, got, refused, need, then}
 use Rattle.bmap.specs.Line.{Frame, linesOf, bytes, framed, decode, stored}
-use Rattle.line.specs.Read.{Taken, frameSize, said, firstOf, spelt, Begins, frameOf}
+use Rattle.line.specs.Read.{Taken, frameSize, said, firstOf, spelt}
+use Rattle.line.specs.Within.{Begins, frameOf}
 use Rattle.line.proofs.Digits.{spelt-most}
 use Rattle.line.proofs.Spelling.{beyond, passed, passed-on, stops, stops-anywhere}
 use Rattle.line.proofs.Lines.{at-feed, ends, front, lines-first}
@@ -71,7 +72,7 @@ line-stops s n count h e k =
 
 -- more pairs than a frame has bytes follow, and then a LF, or something else
 module _ (s : List ℕ) (n count more : ℕ) (h : Begins s n count) (full : frameSize ≤ n) (no-feed : getD s (2 * n) 0 ≡ 10 → ⊥)
-  (m : more ≡ length (spelt (length (drop (2 * n) s)) (drop (2 * n) s))) where
+    (m : more ≡ length (spelt (length (drop (2 * n) s)) (drop (2 * n) s))) where
   rest : List ℕ
   rest = drop (2 * n) s
 

@@ -14,14 +14,14 @@ use Rattle.bmap.specs.Limits.{mostPayload}
 use Rattle.bmap.specs.Refusal.{Answer, got, refused, then}
 use Rattle.bmap.specs.Line.{Line, Frame, lineFeed, linesOf, bytes, decode, stored, hex, lineFor}
 use Rattle.bmap.specs.Buffer.{over}
-use Rattle.line.specs.Read.{Taken, frameSize, firstOf, lineRead, bytesRead, spelt, Begins}
+use Rattle.line.specs.Read.{Taken, frameSize, firstOf, lineRead, bytesRead, spelt}
+use Rattle.line.specs.Within.{Begins}
 use Rattle.line.proofs.Digits.{spelt-most}
 use Rattle.line.proofs.Spelling.{spelt-all}
 use Rattle.line.proofs.Lines.{after, firstLine, front, lines-first, lines-nonempty, text-first}
 use Rattle.line.proofs.FirstLaws.{decoded, first-is, sizeIn}
 use Rattle.line.proofs.HexLaws.{decodes, hex-bytes, length-hex}
 use Rattle.line.proofs.Answers.{then-got-inv, then-refused}
-
 -- a frame's line there and back, for callers that cite this module
 pub use Rattle.line.proofs.HexLaws.{decode-line, line-decoded, lines-line, text-line}
 
@@ -45,7 +45,7 @@ read-nothing [] out h e = (sym (read-in-room [] out h), sym (bytes-in-room [] ou
 read-nothing (c ∷ s) out h e = absurd (omega arith)
 
 module _ (text out p : List ℕ) (n : ℕ) (room : frameSize ≤ length out) (count : n ≡ length (spelt (length (take frameSize out)) text))
-  (left : p ≡ over (spelt (length (take frameSize out)) text) (take frameSize out)) where
+    (left : p ≡ over (spelt (length (take frameSize out)) text) (take frameSize out)) where
   spelt-size : spelt (length (take frameSize out)) text ≡ spelt frameSize text
   spelt-size = ap (λ (k : ℕ). spelt k text) (length-take-le frameSize out room)
 

@@ -2,7 +2,7 @@
 ghost use mathlib.Core.Path.{_≡_};
 ghost use Prim.Native.Nat.{_/_, _%_, _<_};
 ghost use Rattle.bmap.specs.Line.{digit, digitFor};
-ghost use Rattle.line.specs.Read.{pairOf, worth};
+ghost use Rattle.line.specs.Within.{pairOf, worth};
 
 pub const LINE_FEED: u8 = 10;
 

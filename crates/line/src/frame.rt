@@ -9,6 +9,7 @@ pub enum FrameAt {
     Frame(usize),
 }
 
+// The frame at a place, which may lie anywhere: a kind other than 00, a count up to the limit, and the whole payload.
 pub fn frame_at(store: &[u8], at: usize) -> FrameAt
     ensures { λ r. ⌜ sizeOf r ≡ frameSizeAt (now (store .entry)) at ⌝ }
 {

@@ -1,15 +1,16 @@
 // The line at the front of a text, to the bytes of its frame.
-use bmap::PAYLOAD;
-use bmap::Refusal;
 use crate::digit::LINE_FEED;
 use crate::digit::pair;
+use bmap::PAYLOAD;
+use bmap::Refusal;
 ghost use mathlib.Core.Path.{_≡_};
 ghost use Prim.Native.Nat.{min, _≤_, _*_};
 ghost use lib.ListN.{length, getD};
 ghost use lib.Dec.{eqb};
 ghost use Rattle.bmap.specs.Buffer.{over};
 ghost use Rattle.bmap.specs.Line.{linesOf, lineFeed};
-ghost use Rattle.line.specs.Read.{frameSize, said, firstOf, lineRead, spelt, bytesRead, Begins, frameOf};
+ghost use Rattle.line.specs.Read.{frameSize, said, firstOf, lineRead, spelt, bytesRead};
+ghost use Rattle.line.specs.Within.{Begins, frameOf};
 
 // Kind, count and payload, at most.
 pub const FRAME: usize = PAYLOAD + 2;
@@ -65,6 +66,7 @@ fn frame_of(n: usize, count: u8) -> FirstLine
     if n == 0 {
         return FirstLine::Refused(Refusal::BadLine);
     }
+    // n is no more than a frame has, so a count that fits is no more than a payload has.
     if count as usize + 2 != n {
         return FirstLine::Refused(Refusal::BadCount);
     }
@@ -74,6 +76,7 @@ fn frame_of(n: usize, count: u8) -> FirstLine
     }
 }
 
+// Whether a LF stands at a place.
 fn feed_at(text: &[u8], at: usize) -> bool
     ensures { λ r. ⌜ r ≡ eqb (getD (now (text .entry)) at 0) lineFeed ⌝ }
 {

@@ -1,9 +1,9 @@
 // A frame to its line.
-use bmap::PAYLOAD;
-use bmap::Refusal;
 use crate::digit::LINE_FEED;
 use crate::digit::high_digit;
 use crate::digit::low_digit;
+use bmap::PAYLOAD;
+use bmap::Refusal;
 ghost use mathlib.Core.Path.{_≡_};
 ghost use Prim.Native.Nat.{_≤_, _*_};
 ghost use lib.ListN.{length};
@@ -24,6 +24,7 @@ pub fn put_line(kind: u8, payload: &[u8], out: &mut [u8]) -> Written
     if payload.len() > PAYLOAD {
         return Written::Refused(Refusal::BadCount);
     }
+    // Two digits a byte, kind and count among them, and the LF.
     let size = 2 * payload.len() + 5;
     if out.len() < size {
         return Written::Refused(Refusal::NoRoom);

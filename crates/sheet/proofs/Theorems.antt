@@ -2,7 +2,7 @@
 use mathlib.Core.Path.{_≡_}
 use Rattle.bmap.specs.Refusal.{numberOf}
 use Rattle.line.proofs.Theorems.{same-refusal}
-use Rattle.sheet.specs.Step.{readingOf}
+use Rattle.sheet.specs.Answer.{readingOf}
 use Rattle.sheet.specs.declared.reader.ReadSheet.{ReadSheet}
 use Rattle.sheet.specs.declared.reader.ReadSheet.the-variants.{Read, Refused}
 

@@ -68,9 +68,9 @@ module _ (agents steps : ℕ) (sheet text₀ : List ℕ) where
     pub step-left : 0 < left → (agents ≤ length rest) × (used + lineSize agents ≤ length text)
     step-left h = (omega (arith, p .whole, product-less left agents h), omega (arith, p .room, product-less left (lineSize agents) h))
 
-    pub put-more : (q : List ℕ) → agents ≤ mostAgents → 0 < left → q ≡ lineWritten 0xB1 (take agents rest) (take (length text - used) (drop used text)) .buffer
-        → Put agents sheet text₀ (take used text ++ (q ++ drop (length text - used) (drop used text))) (take (length rest - agents) (drop agents rest)) steps (left - 1) (used + 2 * agents + 5)
-    put-more q ha h eq =
+    pub put-more : (q : List ℕ) (size : ℕ) → size ≡ lineSize agents → agents ≤ mostAgents → 0 < left → q ≡ lineWritten 0xB1 (take agents rest) (take (length text - used) (drop used text)) .buffer
+        → Put agents sheet text₀ (take used text ++ (q ++ drop (length text - used) (drop used text))) (take (length rest - agents) (drop agents rest)) steps (left - 1) (used + size)
+    put-more q size es ha h eq =
         let line = stepLine (take agents rest) in
         let a = take used text in
         let fits = step-left h in
@@ -84,8 +84,8 @@ module _ (agents steps : ℕ) (sheet text₀ : List ℕ) where
         ∙ rw (part-to-end text used, ll) refl in
         let split : a ++ (q ++ drop (length text - used) (drop used text)) ≡ (a ++ line) ++ drop (lineSize agents) (drop used text)
         = rw (none, append-nil, q-is) (sym (append-assoc a line (drop (lineSize agents) (drop used text)))) in
-        let lal : length (a ++ line) ≡ used + 2 * agents + 5 = length-append a line ∙ omega arith in
-        let n : used + lineSize agents ≡ used + 2 * agents + 5 = omega arith in
+        let lal : length (a ++ line) ≡ used + size = length-append a line ∙ omega arith in
+        let n : used + lineSize agents ≡ used + size = omega arith in
         let tail = drop (lineSize agents) (drop used text) in
         let lt : length tail ≡ length text - used - lineSize agents = length-drop (lineSize agents) (drop used text) ∙ ap (λ (x : ℕ). x - lineSize agents) (length-drop used text) in
         record {
@@ -93,10 +93,10 @@ module _ (agents steps : ℕ) (sheet text₀ : List ℕ) where
               p .laid
               ∙ ap (λ (x : List ℕ). a ++ x) (lines-more agents left rest h)
               ∙ sym (append-assoc a line (linesIn agents (left - 1) (drop agents rest)))
-              ∙ rw (split, take-at (a ++ line) tail (used + 2 * agents + 5) lal, part-to-end rest agents) refl;
+              ∙ rw (split, take-at (a ++ line) tail (used + size) lal, part-to-end rest agents) refl;
           kept =
               rw split
-              (drop-at (a ++ line) tail (used + 2 * agents + 5) lal
+              (drop-at (a ++ line) tail (used + size) lal
               ∙ ap (drop (lineSize agents)) (p .kept)
               ∙ drop-drop (lineSize agents) used text₀
               ∙ ap (λ (x : ℕ). drop x text₀) n);
@@ -107,8 +107,8 @@ module _ (agents steps : ℕ) (sheet text₀ : List ℕ) where
 
 -- ---- the whole
 
-pub total-most : (steps agents : ℕ) → steps ≤ mostSteps → agents ≤ mostAgents → steps * lineSize agents ≤ mostSteps * lineSize mostAgents
-total-most steps agents h k = let l : lineSize agents ≤ lineSize mostAgents = omega arith in mul-le-mul h l
+pub total-most : (steps agents size : ℕ) → size ≡ lineSize agents → steps ≤ mostSteps → agents ≤ mostAgents → steps * size ≤ mostSteps * lineSize mostAgents
+total-most steps agents size e h k = let l : size ≤ lineSize mostAgents = omega arith in mul-le-mul h l
 
 module _ (sheet text : List ℕ) (agents : ℕ) where
   pub write-agents : agentsAllowed agents ≡ false → (refused 4 ≡ writeSheet sheet agents text .answer) × (text ≡ writeSheet sheet agents text .buffer)
@@ -133,15 +133,13 @@ module _ (sheet text : List ℕ) (agents : ℕ) where
   unfolding writeSheet sheetOf linesIn
   written-is e h k = simp (e, eq-eqb (length sheet % agents) 0 h, le-leb (length sheet / agents) mostSteps k)
 
-  pub write-no-room : agentsAllowed agents ≡ true → length sheet % agents ≡ 0 → length sheet / agents ≤ mostSteps → length text < length sheet / agents * lineSize agents
-      → (refused 10 ≡ writeSheet sheet agents text .answer) × (text ≡ writeSheet sheet agents text .buffer)
-  write-no-room e h k r =
-      let l = length-lines agents (length sheet / agents) sheet (whole-steps h) in
-      rw (written-is e h k) (simp (l, lt-leb (length sheet / agents * lineSize agents) (length text) r) (refl, refl))
+  module _ (size : ℕ) (es : size ≡ lineSize agents) (e : agentsAllowed agents ≡ true) (h : length sheet % agents ≡ 0) (k : length sheet / agents ≤ mostSteps) where
+    all-lines : length (linesIn agents (length sheet / agents) sheet) ≡ length sheet / agents * size
+    all-lines = length-lines agents (length sheet / agents) sheet (whole-steps h) ∙ ap (λ (x : ℕ). length sheet / agents * x) (sym es)
 
-  pub write-done : (exit : List ℕ) → agentsAllowed agents ≡ true → length sheet % agents ≡ 0 → length sheet / agents ≤ mostSteps
-      → length sheet / agents * lineSize agents ≤ length text → exit ≡ over (linesIn agents (length sheet / agents) sheet) text
-      → (got (length sheet / agents * lineSize agents) ≡ writeSheet sheet agents text .answer) × (exit ≡ writeSheet sheet agents text .buffer)
-  write-done exit e h k r ex =
-      let l = length-lines agents (length sheet / agents) sheet (whole-steps h) in
-      rw (written-is e h k) (simp (l, le-leb (length sheet / agents * lineSize agents) (length text) r) (refl, ex ∙ rw l refl))
+    pub write-no-room : length text < length sheet / agents * size → (refused 10 ≡ writeSheet sheet agents text .answer) × (text ≡ writeSheet sheet agents text .buffer)
+    write-no-room r = rw (written-is e h k) (simp (all-lines, lt-leb (length sheet / agents * size) (length text) r) (refl, refl))
+
+    pub write-done : (exit : List ℕ) → length sheet / agents * size ≤ length text → exit ≡ over (linesIn agents (length sheet / agents) sheet) text
+        → (got (length sheet / agents * size) ≡ writeSheet sheet agents text .answer) × (exit ≡ writeSheet sheet agents text .buffer)
+    write-done exit r ex = rw (written-is e h k) (simp (all-lines, le-leb (length sheet / agents * size) (length text) r) (refl, ex ∙ rw all-lines refl))

@@ -1,4 +1,4 @@
--- What the reader's answers say, and the lines of a sheet one by one.
+-- What the functions within `read` and `write` promise each other: the lines of a sheet one by one.
 use Prim.Native.Nat.{ℕ, _+_, _*_, _≤_, _<_}
 use mathlib.Core.Bool.{Bool}
 use mathlib.Core.List.{List, [], _∷_, map}
@@ -12,17 +12,10 @@ use Rattle.bmap.specs.Line.{Line, linesOf, decode}
 use Rattle.bmap.specs.Domain.{Names}
 use Rattle.bmap.specs.Accept.{Reading, read, refusedAt, afterwards}
 use Rattle.bmap.specs.Sheet.{stepOf, stepsFrom, rows, stepLine}
-use Rattle.sheet.specs.declared.reader.ReadSheet.{ReadSheet}
-use Rattle.sheet.specs.declared.reader.ReadSheet.the-variants.{Read, Refused}
 use Rattle.sheet.specs.declared.reader.Next.{Next}
 use Rattle.sheet.specs.declared.reader.Next.the-variants as next
 
--- what the reader's answer says: so many steps, or the refusal's number and its line
-abbrev pub readingOf : ReadSheet → Reading ℕ
-readingOf (Read steps) = read steps
-readingOf (Refused r line) = refusedAt (numberOf r) line
-
--- ---- within the reader
+-- ---- the reader
 
 abbrev pub agentsAllowed : ℕ → Bool
 agentsAllowed agents = both (leb 1 agents) (leb agents mostAgents)
@@ -62,7 +55,7 @@ NextIs agents steps rest frame next.End = linesOf rest ≡ []
 NextIs agents steps rest frame (next.Refused r) = LineRefused agents steps rest (numberOf r)
 NextIs agents steps rest frame (next.Step characters) = LineStep agents steps rest frame characters
 
--- ---- within the writer
+-- ---- the writer
 
 -- the characters of a step's line
 abbrev pub lineSize : ℕ → ℕ

@@ -5,7 +5,6 @@ mod writer;
 pub use reader::ReadSheet;
 pub use reader::read;
 pub use writer::write;
-
 ghost use mathlib.Core.Path.{_≡_};
 ghost use Rattle.sheet.specs.Step.{agentsAllowed};
 

@@ -1,8 +1,8 @@
 // The lines of a sheet, to the names step after step.
-use bmap::Refusal;
-use bmap::Sheet;
 use crate::STEP;
 use crate::agents_known;
+use bmap::Refusal;
+use bmap::Sheet;
 use line::FRAME;
 use line::FirstLine;
 use line::read_line;
@@ -14,7 +14,8 @@ ghost use Rattle.bmap.specs.Buffer.{over};
 ghost use Rattle.bmap.specs.Limits.{mostAgents, sheetSize};
 ghost use Rattle.bmap.specs.Sheet.{readSheet};
 ghost use Rattle.line.specs.Read.{frameSize};
-ghost use Rattle.sheet.specs.Step.{readingOf, outcome, counted, namesIn, NextIs};
+ghost use Rattle.sheet.specs.Answer.{readingOf};
+ghost use Rattle.sheet.specs.Step.{outcome, counted, namesIn, NextIs};
 
 pub enum ReadSheet {
     // So many steps.
@@ -36,6 +37,7 @@ enum Next {
     Refused(Refusal),
 }
 
+// The names step after step, zeros after, and the number of steps.
 pub fn read(text: &[u8], agents: usize, buffer: &mut [u8]) -> ReadSheet
     ensures { λ r. ⌜ (readingOf r ≡ readSheet agents (now (text .entry)) (now (buffer .entry)) .answer) × (now (buffer .exit) ≡ readSheet agents (now (text .entry)) (now (buffer .entry)) .buffer) ⌝ }
 {

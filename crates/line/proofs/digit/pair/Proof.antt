@@ -1,6 +1,6 @@
 use mathlib.Core.Path.{refl}
 use native.Mathlib.Omega.{arith}
-use Rattle.line.specs.Read.{pairOf}
+use Rattle.line.specs.Within.{pairOf}
 use Rattle.line.proofs.Digits.{worth-most}
 use borrow.Author.Needs.{needs}
 use Rattle.line.proofs.digit.pair.Statement.{statement}

@@ -1,5 +1,5 @@
 use borrow.Author.Tests.{eq-eqb, ne-eqb}
-use Rattle.line.specs.Read.{frameOf}
+use Rattle.line.specs.Within.{frameOf}
 use borrow.Author.Needs.{needs}
 use Rattle.line.proofs.read.frame_of.Statement.{statement}
 use Rattle.line.proofs.read.frame_of.Tie as tie

@@ -1,6 +1,7 @@
 use Rattle.sheet.proofs.ReadLaws.{read-short, read-agents, read-lines}
 use Rattle.sheet.proofs.Agents.{known-agents}
-use Rattle.sheet.specs.Step.{readingOf, agentsAllowed}
+use Rattle.sheet.specs.Answer.{readingOf}
+use Rattle.sheet.specs.Step.{agentsAllowed}
 use borrow.Author.Tests.{not-true, not-false}
 use native.Mathlib.Omega.{arith}
 use mathlib.Core.Bool.{true}

@@ -1,35 +1,39 @@
 use Rattle.sheet.proofs.WriteLaws.{Put, put-start, put-more, put-end, step-left}
+use Rattle.sheet.specs.Step.{lineSize}
 use borrow.Author.Needs.{needs}
 use native.Mathlib.Omega.{arith}
 use lib.Seq.{length-take-le}
 use lib.ListN.{length}
 use mathlib.Core.Path.{sym}
-use Prim.Native.Nat.{_≤_, _+_, _*_}
+use Prim.Native.Nat.{_≤_, _+_}
 use Rattle.sheet.proofs.writer.put_steps.Statement.{statement}
 use Rattle.sheet.proofs.writer.put_steps.Tie as tie
 
 abbrev Inv-loop : tie.InvT-loop
-Inv-loop sheet agents steps text₀ rest₀ left₀ used₀ text rest left used =
+Inv-loop sheet agents steps text₀ line rest₀ left₀ used₀ text rest left used =
     Put agents sheet text₀ text rest steps left used
 
 abbrev μ-loop : tie.MeasureT-loop
-μ-loop sheet agents steps text₀ rest₀ left₀ used₀ text rest left used = left
+μ-loop sheet agents steps text₀ line rest₀ left₀ used₀ text rest left used = left
+
+line-size-requires : tie.Need-line-size-requires Inv-loop μ-loop
+line-size-requires c κs = c .before .before .pre .0
 
 loop-holds : tie.Need-loop-holds Inv-loop μ-loop
 loop-holds c =
-    let a = c .before .before .args in
-    put-start (a .agents) (a .steps) (a .sheet .now) (a .text .now) (c .before .before .pre .1) (c .before .before .pre .2)
+    let a = c .before .before .before .args in
+    put-start (a .agents) (a .steps) (a .sheet .now) (a .text .now) (c .before .before .before .pre .1) (c .before .before .before .pre .2)
 
--- in a turn
+-- in a turn there is a step left, and room for its line
 left-room : (c : tie.In-loop Inv-loop μ-loop)
-    → (c .before .before .before .before .args .agents ≤ length (c .before .loop .rest .now)) × (c .before .loop .used + (2 * c .before .before .before .before .args .agents + 5) ≤ length (c .before .loop .text))
+    → (c .before .before .before .before .before .args .agents ≤ length (c .before .loop .rest .now)) × (c .before .loop .used + lineSize (c .before .before .before .before .before .args .agents) ≤ length (c .before .loop .text))
 left-room c =
-    let a = c .before .before .before .before .args in
+    let a = c .before .before .before .before .before .args in
     let l = c .before .loop in
     step-left (a .agents) (a .steps) (a .sheet .now) (a .text .now) (l .text) (l .rest .now) (l .left) (l .used) (l .inv) (c .loop-test .taken)
 
 slice-aggregate-put-line : tie.Need-slice-aggregate-put-line Inv-loop μ-loop
-slice-aggregate-put-line c = sym (length-take-le (c .before .before .before .before .before .args .agents) (c .before .before .loop .rest .now) (left-room (c .before) .0))
+slice-aggregate-put-line c = sym (length-take-le (c .before .before .before .before .before .before .args .agents) (c .before .before .loop .rest .now) (left-room (c .before) .0))
 
 sub-put-line : tie.Need-sub-put-line Inv-loop μ-loop
 sub-put-line c = omega (arith, left-room (c .before) .1)
@@ -43,14 +47,8 @@ part-put-line-end c = search needs
 put-line-requires : tie.Need-put-line-requires Inv-loop μ-loop
 put-line-requires c κs = search needs
 
-mul-used : tie.Need-mul-used Inv-loop μ-loop
-mul-used c = omega (arith, left-room (c .before .before .before .before .before) .1)
-
 add-used : tie.Need-add-used Inv-loop μ-loop
-add-used c = omega (arith, left-room (c .before .before .before .before .before) .1)
-
-add-used-2 : tie.Need-add-used-2 Inv-loop μ-loop
-add-used-2 c = omega (arith, left-room (c .before .before .before .before .before) .1)
+add-used c = omega (arith, left-room (c .before .before .before .before .before) .1, c .before .before .before .before .before .before .before .line-size .ensures)
 
 sub-rest : tie.Need-sub-rest Inv-loop μ-loop
 sub-rest c = left-room (c .before .before .before .before .before) .0
@@ -69,16 +67,18 @@ loop-less c = omega arith
 
 loop-again : tie.Need-loop-again Inv-loop μ-loop
 loop-again c =
-    let a = c .before .before .before .before .before .before .before .before .before .before .args in
+    let a = c .before .before .before .before .before .before .before .before .before .before .before .args in
     let l = c .before .before .before .before .before .before .before .loop in
-    put-more (a .agents) (a .steps) (a .sheet .now) (a .text .now) (l .text) (l .rest .now) (l .left) (l .used) (l .inv) (c .before .before .before .put-line .last .1 .1 .0) (c .before .before .before .before .before .before .before .before .before .before .pre .0) (c .before .before .before .before .before .before .loop-test .taken) (c .before .before .before .put-line .ensures .1)
+    let s = c .before .before .before .before .before .before .before .before .line-size in
+    let p = c .before .before .before .put-line in
+    put-more (a .agents) (a .steps) (a .sheet .now) (a .text .now) (l .text) (l .rest .now) (l .left) (l .used) (l .inv) (p .last .1 .1 .0) (s .result) (s .ensures) (c .before .before .before .before .before .before .before .before .before .before .before .pre .0) (c .before .before .before .before .before .before .loop-test .taken) (p .ensures .1)
 
 same-length : tie.Need-same-length Inv-loop μ-loop
 same-length c = c .before .loop .inv .size
 
 returns : tie.Need-returns Inv-loop μ-loop
 returns c =
-    let a = c .before .before .before .before .args in
+    let a = c .before .before .before .before .before .args in
     let l = c .before .loop in
     put-end (a .agents) (a .steps) (a .sheet .now) (a .text .now) (l .text) (l .rest .now) (l .left) (l .used) (l .inv) (omega arith)
 
@@ -88,15 +88,14 @@ put-steps-spec =
     (tie.spec
     Inv-loop
     μ-loop
+    line-size-requires
     loop-holds
     slice-aggregate-put-line
     sub-put-line
     part-put-line-start
     part-put-line-end
     put-line-requires
-    mul-used
     add-used
-    add-used-2
     sub-rest
     part-rest-start
     part-rest-end

@@ -1,0 +1,40 @@
+-- Answers taken apart.
+use Prim.Native.Nat.{ℕ}
+use native.Mathlib.Omega.{arith}
+use mathlib.Core.Path.{_≡_, refl, ap}
+use mathlib.Core.Bool.{Bool, true, false}
+use Rattle.bmap.specs.Plain.{both}
+use Rattle.bmap.specs.Refusal.{Answer, got, refused, need, then}
+
+module _ {A B C : Type 0} where
+  pub then-then : (y : Answer A) (f : A → B) (g : B → Answer C) → then (then y (λ a. got (f a))) g ≡ then y (λ a. g (f a))
+  then-then (got a) f g = refl
+  then-then (refused n) f g = refl
+
+pub need-refused : {A : Type 0} (b : Bool) (n : ℕ) → need {A = A} b n (refused n) ≡ refused n
+need-refused true n = refl
+need-refused false n = refl
+
+pub then-got : {A : Type 0} (y : Answer A) → then y (λ l. got l) ≡ y
+then-got (got l) = refl
+then-got (refused n) = refl
+
+pub need-got : {A : Type 0} (b : Bool) (n : ℕ) (y : Answer A) (a : A) → need b n y ≡ got a → (b ≡ true) × (y ≡ got a)
+need-got true n y a e = (refl, e)
+need-got false n y a e = absurd (let z : _≡_ {A = ℕ} 0 1 = cc in omega arith)
+
+pub then-got-inv : {A B : Type 0} (y : Answer A) (f : A → Answer B) (b : B) → then y f ≡ got b → (a : A) × (y ≡ got a) × (f a ≡ got b)
+then-got-inv (got a) f b e = (a, refl, e)
+then-got-inv (refused n) f b e = absurd (let z : _≡_ {A = ℕ} 0 1 = cc in omega arith)
+
+pub then-refused : {A B : Type 0} (y : Answer A) (f : A → B) (n : ℕ) → then y (λ x. got (f x)) ≡ refused n → y ≡ refused n
+then-refused (got x) f n q = absurd (let z : _≡_ {A = ℕ} 0 1 = cc in omega arith)
+then-refused (refused m) f n q = let z : m ≡ n = cc in ap refused z
+
+pub both-true : (a b : Bool) → both a b ≡ true → (a ≡ true) × (b ≡ true)
+both-true true b e = (refl, e)
+both-true false b e = absurd (let z : _≡_ {A = ℕ} 0 1 = cc in omega arith)
+
+pub both-false : (a : Bool) → both a false ≡ false
+both-false true = refl
+both-false false = refl

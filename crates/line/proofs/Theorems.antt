@@ -1,0 +1,77 @@
+-- An answer is the only one that keeps its promise.
+use Prim.Native.Nat.{ℕ, _-_}
+use mathlib.Core.Path.{_≡_, refl, sym, ap, _∙_}
+use mathlib.Core.List.{List, [], _∷_}
+use lib.ListN.{getD}
+use Rattle.bmap.specs.Refusal.{numberOf}
+use Rattle.bmap.specs.declared.refusal.Refusal.{Refusal}
+use Rattle.bmap.specs.declared.refusal.Refusal.the-variants.{BadLine, BadCount, BadKind, BadPayload, TooMany, Repeated, Incomplete, NotWhole, TooLong, NoRoom, NoStep, NothingStands, NothingUndone, LogFull, NotDomain, OtherAgents, NotSession, LongInput}
+use Rattle.line.specs.Read.{Taken, said}
+use Rattle.line.specs.Frame.{sizeOf}
+use Rattle.line.specs.Write.{answerOf}
+use Rattle.line.specs.declared.read.FirstLine.{FirstLine}
+use Rattle.line.specs.declared.read.FirstLine.the-variants as first
+use Rattle.line.specs.declared.frame.FrameAt.{FrameAt}
+use Rattle.line.specs.declared.frame.FrameAt.the-variants as found
+use Rattle.line.specs.declared.write.Written.{Written}
+use Rattle.line.specs.declared.write.Written.the-variants as put
+
+-- ---- a refusal's number
+
+-- the refusals by their number
+refusals : List Refusal
+refusals =
+    BadLine ∷ BadCount ∷ BadKind ∷ BadPayload ∷ TooMany ∷ Repeated ∷ Incomplete ∷ NotWhole ∷ TooLong ∷ NoRoom ∷ NoStep ∷ NothingStands ∷ NothingUndone ∷ LogFull ∷ NotDomain ∷ OtherAgents ∷ NotSession ∷ LongInput ∷ []
+
+of-number : (r : Refusal) → getD refusals (numberOf r - 1) BadLine ≡ r
+unfolding refusals
+of-number BadLine = refl
+of-number BadCount = refl
+of-number BadKind = refl
+of-number BadPayload = refl
+of-number TooMany = refl
+of-number Repeated = refl
+of-number Incomplete = refl
+of-number NotWhole = refl
+of-number TooLong = refl
+of-number NoRoom = refl
+of-number NoStep = refl
+of-number NothingStands = refl
+of-number NothingUndone = refl
+of-number LogFull = refl
+of-number NotDomain = refl
+of-number OtherAgents = refl
+of-number NotSession = refl
+of-number LongInput = refl
+
+pub same-refusal : (a b : Refusal) → numberOf a ≡ numberOf b → a ≡ b
+same-refusal a b e = sym (of-number a) ∙ ap (λ (n : ℕ). getD refusals (n - 1) BadLine) e ∙ of-number b
+
+-- ---- the answers
+
+pub same-line : (a b : FirstLine) → said a ≡ said b → a ≡ b
+same-line first.Nothing first.Nothing e = refl
+same-line first.Nothing (first.Refused r) e = cc
+same-line first.Nothing (first.Frame n k) e = cc
+same-line (first.Refused r) first.Nothing e = cc
+same-line (first.Refused r) (first.Refused q) e = let n : numberOf r ≡ numberOf q = cc in ap first.Refused (same-refusal r q n)
+same-line (first.Refused r) (first.Frame n k) e = cc
+same-line (first.Frame n k) first.Nothing e = cc
+same-line (first.Frame n k) (first.Refused r) e = cc
+same-line (first.Frame n k) (first.Frame m j) e =
+    let t : _≡_ {A = Taken} (record { bytes = n; characters = k }) (record { bytes = m; characters = j }) = cc in
+    let p : n ≡ m = ap (λ (x : Taken). x .bytes) t in
+    let q : k ≡ j = ap (λ (x : Taken). x .characters) t in
+    cc
+
+pub same-frame : (a b : FrameAt) → sizeOf a ≡ sizeOf b → a ≡ b
+same-frame found.Nothing found.Nothing e = refl
+same-frame found.Nothing (found.Frame n) e = cc
+same-frame (found.Frame n) found.Nothing e = cc
+same-frame (found.Frame n) (found.Frame m) e = cc
+
+pub same-written : (a b : Written) → answerOf a ≡ answerOf b → a ≡ b
+same-written (put.Wrote n) (put.Wrote m) e = cc
+same-written (put.Wrote n) (put.Refused r) e = cc
+same-written (put.Refused r) (put.Wrote n) e = cc
+same-written (put.Refused r) (put.Refused q) e = let n : numberOf r ≡ numberOf q = cc in ap put.Refused (same-refusal r q n)

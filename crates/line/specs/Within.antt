@@ -1,0 +1,32 @@
+-- What the functions within `read_line` promise each other.
+use Prim.Native.Nat.{ℕ, _+_, _*_, _<_, _≤_}
+use mathlib.Core.Path.{_≡_}
+use mathlib.Core.List.{List}
+use lib.Dec.{eqb}
+use lib.ListN.{length, getD}
+use Rattle.bmap.specs.Plain.{if-else}
+use Rattle.bmap.specs.Refusal.{Answer, got, refused}
+use Rattle.bmap.specs.Line.{digit}
+use Rattle.bmap.specs.declared.refusal.Refusal.the-variants.{BadLine, BadCount}
+use Rattle.line.specs.Read.{frameSize, spelt}
+use Rattle.line.specs.declared.read.FirstLine.{FirstLine}
+use Rattle.line.specs.declared.read.FirstLine.the-variants.{Refused, Frame}
+
+-- a digit's value, 256 where the character is none
+abbrev pub worth : Answer ℕ → ℕ
+worth (got d) = d
+worth (refused n) = 256
+
+-- the byte that two digits spell, above 255 where one is none
+unfoldable pub pairOf : ℕ → ℕ → ℕ
+pairOf a b = worth (digit a) * 16 + worth (digit b)
+
+-- the text begins with n pairs of digits, as many as stand there or as a frame has bytes at most; the second byte is a count
+pub record Begins (text : List ℕ) (n count : ℕ) : Type 0 where
+  pub some : 0 < length text
+  pub pairs : n ≡ length (spelt frameSize text)
+  pub second : 2 ≤ n → count ≡ getD (spelt frameSize text) 1 0
+
+-- what n bytes before a LF come to, of which the second says how many follow it
+unfoldable pub frameOf : ℕ → ℕ → FirstLine
+frameOf n count = if-else (eqb n 0) (Refused BadLine) (if-else (eqb (count + 2) n) (Frame n (2 * n + 1)) (Refused BadCount))

@@ -1,0 +1,210 @@
+-- There and back: what is written of the names that were read is the text that was read, and what is read of the lines that
+-- were written is the sheet that was written.
+use Prim.Native.Nat.{ℕ, zero, suc, _+_, _-_, _*_, _/_, _%_, _≤_, _<_}
+use native.Mathlib.Nat.{zero-mul, mul-mod-left, mul-div-cancel}
+use native.Mathlib.Omega.{arith}
+use mathlib.Core.Path.{_≡_, refl, sym, ap, _∙_}
+use mathlib.Core.Bool.{Bool, true, false}
+use mathlib.Core.List.{List, [], _∷_, _++_, map, append-nil, append-assoc}
+use lib.Dec.{eqb, leb, ltb}
+use lib.ListN.{length, take, drop, replicate, length-append, length-drop, take-append-drop}
+use lib.Seq.{take-at, drop-at, length-take-le}
+use borrow.Author.Tests.{ltb-true, leb-true, leb-false, eqb-true, eqb-false, lt-ltb, le-leb, eq-eqb}
+use Rattle.bmap.specs.Plain.{flat}
+use Rattle.bmap.specs.Limits.{mostAgents, mostSteps, sheetSize}
+use Rattle.bmap.specs.Refusal.{Answer, got, refused, need, then}
+use Rattle.bmap.specs.Line.{Line, Frame, linesOf, decode, lineFor}
+use Rattle.bmap.specs.Domain.{Names}
+use Rattle.bmap.specs.Accept.{Reading, read, refusedAt, atLine}
+use Rattle.bmap.specs.Buffer.{Filled, Written, over, padded, written}
+use Rattle.bmap.specs.Sheet.{stepOf, stepsFrom, stepsIn, readSheet, rows, stepLine, writeSheet}
+use Rattle.bmap.specs.Theorems.{SheetLinesReturn, SheetReturns}
+use Rattle.line.proofs.Lists.{Bytes, bytes-are, bytes-take, bytes-drop}
+use Rattle.line.proofs.Answers.{need-got, then-got-inv}
+use Rattle.line.proofs.Lines.{no-lines}
+use Rattle.line.proofs.HexLaws.{decode-line, lines-line, text-line}
+use Rattle.sheet.specs.Step.{agentsAllowed, outcome, linesIn}
+use Rattle.sheet.proofs.Agents.{known-agents}
+use Rattle.sheet.proofs.WriteLaws.{product-suc, whole-steps, written-is, write-agents, write-not-whole, write-too-long}
+
+-- ---- rows
+
+-- each step has a name for each agent
+pub data Rows (agents : ℕ) : List Names → Type 0 where
+  none : Rows agents []
+  more : {names : Names} {steps : List Names} → length names ≡ agents → Rows agents steps → Rows agents (names ∷ steps)
+
+pub length-flat : (agents : ℕ) {steps : List Names} → Rows agents steps → length (flat steps) ≡ length steps * agents
+unfolding flat
+length-flat agents none = sym (zero-mul agents)
+length-flat agents (more {names} {steps} e r) =
+    length-append names (flat steps) ∙ rw (e, length-flat agents r) (sym (product-suc (length steps) agents))
+
+pub rows-flat : (agents : ℕ) {steps : List Names} → Rows agents steps → rows agents (length steps) (flat steps) ≡ steps
+unfolding flat rows
+rows-flat agents none = refl
+rows-flat agents (more {names} {steps} e r) = rw (take-at names (flat steps) agents e, drop-at names (flat steps) agents e, rows-flat agents r)
+
+-- and of a sheet's bytes
+pub flat-rows : (agents n : ℕ) (s : List ℕ) → length s ≡ n * agents → flat (rows agents n s) ≡ s
+unfolding flat rows
+flat-rows agents zero [] e = refl
+flat-rows agents zero (x ∷ s) e = absurd (omega (arith, zero-mul agents))
+flat-rows agents (suc n) s e =
+    let m : suc n * agents ≡ agents + n * agents = product-suc n agents in
+    rw (flat-rows agents n (drop agents s) (length-drop agents s ∙ omega arith)) (take-append-drop agents s)
+
+pub length-rows : (agents n : ℕ) (s : List ℕ) → length (rows agents n s) ≡ n
+unfolding rows
+length-rows agents zero s = refl
+length-rows agents (suc n) s = ap suc (length-rows agents n (drop agents s))
+
+-- ---- the text that was read
+
+-- what lines that are all accepted say: later steps, each a row, and the text is their lines
+pub record There (agents : ℕ) (text : List ℕ) (done steps : List Names) : Type 0 where
+  pub later : List Names
+  pub all : steps ≡ done ++ later
+  pub rows : Rows agents later
+  pub text-is : text ≡ flat (map stepLine later)
+  pub few : length done ≤ mostSteps → length steps ≤ mostSteps
+
+at-line-read : {A B : Type 0} (n : ℕ) (y : Answer A) (k : A → Reading B) (x : B) → atLine n y k ≡ read x → (a : A) × (y ≡ got a) × (k a ≡ read x)
+at-line-read n (got a) k x e = (a, refl, e)
+at-line-read n (refused m) k x e = absurd (let z : _≡_ {A = ℕ} 0 1 = cc in omega arith)
+
+-- what a step says of its frame
+step-is : (agents steps : ℕ) (f : Frame) (names : Names) → stepOf agents steps f ≡ got names
+    → (f ≡ record { kind = 0xB1; payload = names }) × (length names ≡ agents) × (steps < mostSteps)
+unfolding stepOf
+step-is agents steps f names e =
+    let a = need-got (eqb (f .kind) 0xB1) 3 (need (ltb steps mostSteps) 9 (need (eqb (length (f .payload)) agents) 8 (got (f .payload)))) names e in
+    let b = need-got (ltb steps mostSteps) 9 (need (eqb (length (f .payload)) agents) 8 (got (f .payload))) names (a .1) in
+    let c = need-got (eqb (length (f .payload)) agents) 8 (got (f .payload)) names (b .1) in
+    let k : f .kind ≡ 0xB1 = eqb-true (f .kind) 0xB1 (a .0) in
+    let p : f .payload ≡ names = cc (c .1) in
+    (rw (← k, ← p) refl, rw (← p) (eqb-true (length (f .payload)) agents (c .0)), ltb-true steps mostSteps (b .0))
+
+there : (agents : ℕ) (ls : List Line) (text : List ℕ) (done steps : List Names) → linesOf text ≡ ls → stepsFrom agents done (map decode ls) ≡ read steps → There agents text done steps
+unfolding stepsFrom flat
+there agents [] text done steps el e =
+    let s : done ≡ steps = cc in
+    record { later = []; all = sym s ∙ sym (append-nil done); rows = none; text-is = no-lines text el; few = λ h. rw (← s) h }
+there agents (l ∷ ls) text done steps el e =
+    let (names, en, ek) = at-line-read (suc (length done)) (then (decode l) (stepOf agents (length done))) (λ names. stepsFrom agents (done ++ (names ∷ [])) (map decode ls)) steps e in
+    let (f, ef, es) = then-got-inv (decode l) (stepOf agents (length done)) names en in
+    let (fr, size, room) = step-is agents (length done) f names es in
+    let (r, et, er) = text-line text l ls f el ef in
+    let t = there agents ls r (done ++ (names ∷ [])) steps (sym er) ek in
+    record {
+      later = names ∷ t .later;
+      all = t .all ∙ append-assoc done (names ∷ []) (t .later);
+      rows = more size (t .rows);
+      text-is = et ∙ ap (λ (x : Frame). lineFor x ++ r) fr ∙ ap (λ (x : List ℕ). stepLine names ++ x) (t .text-is);
+      few = λ h. t .few (rw (length-append done (names ∷ [])) (omega arith));
+    }
+
+-- what a text whose steps are read says
+stepped : (agents : ℕ) (text : List ℕ) (steps : List Names) → stepsIn agents text ≡ read steps → (agentsAllowed agents ≡ true) × (outcome agents text ≡ read steps)
+unfolding stepsIn
+stepped agents text steps e = go (agentsAllowed agents) refl
+  where
+    go : (b : Bool) → agentsAllowed agents ≡ b → (agentsAllowed agents ≡ true) × (outcome agents text ≡ read steps)
+    go true q = (q, simp q at e)
+    go false q = absurd (let h : refusedAt 4 0 ≡ read steps = simp q at e in let z : _≡_ {A = ℕ} 0 1 = cc in omega arith)
+
+-- what is left of them
+names-left : (agents : ℕ) (text buffer : List ℕ) (steps : List Names) → stepsIn agents text ≡ read steps → sheetSize ≤ length buffer
+    → readSheet agents text buffer ≡ record { answer = read (length steps); buffer = padded (length buffer) (flat steps) }
+unfolding readSheet
+names-left agents text buffer steps e h = simp (le-leb sheetSize (length buffer) h, e)
+
+-- the lines of rows
+written-rows : (agents : ℕ) (steps : List Names) (out : List ℕ) → agentsAllowed agents ≡ true → Rows agents steps → length steps ≤ mostSteps
+    → writeSheet (flat steps) agents out ≡ written out (got (flat (map stepLine steps)))
+unfolding linesIn
+written-rows agents steps out a r h =
+    let l : length (flat steps) ≡ length steps * agents = length-flat agents r in
+    let n : length (flat steps) / agents ≡ length steps = ap (λ (x : ℕ). x / agents) l ∙ mul-div-cancel (length steps) (known-agents agents a .0) in
+    let m : length (flat steps) % agents ≡ 0 = ap (λ (x : ℕ). x % agents) l ∙ mul-mod-left (length steps) agents in
+    written-is (flat steps) out agents a m (rw n h)
+    ∙ rw (n, rows-flat agents r) refl
+
+-- THEOREM. Where the reader accepts a text, the writer gives that text for the names that were left, into any text that has room,
+-- and nothing after it is touched.
+pub sheet-lines-return : SheetLinesReturn
+sheet-lines-return agents lines buffer text steps e size room =
+    let x = stepped agents lines steps e in
+    let t = there agents (linesOf lines) lines [] steps refl (x .1) in
+    let r : Rows agents steps = rw (t .all) (t .rows) in
+    let names : take (length steps * agents) (readSheet agents lines buffer .buffer) ≡ flat steps
+    = ap (λ (f : Filled). take (length steps * agents) (f .buffer)) (names-left agents lines buffer steps e size)
+    ∙ take-at (flat steps) (replicate (length buffer - length (flat steps)) 0) (length steps * agents) (length-flat agents r) in
+    let same : flat (map stepLine steps) ≡ lines = ap (λ (s : List Names). flat (map stepLine s)) (t .all) ∙ sym (t .text-is) in
+    rw names (written-rows agents steps text (x .0) r (t .few (omega arith)) ∙ rw same (simp (le-leb (length lines) (length text) room)))
+
+-- ---- the sheet that was written
+
+-- the lines of a sheet's steps are read as those steps
+back : (agents n : ℕ) (s : List ℕ) (done : List Names) → agents ≤ mostAgents → length s ≡ n * agents → Bytes s → length done + n ≤ mostSteps
+    → stepsFrom agents done (map decode (linesOf (linesIn agents n s))) ≡ read (done ++ rows agents n s)
+unfolding linesIn rows flat stepsFrom stepOf
+back agents zero s done k e h m = unfold linesOf in ap read (sym (append-nil done))
+back agents (suc n) s done k e h m =
+    let names = take agents s in
+    let rest = drop agents s in
+    let w : suc n * agents ≡ agents + n * agents = product-suc n agents in
+    let l : length names ≡ agents = length-take-le agents s (omega arith) in
+    let lr : length rest ≡ n * agents = length-drop agents s ∙ omega arith in
+    let d = decode-line (record { kind = 0xB1; payload = names }) (omega arith) (bytes-take agents s h) (omega arith) in
+    rw (lines-line (record { kind = 0xB1; payload = names }) (linesIn agents n rest), d)
+    (simp (lt-ltb (length done) mostSteps (omega arith), eq-eqb (length names) agents l)
+    (back agents n rest (done ++ (names ∷ [])) k lr (bytes-drop agents s h) (rw (length-append done (names ∷ [])) (omega arith))
+    ∙ ap read (append-assoc done (names ∷ []) (rows agents n rest))))
+
+-- what a writer that wrote says
+pub record Wrote (agents : ℕ) (sheet text : List ℕ) (n : ℕ) : Type 0 where
+  pub allowed : agentsAllowed agents ≡ true
+  pub whole : length sheet % agents ≡ 0
+  pub few : length sheet / agents ≤ mostSteps
+  pub size : n ≡ length (linesIn agents (length sheet / agents) sheet)
+  pub left : writeSheet sheet agents text .buffer ≡ over (linesIn agents (length sheet / agents) sheet) text
+
+written-got : (text lines : List ℕ) (n : ℕ) → written text (got lines) .answer ≡ got n → (n ≡ length lines) × (written text (got lines) .buffer ≡ over lines text)
+written-got text lines n e = go (leb (length lines) (length text)) refl
+  where
+    go : (b : Bool) → leb (length lines) (length text) ≡ b → (n ≡ length lines) × (written text (got lines) .buffer ≡ over lines text)
+    go true q = let h : got (length lines) ≡ got n = simp q at e in let k : n ≡ length lines = cc in (k, simp q)
+    go false q = absurd (let h : refused 10 ≡ got n = simp q at e in let z : _≡_ {A = ℕ} 0 1 = cc in omega arith)
+
+wrote : (agents : ℕ) (sheet text : List ℕ) (n : ℕ) → writeSheet sheet agents text .answer ≡ got n → Wrote agents sheet text n
+wrote agents sheet text n e = go (agentsAllowed agents) refl (eqb (length sheet % agents) 0) refl (leb (length sheet / agents) mostSteps) refl
+  where
+    refuses : (m : ℕ) → writeSheet sheet agents text .answer ≡ refused m → ⊥
+    refuses m h = let k : got n ≡ refused m = sym e ∙ h in let z : _≡_ {A = ℕ} 0 1 = cc in omega arith
+
+    go : (p : Bool) → agentsAllowed agents ≡ p → (q : Bool) → eqb (length sheet % agents) 0 ≡ q → (r : Bool) → leb (length sheet / agents) mostSteps ≡ r → Wrote agents sheet text n
+    go true p true q true r =
+        let m = eqb-true (length sheet % agents) 0 q in
+        let k = leb-true (length sheet / agents) mostSteps r in
+        let w = written-is sheet text agents p m k in
+        let g = written-got text (linesIn agents (length sheet / agents) sheet) n (sym (ap (λ (x : Written). x .answer) w) ∙ e) in
+        record { allowed = p; whole = m; few = k; size = g .0; left = ap (λ (x : Written). x .buffer) w ∙ g .1 }
+    go true p true q false r = absurd (refuses 9 (sym (write-too-long sheet text agents p (eqb-true (length sheet % agents) 0 q) (leb-false (length sheet / agents) mostSteps r) .0)))
+    go true p false q t r = absurd (refuses 8 (sym (write-not-whole sheet text agents p (eqb-false (length sheet % agents) 0 q) .0)))
+    go false p s q t r = absurd (refuses 4 (sym (write-agents sheet text agents p .0)))
+
+-- THEOREM. Where the writer writes a sheet of bytes, the reader takes what was written, into any buffer that is long enough, as that
+-- many steps and the same bytes, zeros after.
+pub sheet-returns : SheetReturns
+unfolding stepsIn
+sheet-returns agents sheet text buffer n bytes e size =
+    let w = wrote agents sheet text n e in
+    let steps = length sheet / agents in
+    let lines = linesIn agents steps sheet in
+    let l : length sheet ≡ steps * agents = whole-steps sheet text agents (w .whole) in
+    let t : take n (writeSheet sheet agents text .buffer) ≡ lines = ap (take n) (w .left) ∙ take-at lines (drop (length lines) text) n (sym (w .size)) in
+    let o : outcome agents lines ≡ read (rows agents steps sheet)
+    = back agents steps sheet [] (known-agents agents (w .allowed) .1) l (bytes-are sheet bytes) (omega (arith, w .few)) in
+    let s : stepsIn agents lines ≡ read (rows agents steps sheet) = simp (w .allowed) o in
+    rw t (names-left agents lines buffer (rows agents steps sheet) s size ∙ rw (length-rows agents steps sheet, flat-rows agents steps sheet l) refl)

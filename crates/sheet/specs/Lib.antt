@@ -1,0 +1,4 @@
+-- What the public functions answer.
+pub mod Answer
+-- What the functions within them do.
+pub mod Step

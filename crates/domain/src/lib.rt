@@ -1,0 +1,4 @@
+// Domains: the check of one frame, the acceptance of a store and its index. It stands on `law` for the trees in a payload, on
+// `line` for lines and frames and on `index` for what a judge reads; judge, session and program stand on it.
+mod check;
+mod payload;

@@ -8,7 +8,7 @@ use mathlib.Core.Bool.{Bool, true, false}
 use mathlib.Core.List.{List}
 use lib.Dec.{eqb, leb, ltb}
 use lib.IntN.{ℤ}
-use lib.ListN.{length}
+use lib.ListN.{length, set}
 use lib.Signed.{leZ, mag}
 use mir.Syntax.{w16}
 use mir.Val.{toZ, ofZ}
@@ -109,3 +109,7 @@ module _ (n : Counts) (p : List ℕ) where
     pub entry-named : (byte p 0 ≡ 0 → ⊥) → maskFits n (wordAt p 1) ≡ entryFits n p
     unfolding entryFits
     entry-named e = rw (eq-eqb (length p) 3 three, lt-ltb 0 (byte p 0) (omega arith))
+
+-- a signed element that is stored
+pub set-back : (l : List ℤ) (i : ℕ) {x v : ℤ} → mag x < 32768 → x ≡ v → set l i (toZ w16 (ofZ w16 x)) ≡ set l i v
+set-back l i h e = ap (set l i) (back h ∙ e)

@@ -5,12 +5,14 @@ use mathlib.Core.List.{List, map}
 use mathlib.Core.Option.{Option, none, some}
 use lib.ListN.{getD}
 use Rattle.bmap.specs.Plain.{numbers}
-use Rattle.bmap.specs.Refusal.{Answer, got, refused, need, known, then}
+use Rattle.bmap.specs.Refusal.{Answer, got, refused, need, known, then, numberOf}
 use Rattle.bmap.specs.Line.{Frame}
 use Rattle.bmap.specs.Domain.{Entry}
 use Rattle.bmap.specs.Payload.{Item, itemIn}
 use Rattle.bmap.specs.Accept.{inOrder, room, fresh}
 use Rattle.bmap.specs.declared.limits.Counts.{Counts}
+use Rattle.domain.specs.declared.check.Check.{Check}
+use Rattle.domain.specs.declared.check.Check.the-variants.{Passed, Refused}
 
 abbrev pub isSome : {A : Type 0} → Option A → Bool
 isSome none = false
@@ -30,3 +32,12 @@ checkedOn latest n earlier f =
     (need (room n (f .kind)) 5
     (then (known 4 (itemIn n (f .kind) (f .payload))) (λ item.
     need (fresh earlier f) 6 (got item))))
+
+-- the refusal's number, where there is one
+abbrev pub refusedIn : {A : Type 0} → Answer A → Option ℕ
+refusedIn (got a) = none
+refusedIn (refused n) = some n
+
+abbrev pub refusalOf : Check → Option ℕ
+refusalOf Passed = none
+refusalOf (Refused r) = some (numberOf r)

@@ -1,1 +1,3 @@
+pub mod Stub
 pub mod Check
+pub mod Found

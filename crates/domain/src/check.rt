@@ -1,5 +1,6 @@
 // The check of one frame after those before it: refusals 3, 5, 4, 6, in this order.
 use crate::payload::byte_at;
+use crate::payload::payload_fits;
 use crate::payload::word_at;
 use bmap::Counts;
 use bmap::Refusal;
@@ -9,7 +10,7 @@ ghost use Rattle.bmap.specs.Plain.{any};
 ghost use Rattle.bmap.specs.Limits.{mostEntries};
 ghost use Rattle.bmap.specs.Payload.{entryIn};
 ghost use Rattle.bmap.specs.Accept.{inOrder, room, alike};
-ghost use Rattle.domain.specs.Check.{entriesOf};
+ghost use Rattle.domain.specs.Check.{entriesOf, checkedOn, refusalOf, refusedIn};
 
 // "A domain's kinds never decrease from line to line": A1 to A9.
 fn in_order(latest: u8, kind: u8) -> bool
@@ -53,4 +54,39 @@ fn repeated(n: usize, names: &[u8; Counts::ENTRIES], crews: &[u16; Counts::ENTRI
         i += 1;
     }
     false
+}
+
+pub enum Check {
+    Passed,
+    Refused(Refusal),
+}
+
+// The frames before: the latest kind, their counts, and the names and crews of their entries.
+pub(crate) fn check_frame(
+    latest: u8,
+    n: Counts,
+    names: &[u8; Counts::ENTRIES],
+    crews: &[u16; Counts::ENTRIES],
+    kind: u8,
+    p: &[u8],
+) -> Check
+    requires { ⌜ n .entries ≤ mostEntries ⌝ }
+    ensures { λ r. ⌜ refusalOf r ≡ refusedIn (checkedOn latest n (entriesOf (n .entries) (now (names .entry)) (now (crews .entry))) (record { kind = kind; payload = now (p .entry) })) ⌝ }
+{
+    if !in_order(latest, kind) {
+        return Check::Refused(Refusal::BadKind);
+    }
+    if !room_for(n, kind) {
+        return Check::Refused(Refusal::TooMany);
+    }
+    if !payload_fits(n, kind, p) {
+        return Check::Refused(Refusal::BadPayload);
+    }
+    if kind != 0xA4 {
+        return Check::Passed;
+    }
+    if repeated(n.entries, names, crews, p) {
+        return Check::Refused(Refusal::Repeated);
+    }
+    Check::Passed
 }

@@ -1,4 +1,10 @@
 // Domains: the check of one frame, the acceptance of a store and its index. It stands on `law` for the trees in a payload, on
 // `line` for lines and frames and on `index` for what a judge reads; judge, session and program stand on it.
 mod check;
+mod found;
+mod note;
 mod payload;
+mod stub;
+
+pub use found::Found;
+pub use found::index_of;

@@ -1,9 +1,11 @@
 // Whether a payload is as its kind describes it: what refusal 4 asks.
 use bmap::Counts;
+use crate::stub::law_fits;
 ghost use mathlib.Core.Path.{_≡_};
 ghost use Prim.Native.Nat.{_<_};
 ghost use lib.Signed.{leZ};
-ghost use Rattle.bmap.specs.Payload.{byte, wordAt, valueAt, maskFits, agentsFit, fluentFits, knowledgeFits, entryFits};
+ghost use Rattle.bmap.specs.Payload.{byte, wordAt, valueAt, maskFits, agentsFit, fluentFits, knowledgeFits, entryFits, itemIn};
+ghost use Rattle.domain.specs.Check.{isSome};
 
 pub(crate) fn byte_at(p: &[u8], i: usize) -> u8
     ensures { λ r. ⌜ r ≡ byte (now (p .entry)) i ⌝ }
@@ -96,4 +98,16 @@ fn entry_fits(n: Counts, p: &[u8]) -> bool
         return false;
     }
     mask_fits(n, word_at(p, 1))
+}
+
+pub(crate) fn payload_fits(n: Counts, kind: u8, p: &[u8]) -> bool
+    ensures { λ r. ⌜ r ≡ isSome (itemIn n kind (now (p .entry))) ⌝ }
+{
+    match kind {
+        0xA1 => agents_fit(p),
+        0xA2 => fluent_fits(p),
+        0xA3 => knowledge_fits(n, p),
+        0xA4 => entry_fits(n, p),
+        _ => law_fits(n, kind, p),
+    }
 }

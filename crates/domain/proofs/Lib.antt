@@ -1,4 +1,5 @@
 pub mod PayloadLaws
+pub mod LawLaws
 pub mod CheckLaws
 pub mod Rows
 pub mod Passed

@@ -2,9 +2,9 @@
 // `line` for lines and frames and on `index` for what a judge reads; judge, session and program stand on it.
 mod check;
 mod found;
+mod laws;
 mod note;
 mod payload;
-mod stub;
 
 pub use found::Found;
 pub use found::index_of;

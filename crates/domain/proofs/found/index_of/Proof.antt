@@ -13,7 +13,7 @@ use Rattle.domain.proofs.note.note_knowledge.Reads as note-knowledge-re
 use Rattle.domain.proofs.note.note_law.Reads as note-law-reads
 use Rattle.domain.proofs.note.note_ready.Reads as note-ready-reads
 use Rattle.domain.proofs.payload.byte_at.Reads as byte-at-reads
-use Rattle.domain.proofs.stub.frame_at.Reads as frame-at-reads
+use Rattle.line.proofs.frame_at.Reads as frame-at-reads
 
 abbrev Inv-loop : tie.InvT-loop
 Inv-loop store latest₀ n₀ lowest₀ highest₀ start₀ known₀ knowers₀ names₀ crews₀ laws₀ ready₀ at₀ latest n lowest highest start known knowers names crews laws ready at =

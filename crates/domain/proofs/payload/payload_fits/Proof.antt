@@ -10,7 +10,6 @@ use Rattle.domain.proofs.payload.agents_fit.Reads as agents-fit-reads
 use Rattle.domain.proofs.payload.entry_fits.Reads as entry-fits-reads
 use Rattle.domain.proofs.payload.fluent_fits.Reads as fluent-fits-reads
 use Rattle.domain.proofs.payload.knowledge_fits.Reads as knowledge-fits-reads
-use Rattle.domain.proofs.stub.law_fits.Reads as law-fits-reads
 
 agents-fit-requires : tie.Need-agents-fit-requires
 agents-fit-requires c κs = search needs

@@ -8,7 +8,7 @@ use mathlib.Core.List.{List, [], _∷_, map}
 use lib.Dec.{eqb, leb, ltb}
 use lib.ListN.{length, getD}
 use mathlib.Core.Option.{Option, none, some}
-use borrow.Author.Tests.{ltb-true, lt-leb, le-leb, eq-eqb, ne-eqb}
+use borrow.Author.Tests.{ltb-true, eqb-true, lt-leb, le-leb, eq-eqb, ne-eqb}
 use Rattle.bmap.specs.Plain.{both, either, any, all, numbers}
 use Rattle.bmap.specs.Refusal.{Answer, got, refused, need, known, then}
 use Rattle.bmap.specs.Line.{Frame}
@@ -41,6 +41,10 @@ module _ (n : Counts) (kind : ℕ) where
   room-law a b c d = simp (ne-eqb kind 0xA1 a, ne-eqb kind 0xA2 b, ne-eqb kind 0xA3 c, ne-eqb kind 0xA4 d)
 
   module _ (e : room n kind ≡ true) where
+    pub room-agents : kind ≡ 0xA1 → n .agents ≡ 0
+    unfolding room
+    room-agents q = eqb-true _ _ (rw q at e)
+
     pub room-fluents : kind ≡ 0xA2 → n .fluents < 32
     unfolding room
     room-fluents q = ltb-true _ _ (rw q at e)

@@ -3,4 +3,7 @@ pub mod LawLaws
 pub mod CheckLaws
 pub mod Rows
 pub mod Passed
+pub mod Stands
+pub mod Gate
 pub mod FoundLaws
+pub mod Held

@@ -85,7 +85,7 @@ row-back f size l d i h = row-at size (f d) (map f l) (f d) i (omega (arith, len
 
 -- ---- the numbers from a place on
 
-pub numbers-back : {A : Type 0} (f : ℕ → A) (d : A) (l : List A) (j : ℕ) → ((i : ℕ) → i < length l → f (j + i) ≡ getD l i d) → map f (numbers j (length l)) ≡ l
+numbers-back : {A : Type 0} (f : ℕ → A) (d : A) (l : List A) (j : ℕ) → ((i : ℕ) → i < length l → f (j + i) ≡ getD l i d) → map f (numbers j (length l)) ≡ l
 unfolding numbers
 numbers-back f d [] j h = refl
 numbers-back f d (a ∷ l) j h =
@@ -93,6 +93,10 @@ numbers-back f d (a ∷ l) j h =
     let e : f j ≡ a = ap f (sym z) ∙ h 0 (omega arith) in
     ap (λ b. b ∷ map f (numbers (suc j) (length l))) e
     ∙ ap (λ r. a ∷ r) (numbers-back f d l (suc j) (λ i k. let s : suc j + i ≡ j + suc i = omega arith in ap f s ∙ h (suc i) (omega arith)))
+
+-- a list is read back number by number
+pub numbers-all : {A : Type 0} (f : ℕ → A) (d : A) (l : List A) → ((i : ℕ) → i < length l → f i ≡ getD l i d) → map f (numbers 0 (length l)) ≡ l
+numbers-all f d l h = numbers-back f d l 0 (λ i k. let z : 0 + i ≡ i = omega arith in ap f z ∙ h i k)
 
 pub all-same : (P Q : ℕ → Bool) (i n : ℕ) → ((j : ℕ) → j < i + n → P j ≡ Q j) → all P (numbers i n) ≡ all Q (numbers i n)
 unfolding all numbers

@@ -7,3 +7,4 @@ pub mod Stands
 pub mod Gate
 pub mod FoundLaws
 pub mod Held
+pub mod Accepted

@@ -104,11 +104,11 @@ module _ (s : List ℕ) (d : Domain) (places : List ℕ) (w : Whole s d places) 
   unfolding indexWith
   sound = record {
     someAgent = some-agent;
-    agents = w .stands .agents;
-    fluents = w .stands .fluents;
-    knowledge = w .stands .knowledge;
-    entries = w .stands .entries;
-    laws = w .stands .laws;
+    agents = w .stands .few .agents;
+    fluents = w .stands .few .fluents;
+    knowledge = w .stands .few .knowledge;
+    entries = w .stands .few .entries;
+    laws = w .stands .few .laws;
     law = λ i h. law-is i h ∙ ap some (sym (law-at i h));
   }
 

@@ -128,19 +128,19 @@ module _ {s : List ℕ} {latest : ℕ} {n : Counts} {lowest highest start : List
     ends z = run-on ∙ rw (e, ← z)
 
     pub held-missing : true ≡ zeros (drop at s) → false ≡ completeOn n ready → nothingFound ≡ foundIn s
-    held-missing z q = sym (ends z ∙ rw (sym (gate-complete (h .gate) (h .stands .entries)) ∙ sym q))
+    held-missing z q = sym (ends z ∙ rw (sym (gate-complete (h .gate) (h .stands .few .entries)) ∙ sym q))
 
     pub held-done : true ≡ zeros (drop at s) → true ≡ completeOn n ready
         → _≡_ {A = Found} (record { ok = true; index = record { counts = n; lowest = lowest; highest = highest; start = start; known = known; knowers = knowers; names = names; crews = crews; laws = laws } }) (foundIn s)
     unfolding indexWith
     held-done z q =
-        sym (ends z ∙ rw (sym (gate-complete (h .gate) (h .stands .entries)) ∙ sym q)
+        sym (ends z ∙ rw (sym (gate-complete (h .gate) (h .stands .few .entries)) ∙ sym q)
         (rw (h .gate .counts, h .rest .low, h .rest .high, h .rest .first, h .rest .knows, h .rest .masks, h .gate .named, h .gate .crewed, h .rest .stand)))
 
   -- ---- a frame
 
   pub held-few : n .entries ≤ 64
-  held-few = let e = ap (λ (m : Counts). m .entries) (h .gate .counts) in omega (arith, e, h .stands .entries)
+  held-few = let e = ap (λ (m : Counts). m .entries) (h .gate .counts) in omega (arith, e, h .stands .few .entries)
 
   pub held-most : at ≤ 35258
   held-most = stands-most s (h .so-far) (h .places) at (h .stands)
@@ -159,10 +159,10 @@ module _ {s : List ℕ} {latest : ℕ} {n : Counts} {lowest highest start : List
       pass = passed (h .so-far .latest) (countsOf (h .so-far .domain)) (h .so-far .domain .entries) f (says none q)
 
       pub held-room : room n (f .kind) ≡ true
-      held-room = gate-room (h .gate) f pass (h .stands .entries)
+      held-room = gate-room (h .gate) f pass (h .stands .few .entries)
 
       pub held-entry : f .kind ≡ 0xA5 → byte (f .payload) 0 < 64
-      held-entry = gate-entry (h .gate) f pass (h .stands .entries)
+      held-entry = gate-entry (h .gate) f pass (h .stands .few .entries)
 
       pub held-next : {next : ℕ} {n′ : Counts} {lowest′ highest′ start′ : List ℤ} {known′ knowers′ names′ crews′ laws′ ready′ : List ℕ}
           → lowest′ ≡ if-else (eqb (f .kind) 0xA2) (set lowest (n .fluents) (valueAt (f .payload) 0)) lowest
@@ -191,7 +191,7 @@ module _ {s : List ℕ} {latest : ℕ} {n : Counts} {lowest highest start : List
             places = placesWith (h .places) at f;
             looks = some-look .0;
             stands = subst (Stands s (with p f (pass .item)) (placesWith (h .places) at f)) (sym ex) (stands-next s p (h .places) at (h .stands) f here-is pass);
-            gate = gate-next (h .gate) f pass (h .stands .entries) en ea ec er;
+            gate = gate-next (h .gate) f pass (h .stands .few .entries) en ea ec er;
             rest = record {
               low = el ∙ ap (λ (k : ℕ). if-else (eqb (f .kind) 0xA2) (set lowest k (valueAt (f .payload) 0)) lowest) mf ∙ fluents-on p f pass (λ (x : Fluent). x .lowest) lowest (h .rest .low);
               high = eh ∙ ap (λ (k : ℕ). if-else (eqb (f .kind) 0xA2) (set highest k (valueAt (f .payload) 2)) highest) mf ∙ fluents-on p f pass (λ (x : Fluent). x .highest) highest (h .rest .high);

@@ -1,5 +1,6 @@
 -- The frames of a store from its beginning on: what the partial domain keeps, and where its laws stand. Assumes nothing.
 use Prim.Native.Nat.{ℕ, zero, suc, _+_, _-_, _*_, _≤_, _<_}
+use native.Mathlib.Decide.{decLe}
 use native.Mathlib.Omega.{arith}
 use mathlib.Core.Path.{_≡_, refl, sym, ap, subst, _∙_}
 use mathlib.Core.Bool.{Bool, true, false, not}
@@ -111,12 +112,88 @@ one-some (suc n) h = refl
 abbrev pub frames : Domain → ℕ
 frames d = one (d .agents) + length (d .fluents) + length (d .knowledge) + length (d .entries) + length (d .laws)
 
+-- "At most 1 A1, 32 A2, 64 A3, 64 A4 and 128 laws", "1 to 16" agents
+pub record Few (d : Domain) : Type 0 where
+  pub agents : d .agents ≤ 16
+  pub fluents : length (d .fluents) ≤ 32
+  pub knowledge : length (d .knowledge) ≤ 64
+  pub entries : length (d .entries) ≤ 64
+  pub laws : length (d .laws) ≤ 128
+
+pub few-frames : (d : Domain) → Few d → frames d ≤ 289
+few-frames d w = omega (arith, w .fluents, w .knowledge, w .entries, w .laws, one-most (d .agents))
+
+pub few-first : Few (nothing .domain)
+few-first = record { agents = omega arith; fluents = omega arith; knowledge = omega arith; entries = omega arith; laws = omega arith }
+
+abbrev pub with : Partial → Frame → Item → Partial
+with p f i = record { latest = f .kind; domain = add i (p .domain) }
+
+-- one frame more
+module _ (latest : ℕ) (d : Domain) (es : List Entry) (f : Frame) (v : Passed latest (countsOf d) es f) where
+  -- its domain, by the kind
+  pub record More (i : Item) : Type 0 where
+    pub few : Few d → Few (add i d)
+    pub one-more : frames (add i d) ≡ suc (frames d)
+    pub law-less : f .kind < 0xA5 → add i d .laws ≡ d .laws
+
+  more-agents : f .kind ≡ 0xA1 → 1 ≤ byte (f .payload) 0 → byte (f .payload) 0 ≤ 16 → More (agents (byte (f .payload) 0))
+  more-agents k lo hi = record {
+    few = λ w. record { agents = hi; fluents = w .fluents; knowledge = w .knowledge; entries = w .entries; laws = w .laws };
+    one-more = omega (arith, one-some (byte (f .payload) 0) lo, ap one (room-agents (countsOf d) (f .kind) (v .fits) k));
+    law-less = λ h. refl;
+  }
+
+  more-fluent : f .kind ≡ 0xA2 → (x : Fluent) → More (fluent x)
+  more-fluent k x =
+      let n = length-snoc (d .fluents) x in
+      record {
+        few = λ w. record { agents = w .agents; fluents = omega (arith, n, room-fluents (countsOf d) (f .kind) (v .fits) k); knowledge = w .knowledge; entries = w .entries; laws = w .laws };
+        one-more = omega (arith, n);
+        law-less = λ h. refl;
+      }
+
+  more-knowledge : f .kind ≡ 0xA3 → (x : Knows) → More (knowledge x)
+  more-knowledge k x =
+      let n = length-snoc (d .knowledge) x in
+      record {
+        few = λ w. record { agents = w .agents; fluents = w .fluents; knowledge = omega (arith, n, room-knowledge (countsOf d) (f .kind) (v .fits) k); entries = w .entries; laws = w .laws };
+        one-more = omega (arith, n);
+        law-less = λ h. refl;
+      }
+
+  more-entry : f .kind ≡ 0xA4 → (x : Entry) → More (entry x)
+  more-entry k x =
+      let n = length-snoc (d .entries) x in
+      record {
+        few = λ w. record { agents = w .agents; fluents = w .fluents; knowledge = w .knowledge; entries = omega (arith, n, room-entries (countsOf d) (f .kind) (v .fits) k); laws = w .laws };
+        one-more = omega (arith, n);
+        law-less = λ h. refl;
+      }
+
+  more-law : 0xA5 ≤ f .kind → (x : Law) → More (law x)
+  more-law k x =
+      let n = length-snoc (d .laws) x in
+      record {
+        few = λ w. record { agents = w .agents; fluents = w .fluents; knowledge = w .knowledge; entries = w .entries; laws = omega (arith, n, room-laws (countsOf d) (f .kind) (v .fits) k) };
+        one-more = omega (arith, n);
+        law-less = λ h. absurd (omega arith);
+      }
+
+  pub more : More (v .item)
+  more = go (v .case)
+    where
+      go : Case (countsOf d) (f .kind) (f .payload) (v .item) → More (v .item)
+      go (is-agents k lo hi e) = subst More (sym e) (more-agents k lo hi)
+      go (is-fluent k e) = subst More (sym e) (more-fluent k (fluentIn (f .payload)))
+      go (is-knowledge k e) = subst More (sym e) (more-knowledge k (knowledgeIn (f .payload)))
+      go (is-entry k e) = subst More (sym e) (more-entry k (entryIn (f .payload)))
+      go (is-law k l q e) = subst More (sym e) (more-law k l)
+
+-- ---- where the laws stand
+
 pub record Stands (s : List ℕ) (p : Partial) (places : List ℕ) (at : ℕ) : Type 0 where
-  pub agents : p .domain .agents ≤ 16
-  pub fluents : length (p .domain .fluents) ≤ 32
-  pub knowledge : length (p .domain .knowledge) ≤ 64
-  pub entries : length (p .domain .entries) ≤ 64
-  pub laws : length (p .domain .laws) ≤ 128
+  pub few : Few (p .domain)
   pub there : map (lawThere s (countsOf (p .domain))) places ≡ map some (p .domain .laws)
   pub late : 0 < length (p .domain .laws) → 0xA5 ≤ p .latest
   pub before : at ≤ 122 * frames (p .domain)
@@ -124,13 +201,9 @@ pub record Stands (s : List ℕ) (p : Partial) (places : List ℕ) (at : ℕ) : 
 abbrev pub placesWith : List ℕ → ℕ → Frame → List ℕ
 placesWith places at f = if-else (leb 0xA5 (f .kind)) (places ++ (at ∷ [])) places
 
-abbrev pub with : Partial → Frame → Item → Partial
-with p f i = record { latest = f .kind; domain = add i (p .domain) }
-
 -- at most 35,258 bytes hold frames
 pub stands-most : (s : List ℕ) (p : Partial) (places : List ℕ) (at : ℕ) → Stands s p places at → at ≤ 35258
-stands-most s p places at st =
-    omega (arith, st .before, st .fluents, st .knowledge, st .entries, st .laws, one-most (p .domain .agents))
+stands-most s p places at st = omega (arith, st .before, few-frames (p .domain) (st .few))
 
 none-mapped : {A B : Type 0} (f : A → B) (l : List A) → length l ≡ 0 → map f l ≡ []
 none-mapped f [] e = refl
@@ -140,135 +213,61 @@ mapped-none : {A B : Type 0} (f : A → B) (l : List A) → map f l ≡ [] → l
 mapped-none f [] e = refl
 mapped-none f (a ∷ l) e = absurd (let z : _≡_ {A = ℕ} 0 1 = cc in omega arith)
 
-module _ (s : List ℕ) (p : Partial) (places : List ℕ) (at : ℕ) (st : Stands s p places at) (f : Frame) (h : Here s at f) where
+module _ (s : List ℕ) (p : Partial) (places : List ℕ) (at : ℕ) (st : Stands s p places at) (f : Frame) (h : Here s at f)
+  (v : Passed (p .latest) (countsOf (p .domain)) (p .domain .entries) f) where
+  abbrev less : More (p .latest) (p .domain) (p .domain .entries) f v (v .item)
+  less = more (p .latest) (p .domain) (p .domain .entries) f v
+
   -- before the first law nothing stands anywhere
-  no-law : p .latest ≤ f .kind → f .kind < 0xA5 → length (p .domain .laws) ≡ 0
-  no-law o k = go (length (p .domain .laws)) refl
+  no-law : f .kind < 0xA5 → length (p .domain .laws) ≡ 0
+  no-law k = go (length (p .domain .laws)) refl
     where
       go : (n : ℕ) → length (p .domain .laws) ≡ n → length (p .domain .laws) ≡ 0
       go zero e = e
-      go (suc n) e = absurd (omega (arith, st .late (omega arith)))
+      go (suc n) e = absurd (omega (arith, st .late (omega arith), v .order))
 
-  no-place : length (p .domain .laws) ≡ 0 → (g : ℕ → Option Law) → map g places ≡ map some (p .domain .laws)
-  no-place e g =
-      let z : places ≡ [] = mapped-none (lawThere s (countsOf (p .domain))) places (st .there ∙ none-mapped some (p .domain .laws) e) in
-      ap (map g) z ∙ sym (none-mapped some (p .domain .laws) e)
+  stays : f .kind < 0xA5 → (n : Counts) → map (lawThere s n) (placesWith places at f) ≡ map some (add (v .item) (p .domain) .laws)
+  stays k n =
+      let z : places ≡ [] = mapped-none (lawThere s (countsOf (p .domain))) places (st .there ∙ none-mapped some (p .domain .laws) (no-law k)) in
+      ap (λ b. map (lawThere s n) (if-else b (places ++ (at ∷ [])) places)) (lt-leb 0xA5 (f .kind) k)
+      ∙ ap (map (lawThere s n)) z ∙ sym (none-mapped some (p .domain .laws) (no-law k)) ∙ ap (map some) (sym (less .law-less k))
 
-  size : length (stored f) ≤ 122
-  size = omega (arith, h .most)
+  joins : 0xA5 ≤ f .kind → (x : Law) → lawIn (countsOf (p .domain)) (f .kind) (f .payload) ≡ some x
+      → map (lawThere s (countsOf (add (law x) (p .domain)))) (placesWith places at f) ≡ map some (p .domain .laws ++ (x ∷ []))
+  joins k x q =
+      let wide = countsOf (add (law x) (p .domain)) in
+      let same : (i : ℕ) → lawThere s wide i ≡ lawThere s (countsOf (p .domain)) i
+      = λ i. law-same wide (countsOf (p .domain)) (getD (frameBytes s i) 0 0) (drop 2 (frameBytes s i)) refl refl in
+      ap (λ b. map (lawThere s wide) (if-else b (places ++ (at ∷ [])) places)) (le-leb 0xA5 (f .kind) k)
+      ∙ map-same (lawThere s wide) (lawThere s (countsOf (p .domain))) (places ++ (at ∷ [])) same
+      ∙ map-snoc (lawThere s (countsOf (p .domain))) places at
+      ∙ ap (λ l. l ++ (lawThere s (countsOf (p .domain)) at ∷ [])) (st .there)
+      ∙ ap (λ o. map some (p .domain .laws) ++ (o ∷ [])) (law-there s at f h (countsOf (p .domain)) ∙ q)
+      ∙ sym (map-snoc some (p .domain .laws) x)
 
-  module _ (v : Passed (p .latest) (countsOf (p .domain)) (p .domain .entries) f) where
-    early : f .kind < 0xA5 → placesWith places at f ≡ places
-    early k = rw (lt-leb 0xA5 (f .kind) k)
+  there-on : map (lawThere s (countsOf (add (v .item) (p .domain)))) (placesWith places at f) ≡ map some (add (v .item) (p .domain) .laws)
+  there-on = go (v .case)
+    where
+      go : Case (countsOf (p .domain)) (f .kind) (f .payload) (v .item) → map (lawThere s (countsOf (add (v .item) (p .domain)))) (placesWith places at f) ≡ map some (add (v .item) (p .domain) .laws)
+      go (is-agents k lo hi e) = stays (omega arith) _
+      go (is-fluent k e) = stays (omega arith) _
+      go (is-knowledge k e) = stays (omega arith) _
+      go (is-entry k e) = stays (omega arith) _
+      go (is-law k l q e) = subst (λ (i : Item). map (lawThere s (countsOf (add i (p .domain)))) (placesWith places at f) ≡ map some (add i (p .domain) .laws)) (sym e) (joins k l q)
 
-    stays : f .kind < 0xA5 → (g : ℕ → Option Law) → map g (placesWith places at f) ≡ map some (p .domain .laws)
-    stays k g = ap (map g) (early k) ∙ no-place (no-law (v .order) k) g
+  late-on : 0 < length (add (v .item) (p .domain) .laws) → 0xA5 ≤ f .kind
+  late-on g = elim (decLe 0xA5 (f .kind)) [ yes k ↦ k | no k ↦ absurd (omega (arith, ap length (less .law-less (omega arith)), no-law (omega arith))) ]
 
-    late-on : 0 < length (p .domain .laws) → 0xA5 ≤ f .kind
-    late-on g = omega (arith, st .late g, v .order)
-
-    with-agents : f .kind ≡ 0xA1 → 1 ≤ byte (f .payload) 0 → byte (f .payload) 0 ≤ 16
-        → Stands s (with p f (agents (byte (f .payload) 0))) (placesWith places at f) (at + length (stored f))
-    with-agents k lo hi = record {
-      agents = hi;
-      fluents = st .fluents;
-      knowledge = st .knowledge;
-      entries = st .entries;
-      laws = st .laws;
-      there = stays (omega arith) _;
-      late = late-on;
-      before = omega (arith, st .before, size, one-some (byte (f .payload) 0) lo, ap one (room-agents (countsOf (p .domain)) (f .kind) (v .fits) k));
-    }
-
-    with-fluent : f .kind ≡ 0xA2 → (x : Fluent) → Stands s (with p f (fluent x)) (placesWith places at f) (at + length (stored f))
-    with-fluent k x =
-        let n = length-snoc (p .domain .fluents) x in
-        record {
-          agents = st .agents;
-          fluents = omega (arith, n, room-fluents (countsOf (p .domain)) (f .kind) (v .fits) k);
-          knowledge = st .knowledge;
-          entries = st .entries;
-          laws = st .laws;
-          there = stays (omega arith) _;
-          late = late-on;
-          before = omega (arith, st .before, size, n);
-        }
-
-    with-knowledge : f .kind ≡ 0xA3 → (x : Knows) → Stands s (with p f (knowledge x)) (placesWith places at f) (at + length (stored f))
-    with-knowledge k x =
-        let n = length-snoc (p .domain .knowledge) x in
-        record {
-          agents = st .agents;
-          fluents = st .fluents;
-          knowledge = omega (arith, n, room-knowledge (countsOf (p .domain)) (f .kind) (v .fits) k);
-          entries = st .entries;
-          laws = st .laws;
-          there = stays (omega arith) _;
-          late = late-on;
-          before = omega (arith, st .before, size, n);
-        }
-
-    with-entry : f .kind ≡ 0xA4 → (x : Entry) → Stands s (with p f (entry x)) (placesWith places at f) (at + length (stored f))
-    with-entry k x =
-        let n = length-snoc (p .domain .entries) x in
-        record {
-          agents = st .agents;
-          fluents = st .fluents;
-          knowledge = st .knowledge;
-          entries = omega (arith, n, room-entries (countsOf (p .domain)) (f .kind) (v .fits) k);
-          laws = st .laws;
-          there = stays (omega arith) _;
-          late = late-on;
-          before = omega (arith, st .before, size, n);
-        }
-
-    with-law : 0xA5 ≤ f .kind → (x : Law) → lawIn (countsOf (p .domain)) (f .kind) (f .payload) ≡ some x
-        → Stands s (with p f (law x)) (placesWith places at f) (at + length (stored f))
-    with-law k x q =
-        let n = length-snoc (p .domain .laws) x in
-        let more = countsOf (add (law x) (p .domain)) in
-        let same : (i : ℕ) → lawThere s more i ≡ lawThere s (countsOf (p .domain)) i
-        = λ i. law-same more (countsOf (p .domain)) (getD (frameBytes s i) 0 0) (drop 2 (frameBytes s i)) refl refl in
-        record {
-          agents = st .agents;
-          fluents = st .fluents;
-          knowledge = st .knowledge;
-          entries = st .entries;
-          laws = omega (arith, n, room-laws (countsOf (p .domain)) (f .kind) (v .fits) k);
-          there =
-              ap (λ b. map (lawThere s more) (if-else b (places ++ (at ∷ [])) places)) (le-leb 0xA5 (f .kind) k)
-              ∙ map-same (lawThere s more) (lawThere s (countsOf (p .domain))) (places ++ (at ∷ [])) same
-              ∙ map-snoc (lawThere s (countsOf (p .domain))) places at
-              ∙ ap (λ l. l ++ (lawThere s (countsOf (p .domain)) at ∷ [])) (st .there)
-              ∙ ap (λ o. map some (p .domain .laws) ++ (o ∷ [])) (law-there s at f h (countsOf (p .domain)) ∙ q)
-              ∙ sym (map-snoc some (p .domain .laws) x);
-          late = λ g. k;
-          before = omega (arith, st .before, size, n);
-        }
-
-    pub stands-next : Stands s (with p f (v .item)) (placesWith places at f) (at + length (stored f))
-    stands-next = go (v .case)
-      where
-        to : (i : Item) → v .item ≡ i → Stands s (with p f i) (placesWith places at f) (at + length (stored f)) → Stands s (with p f (v .item)) (placesWith places at f) (at + length (stored f))
-        to i e w = subst (λ (j : Item). Stands s (with p f j) (placesWith places at f) (at + length (stored f))) (sym e) w
-        go : Case (countsOf (p .domain)) (f .kind) (f .payload) (v .item) → Stands s (with p f (v .item)) (placesWith places at f) (at + length (stored f))
-        go (is-agents k lo hi e) = to _ e (with-agents k lo hi)
-        go (is-fluent k e) = to _ e (with-fluent k (fluentIn (f .payload)))
-        go (is-knowledge k e) = to _ e (with-knowledge k (knowledgeIn (f .payload)))
-        go (is-entry k e) = to _ e (with-entry k (entryIn (f .payload)))
-        go (is-law k l q e) = to _ e (with-law k l q)
+  pub stands-next : Stands s (with p f (v .item)) (placesWith places at f) (at + length (stored f))
+  stands-next = record {
+    few = less .few (st .few);
+    there = there-on;
+    late = late-on;
+    before = omega (arith, st .before, h .most, less .one-more);
+  }
 
 pub stands-first : (s : List ℕ) → Stands s nothing [] 0
-stands-first s = record {
-  agents = omega arith;
-  fluents = omega arith;
-  knowledge = omega arith;
-  entries = omega arith;
-  laws = omega arith;
-  there = refl;
-  late = λ h. absurd (omega arith);
-  before = omega arith;
-}
+stands-first s = record { few = few-first; there = refl; late = λ h. absurd (omega arith); before = omega arith }
 
 -- ---- all the frames of a store
 

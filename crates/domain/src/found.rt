@@ -24,7 +24,7 @@ pub struct Found {
     pub index: Index,
 }
 
-const NO_COUNTS: Counts = Counts {
+pub(crate) const NO_COUNTS: Counts = Counts {
     agents: 0,
     fluents: 0,
     knowledge: 0,

@@ -5,6 +5,9 @@ mod found;
 mod laws;
 mod note;
 mod payload;
+mod reader;
 
 pub use found::Found;
 pub use found::index_of;
+pub use reader::ReadDomain;
+pub use reader::read;

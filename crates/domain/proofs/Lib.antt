@@ -8,3 +8,4 @@ pub mod Gate
 pub mod FoundLaws
 pub mod Held
 pub mod Accepted
+pub mod ReaderLaws

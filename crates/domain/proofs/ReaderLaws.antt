@@ -11,7 +11,7 @@ use lib.ListN.{length, getD, set, take, drop, replicate, length-append, length-t
 use lib.Seq.{length-take-le, take-append-le, take-at, drop-at, getD-at}
 use borrow.Author.Tests.{le-leb, lt-leb}
 use Rattle.bmap.specs.Plain.{if-else, flat}
-use Rattle.bmap.specs.Refusal.{Answer, got, refused, need, then}
+use Rattle.bmap.specs.Refusal.{Answer, got, refused, need, then, numberOf}
 use Rattle.bmap.specs.Line.{Frame, Line, stored, linesOf, decode}
 use Rattle.bmap.specs.Domain.{Domain}
 use Rattle.bmap.specs.Payload.{byte, wordAt}
@@ -24,7 +24,10 @@ use Rattle.line.proofs.Lists.{part-to-end}
 use Rattle.line.proofs.LineLaws.{line-nothing, Refuses, line-refused, Takes, line-taken}
 use Rattle.domain.specs.Check.{entriesOf, checkedOn, refusedIn}
 use Rattle.domain.specs.Found.{counted, completeOn}
-use Rattle.domain.specs.Read.{bytesIn, usedIn, Front}
+use Rattle.bmap.specs.declared.refusal.Refusal.{Refusal}
+use Rattle.domain.specs.declared.reader.ReadDomain.{ReadDomain}
+use Rattle.domain.specs.declared.reader.ReadDomain.the-variants.{Read, Refused}
+use Rattle.domain.specs.Read.{readingOf, bytesIn, usedIn, Front}
 use Rattle.domain.proofs.Passed.{Passed, passed}
 use Rattle.domain.proofs.Stands.{frames, Few, few-first, few-frames, More, more, with, accept-refused, accept-passed}
 use Rattle.domain.proofs.Gate.{Gate, gate-first, gate-check, gate-complete, gate-room, gate-entry, gate-next}
@@ -288,3 +291,17 @@ module _ (text store : List ℕ) where
       read-nothing m l e =
           let k = read-in-room ∙ fill-refused (length store) (bytesIn text) (reading text) m l e in
           (sym (ap (λ (x : Filled). x .answer) k), rw same (sym (ap (λ (x : Filled). x .buffer) k)))
+
+      -- in the code's terms
+      module _ (r : ReadDomain) (e : (readingOf r ≡ usedIn text) × Front (bytesIn text) (readingOf r) after) (exit : List ℕ) where
+        pub read-ends : (used : ℕ) → r ≡ Read used → exit ≡ padded (length after) (take used after)
+            → (read used ≡ readDomain text store .answer) × (exit ≡ readDomain text store .buffer)
+        read-ends used k x =
+            let w = read-whole used (sym (ap readingOf k) ∙ e .0) (subst (λ (q : ReadDomain). Front (bytesIn text) (readingOf q) after) k (e .1)) in
+            (w .0, x ∙ w .1)
+
+        pub read-stops : (refusal : Refusal) (line : ℕ) → r ≡ Refused refusal line → exit ≡ padded (length after) (take 0 after)
+            → (readingOf r ≡ readDomain text store .answer) × (exit ≡ readDomain text store .buffer)
+        read-stops refusal line k x =
+            let w = read-nothing (numberOf refusal) line (sym (ap readingOf k) ∙ e .0) in
+            (ap readingOf k ∙ w .0, x ∙ w .1)

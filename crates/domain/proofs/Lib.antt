@@ -9,3 +9,4 @@ pub mod FoundLaws
 pub mod Held
 pub mod Accepted
 pub mod ReaderLaws
+pub mod WriterLaws

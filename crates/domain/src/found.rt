@@ -16,7 +16,8 @@ ghost use mathlib.Core.Path.{_≡_};
 ghost use Prim.Native.Nat.{_≤_};
 ghost use lib.ListN.{drop};
 ghost use Rattle.bmap.specs.Limits.{mostEntries};
-ghost use Rattle.bmap.specs.Store.{zeros};
+ghost use Rattle.bmap.specs.Session.{isGot};
+ghost use Rattle.bmap.specs.Store.{zeros, domainIn};
 ghost use Rattle.domain.specs.Found.{completeOn, nothingFound, foundIn};
 
 pub struct Found {
@@ -145,4 +146,12 @@ pub fn index_of(store: &[u8]) -> Found
         latest = kind;
         at = next;
     }
+}
+
+// Whether a store is an accepted domain followed by zeros.
+pub fn is_accepted(store: &[u8]) -> bool
+    ensures { λ r. ⌜ r ≡ isGot (domainIn (now (store .entry))) ⌝ }
+{
+    let found = index_of(store);
+    found.ok
 }

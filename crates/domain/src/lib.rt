@@ -6,8 +6,11 @@ mod laws;
 mod note;
 mod payload;
 mod reader;
+mod writer;
 
 pub use found::Found;
+pub use found::is_accepted;
 pub use found::index_of;
 pub use reader::ReadDomain;
 pub use reader::read;
+pub use writer::write;

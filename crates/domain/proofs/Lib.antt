@@ -10,3 +10,4 @@ pub mod Held
 pub mod Accepted
 pub mod ReaderLaws
 pub mod WriterLaws
+pub mod FramesLaws

@@ -11,3 +11,4 @@ pub mod Accepted
 pub mod ReaderLaws
 pub mod WriterLaws
 pub mod FramesLaws
+pub mod RoundTrip

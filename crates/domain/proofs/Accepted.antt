@@ -1,30 +1,29 @@
 -- For callers: what is found in a store is its domain. Assumes nothing.
-use Prim.Native.Nat.{ℕ, zero, suc, _+_, _≤_, _<_}
+use Prim.Native.Nat.{ℕ, zero, suc, _≤_, _<_}
 use native.Mathlib.Nat.{le-of-suc-le-suc, not-suc-le-zero}
 use native.Mathlib.Omega.{arith}
 use mathlib.Core.Path.{_≡_, refl, sym, ap, subst, _∙_}
-use mathlib.Core.Bool.{Bool, true, false}
-use mathlib.Core.List.{List, [], _∷_, _++_, map}
+use mathlib.Core.Bool.{true, false}
+use mathlib.Core.List.{List, [], _∷_, map}
 use mathlib.Core.Option.{Option, none, some}
 use lib.Dec.{ltb}
 use lib.IntN.{ℤ, pos}
-use lib.ListN.{length, getD, drop}
+use lib.ListN.{length, getD}
 use borrow.Author.Tests.{ltb-true}
-use Rattle.bmap.specs.Plain.{both, maybe, numbers}
+use Rattle.bmap.specs.Plain.{maybe, numbers}
 use Rattle.bmap.specs.Refusal.{Answer, got, refused, known}
 use Rattle.bmap.specs.Line.{Frame}
 use Rattle.bmap.specs.Tree.{always}
 use Rattle.bmap.specs.Domain.{Domain, Fluent, Knows, Entry, Law, must, static}
-use Rattle.bmap.specs.Payload.{lawIn}
 use Rattle.bmap.specs.Accept.{nothing, countsOf, complete, Reading, read, refusedAt, taken}
 use Rattle.bmap.specs.Store.{framesIn, whatWasRead, domainIn}
 use Rattle.index.specs.declared.Index.{Index}
-use Rattle.index.specs.Index.{frameBytes, fluentAt, knowledgeAt, entryOf, lawBytes, lawOf, lawAt, domainOf, Sound}
+use Rattle.index.specs.Index.{fluentAt, knowledgeAt, entryOf, lawOf, lawAt, domainOf, Sound}
 use Rattle.domain.specs.declared.found.Found.{Found}
-use Rattle.domain.specs.Found.{row, lawPlaces, indexWith, nothingFound, foundOf, foundIn}
+use Rattle.domain.specs.Found.{lawPlaces, indexWith, nothingFound, foundOf, foundIn}
 use Rattle.domain.proofs.Rows.{length-mapped, row-at, row-back, numbers-all}
 use Rattle.domain.proofs.Passed.{both-true}
-use Rattle.domain.proofs.Stands.{lawThere, Stands, stands-first, Whole, whole}
+use Rattle.domain.proofs.Stands.{lawThere, stands-first, Whole, whole}
 
 -- ---- the i-th of two lists that are read off each other
 
@@ -56,9 +55,9 @@ module _ (s : List ℕ) (d : Domain) (places : List ℕ) (w : Whole s d places) 
       let l = d .fluents in
       numbers-all (fluentAt index) noFluent l
       (λ i h.
-        ap (λ (a : ℤ). record { lowest = a; highest = fluentAt index i .highest; start = fluentAt index i .start }) (row-back (λ (x : Fluent). x .lowest) 32 l noFluent i h)
-        ∙ ap (λ (a : ℤ). record { lowest = getD l i noFluent .lowest; highest = a; start = fluentAt index i .start }) (row-back (λ (x : Fluent). x .highest) 32 l noFluent i h)
-        ∙ ap (λ (a : ℤ). record { lowest = getD l i noFluent .lowest; highest = getD l i noFluent .highest; start = a }) (row-back (λ (x : Fluent). x .start) 32 l noFluent i h))
+      ap (λ (a : ℤ). record { lowest = a; highest = fluentAt index i .highest; start = fluentAt index i .start }) (row-back (λ (x : Fluent). x .lowest) 32 l noFluent i h)
+      ∙ ap (λ (a : ℤ). record { lowest = getD l i noFluent .lowest; highest = a; start = fluentAt index i .start }) (row-back (λ (x : Fluent). x .highest) 32 l noFluent i h)
+      ∙ ap (λ (a : ℤ). record { lowest = getD l i noFluent .lowest; highest = getD l i noFluent .highest; start = a }) (row-back (λ (x : Fluent). x .start) 32 l noFluent i h))
 
   knowledge-back : map (knowledgeAt index) (numbers 0 (length (d .knowledge))) ≡ d .knowledge
   unfolding indexWith noKnowledge
@@ -66,8 +65,8 @@ module _ (s : List ℕ) (d : Domain) (places : List ℕ) (w : Whole s d places) 
       let l = d .knowledge in
       numbers-all (knowledgeAt index) noKnowledge l
       (λ i h.
-        ap (λ (a : ℕ). record { fluent = a; mask = knowledgeAt index i .mask }) (row-back (λ (x : Knows). x .fluent) 64 l noKnowledge i h)
-        ∙ ap (λ (a : ℕ). record { fluent = getD l i noKnowledge .fluent; mask = a }) (row-back (λ (x : Knows). x .mask) 64 l noKnowledge i h))
+      ap (λ (a : ℕ). record { fluent = a; mask = knowledgeAt index i .mask }) (row-back (λ (x : Knows). x .fluent) 64 l noKnowledge i h)
+      ∙ ap (λ (a : ℕ). record { fluent = getD l i noKnowledge .fluent; mask = a }) (row-back (λ (x : Knows). x .mask) 64 l noKnowledge i h))
 
   entries-back : map (entryOf index) (numbers 0 (length (d .entries))) ≡ d .entries
   unfolding indexWith noEntry
@@ -75,8 +74,8 @@ module _ (s : List ℕ) (d : Domain) (places : List ℕ) (w : Whole s d places) 
       let l = d .entries in
       numbers-all (entryOf index) noEntry l
       (λ i h.
-        ap (λ (a : ℕ). record { name = a; crew = entryOf index i .crew }) (row-back (λ (x : Entry). x .name) 64 l noEntry i h)
-        ∙ ap (λ (a : ℕ). record { name = getD l i noEntry .name; crew = a }) (row-back (λ (x : Entry). x .crew) 64 l noEntry i h))
+      ap (λ (a : ℕ). record { name = a; crew = entryOf index i .crew }) (row-back (λ (x : Entry). x .name) 64 l noEntry i h)
+      ∙ ap (λ (a : ℕ). record { name = getD l i noEntry .name; crew = a }) (row-back (λ (x : Entry). x .crew) 64 l noEntry i h))
 
   law-is : (i : ℕ) → i < length (d .laws) → lawOf s index i ≡ some (getD (d .laws) i noLaw)
   unfolding indexWith lawOf
@@ -130,6 +129,7 @@ domained s d e = go (framesIn s) refl e
         let same : x ≡ d = cc in
         let k : taken (map got fs) ≡ read d = r ∙ ap read same in
         record { frames = fs; are = f; read-as = k; all = whole (suc (length s)) 0 s nothing [] 0 fs d (stands-first s) f k }
+
     go : (o : Option (List Frame)) → framesIn s ≡ o → known 15 (maybe o none (λ fs. whatWasRead (taken (map got fs)))) ≡ got d → Domained s d
     go none f q = absurd (let z : _≡_ {A = ℕ} 0 1 = cc in omega arith)
     go (some fs) f q = by fs f (taken (map got fs)) refl q

@@ -1,16 +1,15 @@
 -- The check of one frame, refusal by refusal. Assumes nothing.
-use Prim.Native.Nat.{ℕ, zero, suc, _+_, _-_, _≤_, _<_}
+use Prim.Native.Nat.{ℕ, suc, _+_, _-_, _≤_, _<_}
 use native.Mathlib.Numerals.{add-one}
 use native.Mathlib.Omega.{arith}
 use mathlib.Core.Path.{_≡_, refl, sym, ap, _∙_}
 use mathlib.Core.Bool.{Bool, true, false}
-use mathlib.Core.List.{List, [], _∷_, map}
-use lib.Dec.{eqb, leb, ltb}
-use lib.ListN.{length, getD}
+use mathlib.Core.List.{List, map}
+use lib.Dec.{leb, ltb}
 use mathlib.Core.Option.{Option, none, some}
 use borrow.Author.Tests.{ltb-true, eqb-true, lt-leb, le-leb, eq-eqb, ne-eqb}
-use Rattle.bmap.specs.Plain.{both, either, any, all, numbers}
-use Rattle.bmap.specs.Refusal.{Answer, got, refused, need, known, then}
+use Rattle.bmap.specs.Plain.{any, all, numbers}
+use Rattle.bmap.specs.Refusal.{got, need, known, then}
 use Rattle.bmap.specs.Line.{Frame}
 use Rattle.bmap.specs.Domain.{Entry}
 use Rattle.bmap.specs.Payload.{Item, byte, wordAt, entryIn, only, lawIn, lawItem, agentsFit, fluentFits, knowledgeFits, entryFits, itemIn}

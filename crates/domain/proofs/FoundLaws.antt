@@ -1,20 +1,20 @@
 -- Acceptance of a store and its index, frame by frame. Assumes nothing.
-use Prim.Native.Nat.{ℕ, zero, suc, _+_, _-_, _*_, _≤_, _<_}
+use Prim.Native.Nat.{ℕ, zero, suc, _+_, _-_, _≤_, _<_}
 use native.Mathlib.Numerals.{add-one}
 use native.Mathlib.Omega.{arith}
 use mathlib.Core.Path.{_≡_, refl, sym, ap, _∙_}
 use mathlib.Core.Bool.{Bool, true, false}
 use mathlib.Core.List.{List, [], _∷_, _++_, append-assoc, append-nil, map}
 use mathlib.Core.Option.{Option, none, some}
-use lib.Dec.{eqb, leb, ltb}
+use lib.Dec.{eqb, leb}
 use lib.ListN.{length, getD, drop, drop-of-length-le}
 use lib.Seq.{drop-cons}
-use borrow.Author.Tests.{lt-ltb, le-ltb, eq-eqb, ne-eqb}
+use borrow.Author.Tests.{lt-ltb, eq-eqb, ne-eqb}
 use Rattle.bmap.specs.Plain.{if-else, maybe, all, numbers}
 use Rattle.bmap.specs.Refusal.{Answer, got, refused, need, known}
 use Rattle.bmap.specs.Line.{Frame, stored}
 use Rattle.bmap.specs.Domain.{Domain}
-use Rattle.bmap.specs.Accept.{Partial, nothing, accept, complete, finished, Reading, read, refusedAt, atLine, takenFrom}
+use Rattle.bmap.specs.Accept.{Partial, nothing, accept, complete, finished, read, atLine, takenFrom}
 use Rattle.bmap.specs.Store.{frameAt, zeros, framesFrom, framesIn, whatWasRead, domainIn}
 use Rattle.bmap.specs.declared.limits.Counts.{Counts}
 use Rattle.domain.specs.declared.found.Found.{Found}

@@ -1,10 +1,10 @@
 -- The frame reader's start and its next frame. Assumes nothing.
-use Prim.Native.Nat.{ℕ, _+_, _-_, _≤_}
+use Prim.Native.Nat.{ℕ, _+_, _-_}
 use native.Mathlib.Omega.{arith}
 use mathlib.Core.Path.{_≡_, refl, sym, ap, _∙_}
-use mathlib.Core.Bool.{Bool, true, false}
+use mathlib.Core.Bool.{true, false}
 use mathlib.Core.List.{List, []}
-use mathlib.Core.Option.{Option, none, some}
+use mathlib.Core.Option.{Option, none}
 use lib.ListN.{length, take, drop}
 use Rattle.bmap.specs.Refusal.{Answer, got, refused}
 use Rattle.bmap.specs.Plain.{maybe}
@@ -13,7 +13,7 @@ use Rattle.bmap.specs.Domain.{Domain}
 use Rattle.bmap.specs.Session.{isGot}
 use Rattle.bmap.specs.Store.{frameAt, domainIn, start, Next, next}
 use Rattle.domain.specs.Frames.{refusalIn, standingOn, partAt, placeAfter}
-use Rattle.domain.proofs.Held.{cut, Framed}
+use Rattle.domain.proofs.Held.{Framed}
 use Rattle.domain.proofs.Accepted.{refused-15}
 
 module _ (s : List ℕ) where

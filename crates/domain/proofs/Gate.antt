@@ -5,25 +5,23 @@ use native.Mathlib.Omega.{arith}
 use mathlib.Core.Path.{_≡_, refl, sym, ap, _∙_}
 use mathlib.Core.Bool.{Bool, true, false}
 use mathlib.Core.List.{List, [], _∷_, _++_, map}
-use mathlib.Core.Option.{Option, none, some}
 use lib.Dec.{eqb, leb, ltb}
 use lib.IntN.{ℤ, pos}
 use lib.ListN.{length, getD, set, replicate, length-set}
 use lib.Seq.{getD-set-same, getD-set-other}
-use borrow.Author.Tests.{eqb-true, eqb-false, leb-true, eq-eqb, ne-eqb, le-leb, lt-leb}
-use Rattle.bmap.specs.Plain.{both, either, if-else, any, all, numbers}
-use Rattle.bmap.specs.Refusal.{Answer, got, refused}
-use Rattle.bmap.specs.Line.{Frame, stored}
+use borrow.Author.Tests.{eqb-true, eqb-false, leb-true, eq-eqb, ne-eqb, le-leb}
+use Rattle.bmap.specs.Plain.{both, either, if-else, any, numbers}
+use Rattle.bmap.specs.Line.{Frame}
 use Rattle.bmap.specs.Domain.{Domain, Fluent, Knows, Entry, Law}
-use Rattle.bmap.specs.Payload.{Item, agents, fluent, knowledge, entry, law, byte, wordAt, fluentIn, knowledgeIn, entryIn, lawIn}
+use Rattle.bmap.specs.Payload.{Item, agents, knowledge, byte, wordAt, fluentIn, knowledgeIn, entryIn}
 use Rattle.bmap.specs.Accept.{Partial, nothing, countsOf, room, add, executes, complete}
 use Rattle.bmap.specs.declared.limits.Counts.{Counts}
 use Rattle.domain.specs.Check.{entryOf, entriesOf, checkedOn}
 use Rattle.domain.specs.Found.{row, counted, completeOn}
-use Rattle.domain.proofs.Rows.{length-snoc, length-mapped, any-snoc, push-by, row-push, row-back, numbers-all, all-same}
+use Rattle.domain.proofs.Rows.{length-snoc, any-snoc, push-by, row-push, row-back, numbers-all, all-same}
 use Rattle.domain.proofs.CheckLaws.{room-fluents, room-knowledge, room-entries, room-laws}
 use Rattle.domain.proofs.Passed.{Case, is-agents, is-fluent, is-knowledge, is-entry, is-law, Passed, Executes, this, other, law-executes}
-use Rattle.domain.proofs.Stands.{Stands, with}
+use Rattle.domain.proofs.Stands.{with}
 
 -- ---- what a frame adds, by its kind
 
@@ -140,8 +138,8 @@ module _ {p : Partial} {latest : ℕ} {n : Counts} {names crews ready : List ℕ
       ∙ ap (λ (l : List ℕ). map (entryOf (row 64 0 (map (λ (x : Entry). x .name) es)) l) (numbers 0 (length es))) (g .crewed)
       ∙ numbers-all (entryOf (row 64 0 (map (λ (x : Entry). x .name) es)) (row 64 0 (map (λ (x : Entry). x .crew) es))) noEntry es
       (λ i h.
-        ap (λ (a : ℕ). record { name = a; crew = getD (row 64 0 (map (λ (x : Entry). x .crew) es)) i 0 }) (row-back (λ (x : Entry). x .name) 64 es noEntry i h)
-        ∙ ap (λ (a : ℕ). record { name = getD es i noEntry .name; crew = a }) (row-back (λ (x : Entry). x .crew) 64 es noEntry i h))
+      ap (λ (a : ℕ). record { name = a; crew = getD (row 64 0 (map (λ (x : Entry). x .crew) es)) i 0 }) (row-back (λ (x : Entry). x .name) 64 es noEntry i h)
+      ∙ ap (λ (a : ℕ). record { name = getD es i noEntry .name; crew = a }) (row-back (λ (x : Entry). x .crew) 64 es noEntry i h))
 
   -- what the check of a frame says of the frames so far
   pub gate-check : (f : Frame) → checkedOn latest n (entriesOf (n .entries) names crews) f ≡ checkedOn (p .latest) (countsOf (p .domain)) (p .domain .entries) f
@@ -174,6 +172,7 @@ module _ {p : Partial} {latest : ℕ} {n : Counts} {names crews ready : List ℕ
         by : (l : Law) → Executes (countsOf (p .domain)) (f .kind) (f .payload) l → byte (f .payload) 0 < 64
         by l (this k e x) = omega arith
         by l (other k x) = absurd (let z : _≡_ {A = Bool} true false = sym (eq-eqb (f .kind) 0xA5 q) ∙ k in let y : _≡_ {A = ℕ} 0 1 = cc in omega arith)
+
         go : Case (countsOf (p .domain)) (f .kind) (f .payload) (v .item) → byte (f .payload) 0 < 64
         go (is-agents k lo hi e) = absurd (omega arith)
         go (is-fluent k e) = absurd (omega arith)
@@ -189,12 +188,15 @@ module _ {p : Partial} {latest : ℕ} {n : Counts} {names crews ready : List ℕ
       where
         same : f .kind < 0xA5 → add (v .item) (p .domain) .laws ≡ p .domain .laws → getD readyWith i 0 ≡ mark (any (executes i) (add (v .item) (p .domain) .laws))
         same k e = rw (ne-eqb (f .kind) 0xA5 (λ z. omega arith), e) (g .marks i h)
+
         either-false : (a : Bool) → either a false ≡ a
         either-false true = refl
         either-false false = refl
+
         either-true : (a : Bool) → either a true ≡ true
         either-true true = refl
         either-true false = refl
+
         by : (l : Law) → Executes (countsOf (p .domain)) (f .kind) (f .payload) l → getD readyWith i 0 ≡ mark (any (executes i) (p .domain .laws ++ (l ∷ [])))
         by l (other k x) = rw (k, any-snoc (executes i) (p .domain .laws) l, x i, either-false (any (executes i) (p .domain .laws))) (g .marks i h)
         by l (this k e x) = rw (eq-eqb (f .kind) 0xA5 k, any-snoc (executes i) (p .domain .laws) l, x i) (at (eqb i (byte (f .payload) 0)) refl)
@@ -216,6 +218,7 @@ module _ {p : Partial} {latest : ℕ} {n : Counts} {names crews ready : List ℕ
                   ne-eqb (byte (f .payload) 0) i (λ z. q (sym z)),
                   either-false (any (executes i) (p .domain .laws)),
                 ) (g .marks i h)
+
         go : Case (countsOf (p .domain)) (f .kind) (f .payload) (v .item) → getD readyWith i 0 ≡ mark (any (executes i) (add (v .item) (p .domain) .laws))
         go (is-agents k lo hi e) = same (omega arith) (rw e)
         go (is-fluent k e) = same (omega arith) (rw e)

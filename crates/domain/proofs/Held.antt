@@ -2,28 +2,26 @@
 use Prim.Native.Nat.{ℕ, zero, suc, _+_, _-_, _≤_, _<_}
 use native.Mathlib.Omega.{arith}
 use mathlib.Core.Path.{_≡_, refl, sym, ap, subst, _∙_}
-use mathlib.Core.Bool.{Bool, true, false}
-use mathlib.Core.List.{List, [], _∷_, _++_, map}
+use mathlib.Core.Bool.{true, false}
+use mathlib.Core.List.{List, [], map}
 use mathlib.Core.Option.{Option, none, some}
 use lib.Dec.{eqb, leb}
 use lib.IntN.{ℤ, pos}
 use lib.ListN.{length, getD, set, take, drop, replicate}
 use Rattle.bmap.specs.Plain.{if-else, maybe}
-use Rattle.bmap.specs.Refusal.{Answer, got, refused, then}
 use Rattle.bmap.specs.Line.{Frame, stored}
-use Rattle.bmap.specs.Domain.{Domain, Fluent, Knows, Entry}
+use Rattle.bmap.specs.Domain.{Domain, Fluent, Knows}
 use Rattle.bmap.specs.Payload.{byte, wordAt, valueAt}
-use Rattle.bmap.specs.Accept.{Partial, nothing, countsOf, room, accept, complete, finished}
+use Rattle.bmap.specs.Accept.{Partial, nothing, countsOf, room, finished}
 use Rattle.bmap.specs.Store.{frameAt, zeros}
 use Rattle.bmap.specs.declared.limits.Counts.{Counts}
-use Rattle.index.specs.declared.Index.{Index}
 use Rattle.line.specs.Frame.{frameSizeAt}
 use Rattle.domain.specs.Check.{entriesOf, checkedOn, refusedIn}
 use Rattle.domain.specs.declared.found.Found.{Found}
 use Rattle.domain.specs.Found.{row, counted, completeOn, indexWith, nothingFound, foundOf, foundIn}
 use Rattle.domain.proofs.Rows.{length-mapped}
 use Rattle.domain.proofs.Passed.{Passed, passed}
-use Rattle.domain.proofs.Stands.{Here, here, Stands, stands-first, stands-next, stands-most, with, placesWith, lawThere, accept-refused, accept-passed}
+use Rattle.domain.proofs.Stands.{here, Stands, stands-first, stands-next, stands-most, with, placesWith, lawThere, accept-refused, accept-passed}
 use Rattle.domain.proofs.Gate.{Gate, gate-first, gate-check, gate-complete, gate-room, gate-entry, gate-next, fluents-on, knowledge-on, laws-on}
 use Rattle.domain.proofs.FoundLaws.{foundFrom, found-start, found-refused, found-next}
 
@@ -105,7 +103,7 @@ unfolding frameSizeAt
 framed s at size e = size-some s at size (frameAt s at) refl e
 
 module _ {s : List ℕ} {latest : ℕ} {n : Counts} {lowest highest start : List ℤ} {known knowers names crews laws ready : List ℕ} {at : ℕ}
-  (h : Held s latest n lowest highest start known knowers names crews laws ready at) where
+    (h : Held s latest n lowest highest start known knowers names crews laws ready at) where
   some-look : (looks : ℕ) × (h .looks ≡ suc looks)
   some-look = go (h .looks) refl
     where

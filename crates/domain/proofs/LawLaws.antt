@@ -1,21 +1,20 @@
 -- Payloads of A5 to A9, test by test. Assumes nothing.
-use Prim.Native.Nat.{ℕ, zero, suc, _+_, _≤_, _<_}
+use Prim.Native.Nat.{ℕ, suc, _+_, _≤_, _<_}
 use native.Mathlib.Numerals.{add-one}
 use native.Mathlib.Omega.{arith}
 use mathlib.Core.Path.{_≡_, refl, sym, ap, _∙_}
 use mathlib.Core.Bool.{Bool, true, false}
 use mathlib.Core.List.{List, [], _∷_}
 use mathlib.Core.Option.{Option, none, some}
-use lib.Dec.{eqb, leb, ltb}
+use lib.Dec.{leb}
 use lib.ListN.{length, drop, drop-of-length-le, length-drop}
 use lib.Seq.{drop-drop, drop-cons}
 use borrow.Author.Tests.{leb-true, leb-false, lt-ltb, le-ltb, le-leb, lt-leb, ne-eqb}
 use Rattle.bmap.specs.Plain.{if-else}
-use Rattle.bmap.specs.Tree.{Expr, Con, allowedE, allowedC}
+use Rattle.bmap.specs.Tree.{Con, allowedE, allowedC}
 use Rattle.bmap.specs.Code.{Parsed, parseE, parseC}
 use Rattle.bmap.specs.Domain.{Law, executable, effect, must, Scope, static, concurrency, goal}
 use Rattle.bmap.specs.Payload.{byte, only, taken, last, below, conIn, exprIn, context, asks, executableIn, effectIn, mustIn, lawIn}
-use Rattle.bmap.specs.declared.limits.Context.{Context}
 use Rattle.bmap.specs.declared.limits.Counts.{Counts}
 use Rattle.law.specs.Check.{checked}
 use Rattle.law.specs.declared.check.Checked.{Checked}
@@ -59,6 +58,7 @@ module _ {T : Type 0} (allowed : T → Bool) (p : List ℕ) (at : ℕ) (o : Opti
               go : (b : Bool) → leb (length p) n ≡ b → leb (length (drop n p)) 0 ≡ b
               go true h = le-leb (length (drop n p)) 0 (omega (arith, length-drop n p, leb-true (length p) n h))
               go false h = lt-leb (length (drop n p)) 0 (omega (arith, length-drop n p, leb-false (length p) n h))
+
       go : (q : Option (Parsed T)) → o ≡ q → leb (length p) n ≡ isSome (taken allowed (drop at p) q last)
       go none q = absurd (let z : _≡_ {A = ℕ} 0 1 = cc in omega arith)
       go (some t) q = by t (allowed (t .tree)) refl (sym (ap (checked allowed at) q) ∙ sym e ∙ k)
@@ -70,6 +70,7 @@ module _ {T : Type 0} (allowed : T → Bool) (p : List ℕ) (at : ℕ) (o : Opti
       by : (t : Parsed T) (b : Bool) → allowed (t .tree) ≡ b → if-else b (Next (at + t .used)) Refused ≡ Next n → (x : T) × (only b (k (t .tree) (drop (t .used) (drop at p))) ≡ k x (drop n p))
       by t false a q = absurd (let z : _≡_ {A = ℕ} 0 1 = cc in omega arith)
       by t true a q = let m : at + t .used ≡ n = cc in (t .tree, ap (k (t .tree)) (drop-drop (t .used) at p ∙ ap (λ i. drop i p) m))
+
       go : (q : Option (Parsed T)) → o ≡ q → (x : T) × (taken allowed (drop at p) q k ≡ k x (drop n p))
       go none q = absurd (let z : _≡_ {A = ℕ} 0 1 = cc in omega arith)
       go (some t) q = by t (allowed (t .tree)) refl (sym (ap (checked allowed at) q) ∙ sym e ∙ h)
@@ -80,6 +81,7 @@ module _ {T : Type 0} (allowed : T → Bool) (p : List ℕ) (at : ℕ) (o : Opti
       by : (t : Parsed T) (b : Bool) → allowed (t .tree) ≡ b → if-else b (Next (at + t .used)) Refused ≡ Refused → none ≡ only b (k (t .tree) (drop (t .used) (drop at p)))
       by t false a q = refl
       by t true a q = absurd (let z : _≡_ {A = ℕ} 0 1 = cc in omega arith)
+
       go : (q : Option (Parsed T)) → o ≡ q → none ≡ taken allowed (drop at p) q k
       go none q = refl
       go (some t) q = by t (allowed (t .tree)) refl (sym (ap (checked allowed at) q) ∙ sym e ∙ h)

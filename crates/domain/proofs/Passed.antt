@@ -1,19 +1,19 @@
 -- What a frame that passes its check says. Assumes nothing.
-use Prim.Native.Nat.{ℕ, zero, suc, _≤_, _<_}
+use Prim.Native.Nat.{ℕ, _≤_, _<_}
 use native.Mathlib.Omega.{arith}
-use mathlib.Core.Path.{_≡_, refl, sym, ap, _∙_}
+use mathlib.Core.Path.{_≡_, refl, ap}
 use mathlib.Core.Bool.{Bool, true, false}
 use mathlib.Core.List.{List, [], _∷_}
 use mathlib.Core.Option.{Option, none, some}
 use lib.Dec.{eqb, leb, ltb}
 use lib.ListN.{length, drop}
-use borrow.Author.Tests.{ltb-true, leb-true, eqb-true, eqb-false, eq-eqb}
+use borrow.Author.Tests.{ltb-true, leb-true, eqb-true, eqb-false}
 use Rattle.bmap.specs.Plain.{both, if-else}
-use Rattle.bmap.specs.Refusal.{Answer, got, refused, need, known, then}
+use Rattle.bmap.specs.Refusal.{Answer, got, need, known, then}
 use Rattle.bmap.specs.Line.{Frame}
 use Rattle.bmap.specs.Code.{Parsed, parseE, parseC}
 use Rattle.bmap.specs.Domain.{Entry, Law, executable, effect, must, Scope, static, concurrency, goal}
-use Rattle.bmap.specs.Payload.{Item, agents, fluent, knowledge, entry, law, byte, only, agentsFit, fluentFits, knowledgeFits, entryFits, fluentIn, knowledgeIn, entryIn, taken, last, below, conIn, exprIn, context, asks, executableIn, effectIn, mustIn, lawIn, lawItem, itemIn}
+use Rattle.bmap.specs.Payload.{Item, agents, fluent, knowledge, entry, law, byte, only, agentsFit, fluentFits, knowledgeFits, entryFits, fluentIn, knowledgeIn, entryIn, taken, last, below, conIn, exprIn, context, executableIn, effectIn, mustIn, lawIn, lawItem, itemIn}
 use Rattle.bmap.specs.Accept.{inOrder, room, fresh, executes}
 use Rattle.bmap.specs.declared.limits.Counts.{Counts}
 use Rattle.domain.specs.Check.{checkedOn, refusedIn}
@@ -52,6 +52,7 @@ item-case n k p i lo q = go (eqb k 0xA1) (eqb k 0xA2) (eqb k 0xA3) (eqb k 0xA4) 
     law-is : (o : Option Law) → lawIn n k p ≡ o → lawItem o ≡ some i → 0xA5 ≤ k → Case n k p i
     law-is none w z h = absurd (let y : _≡_ {A = ℕ} 0 1 = cc in omega arith)
     law-is (some l) w z h = is-law h l w (cc)
+
     go : (a b c d : Bool) → eqb k 0xA1 ≡ a → eqb k 0xA2 ≡ b → eqb k 0xA3 ≡ c → eqb k 0xA4 ≡ d
         → if-else a (only (agentsFit p) (some (agents (byte p 0)))) (if-else b (only (fluentFits p) (some (fluent (fluentIn p)))) (if-else c (only (knowledgeFits n p) (some (knowledge (knowledgeIn p)))) (if-else d (only (entryFits n p) (some (entry (entryIn p)))) (lawItem (lawIn n k p))))) ≡ some i
         → Case n k p i

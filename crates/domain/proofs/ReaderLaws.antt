@@ -1,22 +1,22 @@
 -- The reader, line by line. Assumes nothing.
-use Prim.Native.Nat.{ℕ, zero, suc, _+_, _-_, _*_, _≤_, _<_}
+use Prim.Native.Nat.{ℕ, suc, _+_, _-_, _*_, _≤_, _<_}
 use native.Mathlib.Numerals.{add-one}
 use native.Mathlib.Omega.{arith}
 use mathlib.Core.Path.{_≡_, refl, sym, ap, subst, _∙_}
-use mathlib.Core.Bool.{Bool, true, false}
+use mathlib.Core.Bool.{true, false}
 use mathlib.Core.List.{List, [], _∷_, _++_, append-assoc, append-nil, map}
 use mathlib.Core.Option.{Option, none, some}
-use lib.Dec.{eqb, leb}
-use lib.ListN.{length, getD, set, take, drop, replicate, length-append, length-take, length-drop}
-use lib.Seq.{length-take-le, take-append-le, take-at, drop-at, getD-at}
+use lib.Dec.{eqb}
+use lib.ListN.{length, getD, set, take, drop, replicate, length-append, length-drop}
+use lib.Seq.{length-take-le, take-at, drop-at, getD-at}
 use borrow.Author.Tests.{le-leb, lt-leb}
 use Rattle.bmap.specs.Plain.{if-else, flat}
-use Rattle.bmap.specs.Refusal.{Answer, got, refused, need, then, numberOf}
-use Rattle.bmap.specs.Line.{Frame, Line, stored, linesOf, decode}
+use Rattle.bmap.specs.Refusal.{got, refused, need, numberOf}
+use Rattle.bmap.specs.Line.{Frame, stored, linesOf, decode}
 use Rattle.bmap.specs.Domain.{Domain}
 use Rattle.bmap.specs.Payload.{byte, wordAt}
 use Rattle.bmap.specs.Accept.{Partial, nothing, countsOf, room, accept, complete, finished, Reading, read, refusedAt, atLine, afterwards, takenFrom}
-use Rattle.bmap.specs.Buffer.{padded, over, Filled, fill, filled}
+use Rattle.bmap.specs.Buffer.{padded, Filled, fill}
 use Rattle.bmap.specs.Store.{framesOf, storedOf, reading, readDomain}
 use Rattle.bmap.specs.declared.limits.Counts.{Counts}
 use Rattle.line.specs.Read.{lineRead, bytesRead}
@@ -158,10 +158,11 @@ module _ {text store rest : List ℕ} {latest : ℕ} {n : Counts} {names crews r
     pub reads-done : (p : List ℕ) → true ≡ completeOn n ready → (read used ≡ usedIn text) × (take used (renewed store used p) ≡ bytesIn text)
     unfolding usedIn
     reads-done p c =
-        let k : complete (h .so-far .domain) ≡ true = sym (gate-complete (h .gate) (h .few .entries)) ∙ sym c in
-        (sym (ap (λ r. afterwards r (λ d. read (length (bytesIn text)))) (last ∙ ap (λ b. atLine lines (need b 7 (got (h .so-far .domain))) read) k)
-        ∙ ap read (ap length (sym all-bytes) ∙ length-take-le used store inside)),
-        front-kept store used inside p ∙ all-bytes)
+        let k : complete (h .so-far .domain) ≡ true = sym (gate-complete (h .gate) (h .few .entries)) ∙ sym c in (
+          sym (ap (λ r. afterwards r (λ d. read (length (bytesIn text)))) (last ∙ ap (λ b. atLine lines (need b 7 (got (h .so-far .domain))) read) k)
+              ∙ ap read (ap length (sym all-bytes) ∙ length-take-le used store inside)),
+          front-kept store used inside p ∙ all-bytes,
+        )
 
     pub reads-missing : false ≡ completeOn n ready → (refusedAt 7 lines ≡ usedIn text) × Unit {0}
     unfolding usedIn
@@ -173,9 +174,11 @@ module _ {text store rest : List ℕ} {latest : ℕ} {n : Counts} {names crews r
 
   pub reads-bad : (m : ℕ) → some (refused m) ≡ lineRead rest out → (refusedAt m (lines + 1) ≡ usedIn text) × Unit {0}
   unfolding usedIn
-  reads-bad m e =
-      (ap (refusedAt m) (add-one lines)
-      ∙ sym (ap (λ r. afterwards r (λ d. read (length (bytesIn text)))) (h .run ∙ first-refused rest m lines (h .so-far) (line-refused rest out m room-out e))), tt)
+  reads-bad m e = (
+    ap (refusedAt m) (add-one lines)
+        ∙ sym (ap (λ r. afterwards r (λ d. read (length (bytesIn text)))) (h .run ∙ first-refused rest m lines (h .so-far) (line-refused rest out m room-out e))),
+    tt,
+  )
 
   -- ---- a line that is a frame's
 
@@ -206,10 +209,12 @@ module _ {text store rest : List ℕ} {latest : ℕ} {n : Counts} {names crews r
     pub reads-refused : (m : ℕ) → some m ≡ refusedIn (checkedOn latest n (entriesOf (n .entries) names crews) (cut (renewed store used p) used size))
         → (refusedAt m (lines + 1) ≡ usedIn text) × Unit {0}
     unfolding usedIn
-    reads-refused m q =
-        (ap (refusedAt m) (add-one lines)
-        ∙ sym (ap (λ r. afterwards r (λ d. read (length (bytesIn text))))
-        (run-on ∙ ap (λ a. atLine (suc lines) a (λ q. takenFrom (suc lines) q (framesOf (drop k rest)))) (accept-refused (h .so-far) (cut (renewed store used p) used size) m (says (some m) q)))), tt)
+    reads-refused m q = (
+      ap (refusedAt m) (add-one lines)
+          ∙ sym (ap (λ r. afterwards r (λ d. read (length (bytesIn text))))
+          (run-on ∙ ap (λ a. atLine (suc lines) a (λ q. takenFrom (suc lines) q (framesOf (drop k rest)))) (accept-refused (h .so-far) (cut (renewed store used p) used size) m (says (some m) q)))),
+      tt,
+    )
 
     module _ (q : none ≡ refusedIn (checkedOn latest n (entriesOf (n .entries) names crews) (cut (renewed store used p) used size))) where
       abbrev frame : Frame

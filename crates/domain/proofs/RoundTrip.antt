@@ -1,31 +1,30 @@
 -- There and back. Accepted lines, read and written again, are the same lines; an accepted store, written and read again, is the same bytes
 -- with zeros after. Assumes nothing.
 use Prim.Native.Nat.{ℕ, zero, suc, _+_, _-_, _≤_, _<_}
-use native.Mathlib.Numerals.{add-one}
 use native.Mathlib.Omega.{arith}
 use mathlib.Core.Path.{_≡_, refl, sym, ap, subst, _∙_}
 use mathlib.Core.Bool.{Bool, true, false}
-use mathlib.Core.List.{List, [], _∷_, _++_, append-assoc, append-nil, map}
+use mathlib.Core.List.{List, [], _∷_, _++_, append-assoc, map}
 use mathlib.Core.Option.{Option, none, some}
 use lib.Dec.{eqb, leb}
-use lib.ListN.{length, getD, take, drop, replicate, length-append, length-drop, length-replicate, take-append-drop}
-use lib.Seq.{take-append-seam, drop-append-seam, drop-append-add, getD-append-seam, getD-append-add, drop-cons, drop-drop, take-at, drop-nil}
-use borrow.Author.Tests.{leb-true, leb-false, le-leb, lt-leb, eqb-true, eq-eqb, ne-eqb}
+use lib.ListN.{length, getD, take, drop, replicate, length-append, length-replicate, take-append-drop}
+use lib.Seq.{take-append-seam, drop-append-seam, drop-append-add, getD-append-seam, getD-append-add, drop-cons, drop-drop}
+use borrow.Author.Tests.{leb-true, leb-false, le-leb, eqb-true, ne-eqb}
 use Rattle.bmap.specs.Plain.{both, if-else, maybe, all, flat}
-use Rattle.bmap.specs.Refusal.{Answer, got, refused, then, known}
+use Rattle.bmap.specs.Refusal.{Answer, got, refused, then}
 use Rattle.bmap.specs.Line.{Frame, Line, stored, linesOf, decode, lineFor}
 use Rattle.bmap.specs.Domain.{Domain}
 use Rattle.bmap.specs.Payload.{Item}
 use Rattle.bmap.specs.Accept.{Partial, nothing, countsOf, accept, Reading, read, refusedAt, atLine, afterwards, takenFrom, taken}
 use Rattle.bmap.specs.Buffer.{padded, over, Filled, fill, Written, written}
-use Rattle.bmap.specs.Store.{framesOf, storedOf, reading, standsAt, frameAt, zeros, framesFrom, framesIn, whatWasRead, domainIn, textOf, readDomain, writeDomain}
+use Rattle.bmap.specs.Store.{framesOf, storedOf, reading, standsAt, frameAt, zeros, framesFrom, framesIn, domainIn, textOf, readDomain, writeDomain}
 use Rattle.line.proofs.Lists.{Bytes, bytes-take, bytes-drop}
-use Rattle.line.proofs.LineLaws.{lines-first, Decodes, decodes, decode-line, lines-line, text-line}
+use Rattle.line.proofs.LineLaws.{lines-first, decodes, decode-line, lines-line, text-line}
 use Rattle.domain.specs.Check.{checkedOn, refusedIn}
 use Rattle.domain.specs.Read.{bytesIn}
-use Rattle.domain.proofs.Passed.{Case, is-agents, is-fluent, is-knowledge, is-entry, is-law, Passed, passed}
+use Rattle.domain.proofs.Passed.{Case, is-agents, is-fluent, is-knowledge, is-entry, is-law, passed}
 use Rattle.domain.proofs.Stands.{Here, here, with, accept-is}
-use Rattle.domain.proofs.Accepted.{Domained, domained}
+use Rattle.domain.proofs.Accepted.{domained}
 use Rattle.domain.proofs.ReaderLaws.{read-in-room, read-short}
 
 -- ---- frames that a store can hold
@@ -50,6 +49,7 @@ taken-kind p f q e z = go (checkedOn (p .latest) (countsOf (p .domain)) (p .doma
     by (is-knowledge k x) = omega arith
     by (is-entry k x) = omega arith
     by (is-law k l w x) = omega arith
+
     go : (a : Answer Item) → checkedOn (p .latest) (countsOf (p .domain)) (p .domain .entries) f ≡ a → then a (λ i. got (with p f i)) ≡ got q → ⊥
     go (refused n) c t = let y : _≡_ {A = ℕ} 0 1 = cc in omega arith
     go (got i) c t = by (passed (p .latest) (countsOf (p .domain)) (p .domain .entries) f (sym (ap refusedIn c)) .case)
@@ -199,6 +199,7 @@ was-got text store n e = room (leb 36_000 (length store)) refl
           reads = ap taken (sym (a .1 .0)) ∙ r;
           left = k ∙ ap (padded (length store)) b;
         }
+
     room : (b : Bool) → leb 36_000 (length store) ≡ b → Got text store n
     room true q = by (reading text) refl (leb-true 36_000 (length store) q)
     room false q = absurd (let k = read-short text store (leb-false 36_000 (length store) q) .0 in let z : _≡_ {A = ℕ} 0 1 = cc in omega arith)
@@ -277,6 +278,7 @@ holds (suc looks) s at fs b e = step (frameAt s at) refl e (λ f rest q. holds l
         let n : fs ≡ [] = cc in
         subst (Holds s at) (sym n) (record { zeros-after = length (drop at s); bytes = zeros-are (drop at s) z; spelt = none-spelt })
     last false z q = absurd (let y : _≡_ {A = ℕ} 0 1 = cc in omega arith)
+
     more : (f : Frame) → frameAt s at ≡ some f → (o : Option (List Frame)) → framesFrom looks s (at + length (stored f)) ≡ o
         → maybe o none (λ rest. some (f ∷ rest)) ≡ some fs
         → ((rest : List Frame) → framesFrom looks s (at + length (stored f)) ≡ some rest → Holds s (at + length (stored f)) rest) → Holds s at fs
@@ -297,6 +299,7 @@ holds (suc looks) s at fs b e = step (frameAt s at) refl e (λ f rest q. holds l
               })
               (r .spelt);
         })
+
     step : (o : Option Frame) → frameAt s at ≡ o
         → maybe o (if-else (zeros (drop at s)) (some []) none) (λ f. maybe (framesFrom looks s (at + length (stored f))) none (λ rest. some (f ∷ rest))) ≡ some fs
         → ((f : Frame) (rest : List Frame) → framesFrom looks s (at + length (stored f)) ≡ some rest → Holds s (at + length (stored f)) rest) → Holds s at fs

@@ -1,6 +1,5 @@
 -- Lists that are read and written by number: a row with zeros after, the numbers from a place on, one element more. Assumes nothing.
 use Prim.Native.Nat.{ℕ, zero, suc, _+_, _-_, _≤_, _<_}
-use native.Mathlib.Nat.{le-of-suc-le-suc, not-suc-le-zero}
 use native.Mathlib.Numerals.{add-one}
 use native.Mathlib.Omega.{arith}
 use mathlib.Core.Path.{_≡_, refl, sym, ap, _∙_}
@@ -56,6 +55,7 @@ module _ {A : Type 0} (size : ℕ) (z : A) (l : List A) where
       zeros : (n : ℕ) → length (replicate n z) ≡ n
       zeros zero = refl
       zeros (suc n) = ap suc (zeros n)
+
       go : (n : ℕ) → size - length l ≡ n → length l + length (replicate (size - length l) z) ≡ size
       go n e = let k = zeros (size - length l) in omega (arith, zeros (size - length l))
 

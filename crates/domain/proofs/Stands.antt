@@ -6,16 +6,16 @@ use mathlib.Core.Path.{_≡_, refl, sym, ap, subst, _∙_}
 use mathlib.Core.Bool.{Bool, true, false, not}
 use mathlib.Core.List.{List, [], _∷_, _++_, append-assoc, append-nil, map}
 use mathlib.Core.Option.{Option, none, some}
-use lib.Dec.{eqb, leb, ltb}
-use lib.ListN.{length, getD, take, drop, length-take, length-drop}
-use lib.Seq.{take-nil, length-take-le, getD-take, getD-drop, drop-drop, drop-cons}
-use borrow.Author.Tests.{leb-true, eqb-true, eqb-false, ltb-true, le-leb, lt-leb}
-use Rattle.bmap.specs.Plain.{both, if-else, maybe, all, any}
-use Rattle.bmap.specs.Refusal.{Answer, got, refused, need, known, then}
+use lib.Dec.{eqb, leb}
+use lib.ListN.{length, getD, take, drop, length-drop}
+use lib.Seq.{take-nil, length-take-le, getD-take, getD-drop, drop-drop}
+use borrow.Author.Tests.{leb-true, eqb-false, le-leb, lt-leb}
+use Rattle.bmap.specs.Plain.{if-else, maybe}
+use Rattle.bmap.specs.Refusal.{Answer, got, refused, need, then}
 use Rattle.bmap.specs.Line.{Frame, stored}
 use Rattle.bmap.specs.Domain.{Domain, Fluent, Knows, Entry, Law}
-use Rattle.bmap.specs.Payload.{Item, agents, fluent, knowledge, entry, law, byte, fluentIn, knowledgeIn, entryIn, context, executableIn, effectIn, mustIn, lawIn}
-use Rattle.bmap.specs.Accept.{Partial, nothing, countsOf, room, checked, add, accept, complete, finished, Reading, read, refusedAt, atLine, takenFrom}
+use Rattle.bmap.specs.Payload.{Item, agents, fluent, knowledge, entry, law, byte, fluentIn, knowledgeIn, entryIn, executableIn, effectIn, mustIn, lawIn}
+use Rattle.bmap.specs.Accept.{Partial, nothing, countsOf, checked, add, accept, complete, read, atLine, takenFrom}
 use Rattle.bmap.specs.Store.{standsAt, frameAt, zeros, framesFrom}
 use Rattle.bmap.specs.declared.limits.Counts.{Counts}
 use Rattle.index.specs.Index.{frameBytes}
@@ -42,6 +42,7 @@ here s at f e = go (standsAt s at) refl e
     not-so : (b : Bool) → not b ≡ true → b ≡ false
     not-so true q = sym q
     not-so false q = refl
+
     go : (b : Bool) → standsAt s at ≡ b → if-else b (some (record { kind = getD s at 0; payload = take (getD s (at + 1) 0) (drop (at + 2) s) })) none ≡ some f → Here s at f
     go false t q = absurd (let z : _≡_ {A = ℕ} 0 1 = cc in omega arith)
     go true t q =
@@ -214,7 +215,7 @@ mapped-none f [] e = refl
 mapped-none f (a ∷ l) e = absurd (let z : _≡_ {A = ℕ} 0 1 = cc in omega arith)
 
 module _ (s : List ℕ) (p : Partial) (places : List ℕ) (at : ℕ) (st : Stands s p places at) (f : Frame) (h : Here s at f)
-  (v : Passed (p .latest) (countsOf (p .domain)) (p .domain .entries) f) where
+    (v : Passed (p .latest) (countsOf (p .domain)) (p .domain .entries) f) where
   abbrev less : More (p .latest) (p .domain) (p .domain .entries) f v (v .item)
   less = more (p .latest) (p .domain) (p .domain .entries) f v
 
@@ -293,8 +294,8 @@ pub record Whole (s : List ℕ) (d : Domain) (places : List ℕ) : Type 0 where
   pub full : complete d ≡ true
 
 module _ (looks lines : ℕ) (s : List ℕ) (p : Partial) (places : List ℕ) (at : ℕ) (fs : List Frame) (d : Domain) (st : Stands s p places at)
-  (rec : (q : Partial) (places : List ℕ) (at : ℕ) (fs : List Frame) → Stands s q places at → framesFrom looks s at ≡ some fs → takenFrom (suc lines) q (map got fs) ≡ read d
-      → Whole s d (places ++ lawPlaces at fs)) where
+    (rec : (q : Partial) (places : List ℕ) (at : ℕ) (fs : List Frame) → Stands s q places at → framesFrom looks s at ≡ some fs → takenFrom (suc lines) q (map got fs) ≡ read d
+    → Whole s d (places ++ lawPlaces at fs)) where
   -- no frame: only zeros
   ended : (b : Bool) → complete (p .domain) ≡ b → atLine lines (need b 7 (got (p .domain))) read ≡ read d → fs ≡ [] → Whole s d (places ++ lawPlaces at fs)
   unfolding lawPlaces
@@ -337,6 +338,7 @@ module _ (looks lines : ℕ) (s : List ℕ) (p : Partial) (places : List ℕ) (a
       last : (b : Bool) → if-else b (some []) none ≡ some fs → fs ≡ []
       last true q = cc
       last false q = absurd (let z : _≡_ {A = ℕ} 0 1 = cc in omega arith)
+
       more : (f : Frame) → frameAt s at ≡ some f → (o : Option (List Frame)) → framesFrom looks s (at + length (stored f)) ≡ o
           → maybe o none (λ rest. some (f ∷ rest)) ≡ some fs → Whole s d (places ++ lawPlaces at fs)
       more f fe none re q = absurd (let z : _≡_ {A = ℕ} 0 1 = cc in omega arith)
@@ -344,6 +346,7 @@ module _ (looks lines : ℕ) (s : List ℕ) (p : Partial) (places : List ℕ) (a
           let fr : fs ≡ f ∷ rest = cc in
           taken f rest fe re fr (checkedOn (p .latest) (countsOf (p .domain)) (p .domain .entries) f) refl
           (ap (λ a. atLine (suc lines) a (λ q. takenFrom (suc lines) q (map got rest))) (sym (accept-is p f)) ∙ ap (λ l. takenFrom lines p (map got l)) (sym fr) ∙ r)
+
       go : (o : Option Frame) → frameAt s at ≡ o
           → maybe o (if-else (zeros (drop at s)) (some []) none) (λ f. maybe (framesFrom looks s (at + length (stored f))) none (λ rest. some (f ∷ rest))) ≡ some fs
           → Whole s d (places ++ lawPlaces at fs)

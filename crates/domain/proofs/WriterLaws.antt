@@ -6,26 +6,25 @@ use mathlib.Core.Path.{_≡_, refl, sym, ap, _∙_}
 use mathlib.Core.Bool.{Bool, true, false}
 use mathlib.Core.List.{List, [], _∷_, _++_, append-assoc, append-nil, map}
 use mathlib.Core.Option.{Option, none, some}
-use lib.Dec.{eqb, leb}
+use lib.Dec.{leb}
 use lib.ListN.{length, getD, take, drop, length-append, length-drop, take-append-drop, drop-of-length-le}
 use lib.Seq.{length-take-le, take-at, drop-at, drop-drop}
 use borrow.Author.Tests.{le-leb, lt-leb}
 use Rattle.bmap.specs.Plain.{if-else, maybe, flat}
-use Rattle.bmap.specs.Refusal.{Answer, got, refused, need, then}
+use Rattle.bmap.specs.Refusal.{Answer, got, refused, then}
 use Rattle.bmap.specs.Line.{Frame, stored, lineFor}
 use Rattle.bmap.specs.Domain.{Domain}
-use Rattle.bmap.specs.Accept.{read, taken}
-use Rattle.bmap.specs.Buffer.{over, Written, written}
+use Rattle.bmap.specs.Buffer.{over, written}
 use Rattle.bmap.specs.Session.{isGot}
-use Rattle.bmap.specs.Store.{frameAt, zeros, framesFrom, framesIn, textOf, domainIn, writeDomain}
+use Rattle.bmap.specs.Store.{frameAt, zeros, framesFrom, textOf, domainIn, writeDomain}
 use Rattle.line.specs.Write.{lineWritten}
 use Rattle.line.proofs.Lists.{part-to-end}
 use Rattle.line.proofs.WriteLaws.{length-line}
 use Rattle.domain.specs.Write.{linesFrom, linesIn}
 use Rattle.domain.specs.declared.found.Found.{Found}
-use Rattle.domain.specs.Found.{nothingFound, foundIn}
+use Rattle.domain.specs.Found.{foundIn}
 use Rattle.domain.proofs.Held.{cut, Framed}
-use Rattle.domain.proofs.Accepted.{Domained, domained, refused-15, found-got, found-not}
+use Rattle.domain.proofs.Accepted.{domained, refused-15, found-got, found-not}
 use Rattle.domain.proofs.ReaderLaws.{renewed, lent-length}
 
 -- ---- acceptance
@@ -47,10 +46,12 @@ lines-are (suc looks) s at fs e = step (frameAt s at) (λ f rest. lines-are look
     last : (b : Bool) → if-else b (some []) none ≡ some fs → fs ≡ []
     last true q = cc
     last false q = absurd (let z : _≡_ {A = ℕ} 0 1 = cc in omega arith)
+
     more : (f : Frame) (o : Option (List Frame)) → ((rest : List Frame) → o ≡ some rest → flat (map lineFor rest) ≡ linesFrom looks s (at + length (stored f)))
         → maybe o none (λ rest. some (f ∷ rest)) ≡ some fs → flat (map lineFor fs) ≡ lineFor f ++ linesFrom looks s (at + length (stored f))
     more f none rec q = absurd (let z : _≡_ {A = ℕ} 0 1 = cc in omega arith)
     more f (some rest) rec q = let z : fs ≡ f ∷ rest = cc in ap (λ l. flat (map lineFor l)) z ∙ ap (λ l. lineFor f ++ l) (rec rest refl)
+
     step : (o : Option Frame) → ((f : Frame) (rest : List Frame) → framesFrom looks s (at + length (stored f)) ≡ some rest → flat (map lineFor rest) ≡ linesFrom looks s (at + length (stored f)))
         → maybe o (if-else (zeros (drop at s)) (some []) none) (λ f. maybe (framesFrom looks s (at + length (stored f))) none (λ rest. some (f ∷ rest))) ≡ some fs
         → flat (map lineFor fs) ≡ maybe o [] (λ f. lineFor f ++ linesFrom looks s (at + length (stored f)))
@@ -113,7 +114,7 @@ module _ (s : List ℕ) (at looks left : ℕ) (h : Enough s at looks) where
 
     pub fits-more : 2 * size + 1 ≤ left → leb (length (linesFrom looks s at)) left ≡ leb (length (linesFrom (looks - 1) s (at + size))) (left - (2 * size + 1))
     fits-more l = elim (decLe (length (linesFrom looks s at)) left) [
-      yes k ↦ le-leb (length (linesFrom looks s at)) left k ∙ sym (le-leb (length (linesFrom (looks - 1) s (at + size))) (left - (2 * size + 1)) (omega (arith, whole)))
+      | yes k ↦ le-leb (length (linesFrom looks s at)) left k ∙ sym (le-leb (length (linesFrom (looks - 1) s (at + size))) (left - (2 * size + 1)) (omega (arith, whole)))
       | no k ↦ lt-leb (length (linesFrom looks s at)) left (omega arith) ∙ sym (lt-leb (length (linesFrom (looks - 1) s (at + size))) (left - (2 * size + 1)) (omega (arith, whole)))
     ]
 

@@ -2,9 +2,8 @@
 use Prim.Native.Nat.{ℕ, _+_, _-_}
 use mathlib.Core.Bool.{Bool, true, false}
 use mathlib.Core.List.{List, [], _∷_, _++_, map}
-use mathlib.Core.Option.{Option, none, some}
 use lib.Dec.{eqb, leb, ltb}
-use lib.IntN.{ℤ, pos}
+use lib.IntN.{pos}
 use lib.ListN.{length, getD, replicate}
 use Rattle.bmap.specs.Plain.{both, if-else, maybe, all, numbers}
 use Rattle.bmap.specs.Limits.{mostFluents, mostKnowledge, mostEntries, mostLaws}

@@ -38,7 +38,12 @@ fn room_for(n: Counts, kind: u8) -> bool
 }
 
 // Whether one of the first n entries has the name and the crew that a payload has.
-fn repeated(n: usize, names: &[u8; Counts::ENTRIES], crews: &[u16; Counts::ENTRIES], p: &[u8]) -> bool
+fn repeated(
+    n: usize,
+    names: &[u8; Counts::ENTRIES],
+    crews: &[u16; Counts::ENTRIES],
+    p: &[u8],
+) -> bool
     requires { ⌜ n ≤ mostEntries ⌝ }
     ensures { λ r. ⌜ r ≡ any (alike (entryIn (now (p .entry)))) (entriesOf n (now (names .entry)) (now (crews .entry))) ⌝ }
 {

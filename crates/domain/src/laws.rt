@@ -7,7 +7,6 @@ use law::check_expression;
 ghost use mathlib.Core.Bool.{true};
 ghost use mathlib.Core.Path.{_≡_};
 ghost use lib.ListN.{drop};
-ghost use Rattle.bmap.specs.Domain.{static, concurrency, goal};
 ghost use Rattle.bmap.specs.Payload.{last, conIn, exprIn, context, executableIn, effectIn, lawIn};
 ghost use Rattle.domain.specs.Check.{isSome};
 

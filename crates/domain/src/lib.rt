@@ -10,8 +10,8 @@ mod reader;
 mod writer;
 
 pub use found::Found;
-pub use found::is_accepted;
 pub use found::index_of;
+pub use found::is_accepted;
 pub use frames::FrameReader;
 pub use frames::next;
 pub use frames::start;

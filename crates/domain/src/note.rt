@@ -63,7 +63,13 @@ pub(crate) fn note_fluent(
 }
 
 // A3: a fluent, and who knows it.
-pub(crate) fn note_knowledge(n: Counts, kind: u8, p: &[u8], known: &mut [u8; Counts::KNOWLEDGE], knowers: &mut [u16; Counts::KNOWLEDGE])
+pub(crate) fn note_knowledge(
+    n: Counts,
+    kind: u8,
+    p: &[u8],
+    known: &mut [u8; Counts::KNOWLEDGE],
+    knowers: &mut [u16; Counts::KNOWLEDGE],
+)
     requires { ⌜ room n kind ≡ true ⌝ }
     ensures { λ _. ⌜ (now (known .exit) ≡ if-else (eqb kind 0xA3) (set (now (known .entry)) (n .knowledge) (byte (now (p .entry)) 0)) (now (known .entry))) × (now (knowers .exit) ≡ if-else (eqb kind 0xA3) (set (now (knowers .entry)) (n .knowledge) (wordAt (now (p .entry)) 1)) (now (knowers .entry))) ⌝ }
 {
@@ -75,7 +81,13 @@ pub(crate) fn note_knowledge(n: Counts, kind: u8, p: &[u8], known: &mut [u8; Cou
 }
 
 // A4: an action's name, and its crew.
-pub(crate) fn note_entry(n: Counts, kind: u8, p: &[u8], names: &mut [u8; Counts::ENTRIES], crews: &mut [u16; Counts::ENTRIES])
+pub(crate) fn note_entry(
+    n: Counts,
+    kind: u8,
+    p: &[u8],
+    names: &mut [u8; Counts::ENTRIES],
+    crews: &mut [u16; Counts::ENTRIES],
+)
     requires { ⌜ room n kind ≡ true ⌝ }
     ensures { λ _. ⌜ (now (names .exit) ≡ if-else (eqb kind 0xA4) (set (now (names .entry)) (n .entries) (byte (now (p .entry)) 0)) (now (names .entry))) × (now (crews .exit) ≡ if-else (eqb kind 0xA4) (set (now (crews .entry)) (n .entries) (wordAt (now (p .entry)) 1)) (now (crews .entry))) ⌝ }
 {

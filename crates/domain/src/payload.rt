@@ -1,6 +1,6 @@
 // Whether a payload is as its kind describes it: what refusal 4 asks.
-use bmap::Counts;
 use crate::laws::law_fits;
+use bmap::Counts;
 ghost use mathlib.Core.Path.{_≡_};
 ghost use Prim.Native.Nat.{_<_};
 ghost use lib.Signed.{leZ};

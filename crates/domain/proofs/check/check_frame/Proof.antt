@@ -1,17 +1,10 @@
 use borrow.Author.Tests.{not-true, not-false}
 use Rattle.domain.proofs.CheckLaws.{check-3, check-5, check-4, check-other, check-6, check-new}
-use Rattle.bmap.specs.Line.{Frame}
 use Rattle.domain.specs.Check.{entriesOf}
-use mathlib.Core.Path.{_≡_, sym, _∙_}
+use mathlib.Core.Path.{sym, _∙_}
 use borrow.Author.Needs.{needs}
 use Rattle.domain.proofs.check.check_frame.Statement.{statement}
 use Rattle.domain.proofs.check.check_frame.Tie as tie
-use Rattle.domain.proofs.check.check_frame.Reads as reads
-use Rattle.domain.proofs.check.check_frame.Lts as lts
-use Rattle.domain.proofs.check.in_order.Reads as in-order-reads
-use Rattle.domain.proofs.check.repeated.Reads as repeated-reads
-use Rattle.domain.proofs.check.room_for.Reads as room-for-reads
-use Rattle.domain.proofs.payload.payload_fits.Reads as payload-fits-reads
 
 in-order-requires : tie.Need-in-order-requires
 in-order-requires c κs = search needs

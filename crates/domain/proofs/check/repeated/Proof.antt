@@ -5,16 +5,12 @@ use Rattle.bmap.specs.Payload.{entryIn}
 use Rattle.bmap.specs.Plain.{any, numbers}
 use borrow.Author.Needs.{needs}
 use mathlib.Core.List.{map}
-use mathlib.Core.Path.{_≡_, refl, sym, ap, _∙_}
+use mathlib.Core.Path.{_≡_, sym, _∙_}
 use mathlib.Core.Logic.{⊎-elim}
 use native.Mathlib.Omega.{arith}
-use Prim.Native.Nat.{_+_, _-_, _≤_, _<_}
+use Prim.Native.Nat.{_-_, _≤_}
 use Rattle.domain.proofs.check.repeated.Statement.{statement}
 use Rattle.domain.proofs.check.repeated.Tie as tie
-use Rattle.domain.proofs.check.repeated.Reads as reads
-use Rattle.domain.proofs.check.repeated.Lts as lts
-use Rattle.domain.proofs.payload.byte_at.Reads as byte-at-reads
-use Rattle.domain.proofs.payload.word_at.Reads as word-at-reads
 
 abbrev Inv-loop : tie.InvT-loop
 Inv-loop n names crews p name crew i₀ i = (n ≤ 64) × (any (alike (entryIn p)) (entriesOf n names crews) ≡ any (alike (entryIn p)) (map (entryOf names crews) (numbers i (n - i))))
@@ -61,12 +57,14 @@ loop-again : tie.Need-loop-again Inv-loop μ-loop
 loop-again c =
     let l = c .before .before .before in
     let a = l .before .before .before .before .args in
-    let e = entryOf (a .names .now) (a .crews .now) (l .loop .i) in
-    (l .loop .inv .0, l .loop .inv .1 ∙ any-on (alike (entryIn (a .p .now))) (entryOf (a .names .now) (a .crews .now)) (a .n) (l .loop .i) (omega arith)
-    (⊎-elim
-    (λ w. alike-crew (a .p .now) e (sym (l .before .before .byte-at .ensures) ∙ w .0 .taken) (λ z. w .2 .left (l .before .word-at .ensures ∙ z)))
-    (λ w. alike-name (a .p .now) e (λ z. w .left (l .before .before .byte-at .ensures ∙ z)))
-    (c .if1 .came)))
+    let e = entryOf (a .names .now) (a .crews .now) (l .loop .i) in (
+      l .loop .inv .0,
+      l .loop .inv .1 ∙ any-on (alike (entryIn (a .p .now))) (entryOf (a .names .now) (a .crews .now)) (a .n) (l .loop .i) (omega arith)
+          (⊎-elim
+          (λ w. alike-crew (a .p .now) e (sym (l .before .before .byte-at .ensures) ∙ w .0 .taken) (λ z. w .2 .left (l .before .word-at .ensures ∙ z)))
+          (λ w. alike-name (a .p .now) e (λ z. w .left (l .before .before .byte-at .ensures ∙ z)))
+          (c .if1 .came)),
+    )
 
 returns-2 : tie.Need-returns-2 Inv-loop μ-loop
 returns-2 c =

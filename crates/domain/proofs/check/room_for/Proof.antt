@@ -4,8 +4,6 @@ use mathlib.Core.Path.{_≡_}
 use native.Mathlib.Omega.{arith}
 use Rattle.domain.proofs.check.room_for.Statement.{statement}
 use Rattle.domain.proofs.check.room_for.Tie as tie
-use Rattle.domain.proofs.check.room_for.Reads as reads
-use Rattle.domain.proofs.check.room_for.Lts as lts
 
 returns : tie.Need-returns
 unfolding room

@@ -6,32 +6,17 @@ use Rattle.bmap.specs.Payload.{byte}
 use mathlib.Core.Bool.{true}
 use Rattle.bmap.specs.Accept as accept
 use Prim.Native.Nat.{_<_}
-use Rattle.bmap.specs.Refusal.{numberOf}
 use Rattle.line.specs.Frame.{sizeOf}
 use borrow.Author.Tests.{not-true, not-false}
 use borrow.Author.Needs.{needs}
-use lib.ListN.{length, drop}
+use lib.ListN.{length}
 use Rattle.bmap.specs.Line.{Frame}
-use mathlib.Core.Option.{some, none}
-use mathlib.Core.Path.{_≡_, refl, sym, ap, _∙_}
+use mathlib.Core.Option.{none}
+use mathlib.Core.Path.{_≡_, sym, ap, _∙_}
 use native.Mathlib.Omega.{arith}
 use Prim.Native.Nat.{ℕ, _+_, _-_}
 use Rattle.domain.proofs.found.index_of.Statement.{statement}
 use Rattle.domain.proofs.found.index_of.Tie as tie
-use Rattle.domain.proofs.found.index_of.Reads as reads
-use Rattle.domain.proofs.found.index_of.Lts as lts
-use Rattle.domain.proofs.check.check_frame.Reads as check-frame-reads
-use Rattle.domain.proofs.found.is_complete.Reads as is-complete-reads
-use Rattle.domain.proofs.found.nothing_found.Reads as nothing-found-reads
-use Rattle.domain.proofs.found.zeros_from.Reads as zeros-from-reads
-use Rattle.domain.proofs.note.count_frame.Reads as count-frame-reads
-use Rattle.domain.proofs.note.note_entry.Reads as note-entry-reads
-use Rattle.domain.proofs.note.note_fluent.Reads as note-fluent-reads
-use Rattle.domain.proofs.note.note_knowledge.Reads as note-knowledge-reads
-use Rattle.domain.proofs.note.note_law.Reads as note-law-reads
-use Rattle.domain.proofs.note.note_ready.Reads as note-ready-reads
-use Rattle.domain.proofs.payload.byte_at.Reads as byte-at-reads
-use Rattle.line.proofs.frame_at.Reads as frame-at-reads
 
 abbrev Inv-loop : tie.InvT-loop
 Inv-loop store latest₀ n₀ lowest₀ highest₀ start₀ known₀ knowers₀ names₀ crews₀ laws₀ ready₀ at₀ latest n lowest highest start known knowers names crews laws ready at = Held store latest n lowest highest start known knowers names crews laws ready at

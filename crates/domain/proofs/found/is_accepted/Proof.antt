@@ -5,9 +5,6 @@ use mathlib.Core.Path.{ap, _∙_}
 use borrow.Author.Needs.{needs}
 use Rattle.domain.proofs.found.is_accepted.Statement.{statement}
 use Rattle.domain.proofs.found.is_accepted.Tie as tie
-use Rattle.domain.proofs.found.is_accepted.Reads as reads
-use Rattle.domain.proofs.found.is_accepted.Lts as lts
-use Rattle.domain.proofs.found.index_of.Reads as index-of-reads
 
 index-of-requires : tie.Need-index-of-requires
 index-of-requires c κs = search needs

@@ -4,13 +4,11 @@ use Rattle.bmap.specs.Plain.{all, numbers}
 use borrow.Author.Tests.{eq-eqb, ne-eqb}
 use lib.ListN.{getD}
 use lib.Dec.{eqb}
-use mathlib.Core.Path.{_≡_, refl, sym, _∙_}
+use mathlib.Core.Path.{_≡_, sym, _∙_}
 use native.Mathlib.Omega.{arith}
 use Prim.Native.Nat.{_-_, _≤_}
 use Rattle.domain.proofs.found.is_complete.Statement.{statement}
 use Rattle.domain.proofs.found.is_complete.Tie as tie
-use Rattle.domain.proofs.found.is_complete.Reads as reads
-use Rattle.domain.proofs.found.is_complete.Lts as lts
 
 abbrev Inv-loop : tie.InvT-loop
 Inv-loop ready entries i₀ i = (entries ≤ 64) × (all (λ j. eqb (getD ready j 0) 1) (numbers 0 entries) ≡ all (λ j. eqb (getD ready j 0) 1) (numbers i (entries - i)))

@@ -6,8 +6,6 @@ use native.Mathlib.Omega.{arith}
 use Prim.Native.Nat.{_-_}
 use Rattle.domain.proofs.found.zeros_from.Statement.{statement}
 use Rattle.domain.proofs.found.zeros_from.Tie as tie
-use Rattle.domain.proofs.found.zeros_from.Reads as reads
-use Rattle.domain.proofs.found.zeros_from.Lts as lts
 
 abbrev Inv-loop : tie.InvT-loop
 Inv-loop store at i₀ i = zeros (drop at store) ≡ zeros (drop i store)

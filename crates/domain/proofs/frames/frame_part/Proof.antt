@@ -7,9 +7,6 @@ use native.Mathlib.Omega.{arith}
 use borrow.Author.Needs.{needs}
 use Rattle.domain.proofs.frames.frame_part.Statement.{statement}
 use Rattle.domain.proofs.frames.frame_part.Tie as tie
-use Rattle.domain.proofs.frames.frame_part.Reads as reads
-use Rattle.domain.proofs.frames.frame_part.Lts as lts
-use Rattle.line.proofs.frame_at.Reads as frame-at-reads
 
 frame-at-requires : tie.Need-frame-at-requires
 frame-at-requires c κs = search needs

@@ -4,9 +4,6 @@ use mathlib.Core.Path.{sym, _∙_}
 use borrow.Author.Needs.{needs}
 use Rattle.domain.proofs.frames.refusal_of.Statement.{statement}
 use Rattle.domain.proofs.frames.refusal_of.Tie as tie
-use Rattle.domain.proofs.frames.refusal_of.Reads as reads
-use Rattle.domain.proofs.frames.refusal_of.Lts as lts
-use Rattle.domain.proofs.found.is_accepted.Reads as is-accepted-reads
 
 is-accepted-requires : tie.Need-is-accepted-requires
 is-accepted-requires c κs = search needs

@@ -3,8 +3,6 @@ use borrow.Author.Tests.{eq-eqb, ne-eqb}
 use borrow.Author.Needs.{needs}
 use Rattle.domain.proofs.frames.standing.Statement.{statement}
 use Rattle.domain.proofs.frames.standing.Tie as tie
-use Rattle.domain.proofs.frames.standing.Reads as reads
-use Rattle.domain.proofs.frames.standing.Lts as lts
 
 slice-aggregate-result : tie.Need-slice-aggregate-result
 slice-aggregate-result c = search needs

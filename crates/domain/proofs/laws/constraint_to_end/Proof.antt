@@ -8,9 +8,6 @@ use Rattle.bmap.specs.Tree.{allowedC}
 use borrow.Author.Needs.{needs}
 use Rattle.domain.proofs.laws.constraint_to_end.Statement.{statement}
 use Rattle.domain.proofs.laws.constraint_to_end.Tie as tie
-use Rattle.domain.proofs.laws.constraint_to_end.Reads as reads
-use Rattle.domain.proofs.laws.constraint_to_end.Lts as lts
-use Rattle.law.proofs.check_constraint.Reads as check-constraint-reads
 
 check-constraint-requires : tie.Need-check-constraint-requires
 check-constraint-requires c κs = search needs

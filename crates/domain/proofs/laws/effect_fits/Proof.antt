@@ -2,22 +2,16 @@ use Rattle.domain.proofs.LawLaws.{effect-empty, effect-entry, effect-re
 use Rattle.domain.specs.Check.{isSome}
 use Rattle.law.specs.Check.{checked}
 use Rattle.bmap.specs.declared.limits.Context.{Context}
-use Rattle.bmap.specs.Payload.{exprIn, last, context}
+use Rattle.bmap.specs.Payload.{exprIn, last}
 use Rattle.bmap.specs.Code.{parseC}
 use Rattle.bmap.specs.Tree.{allowedC}
-use lib.ListN.{length, drop}
-use Prim.Native.Nat.{_+_, _<_}
-use mathlib.Core.Path.{_≡_, _∙_, ap}
-use mathlib.Core.Bool.{true}
+use lib.ListN.{drop}
+use Prim.Native.Nat.{_+_}
+use mathlib.Core.Path.{_∙_, ap}
 use native.Mathlib.Omega.{arith}
 use borrow.Author.Needs.{needs}
 use Rattle.domain.proofs.laws.effect_fits.Statement.{statement}
 use Rattle.domain.proofs.laws.effect_fits.Tie as tie
-use Rattle.domain.proofs.laws.effect_fits.Reads as reads
-use Rattle.domain.proofs.laws.effect_fits.Lts as lts
-use Rattle.domain.proofs.laws.context_of.Reads as context-of-reads
-use Rattle.domain.proofs.laws.expression_to_end.Reads as expression-to-end-reads
-use Rattle.law.proofs.check_constraint.Reads as check-constraint-reads
 
 returns : tie.Need-returns
 returns c = let a = c .before .before .args in effect-empty (a .n) (a .p .now) (c .if1 .taken)

@@ -8,10 +8,6 @@ use native.Mathlib.Omega.{arith}
 use borrow.Author.Needs.{needs}
 use Rattle.domain.proofs.laws.executable_fits.Statement.{statement}
 use Rattle.domain.proofs.laws.executable_fits.Tie as tie
-use Rattle.domain.proofs.laws.executable_fits.Reads as reads
-use Rattle.domain.proofs.laws.executable_fits.Lts as lts
-use Rattle.domain.proofs.laws.constraint_to_end.Reads as constraint-to-end-reads
-use Rattle.domain.proofs.laws.context_of.Reads as context-of-reads
 
 returns : tie.Need-returns
 returns c = let a = c .before .before .args in executable-empty (a .n) (a .p .now) (c .if1 .taken)

@@ -8,9 +8,6 @@ use Rattle.bmap.specs.Tree.{allowedE}
 use borrow.Author.Needs.{needs}
 use Rattle.domain.proofs.laws.expression_to_end.Statement.{statement}
 use Rattle.domain.proofs.laws.expression_to_end.Tie as tie
-use Rattle.domain.proofs.laws.expression_to_end.Reads as reads
-use Rattle.domain.proofs.laws.expression_to_end.Lts as lts
-use Rattle.law.proofs.check_expression.Reads as check-expression-reads
 
 check-expression-requires : tie.Need-check-expression-requires
 check-expression-requires c κs = search needs

@@ -7,12 +7,6 @@ use native.Mathlib.Omega.{arith}
 use borrow.Author.Needs.{needs}
 use Rattle.domain.proofs.laws.law_fits.Statement.{statement}
 use Rattle.domain.proofs.laws.law_fits.Tie as tie
-use Rattle.domain.proofs.laws.law_fits.Reads as reads
-use Rattle.domain.proofs.laws.law_fits.Lts as lts
-use Rattle.domain.proofs.laws.constraint_to_end.Reads as constraint-to-end-reads
-use Rattle.domain.proofs.laws.context_of.Reads as context-of-reads
-use Rattle.domain.proofs.laws.effect_fits.Reads as effect-fits-reads
-use Rattle.domain.proofs.laws.executable_fits.Reads as executable-fits-reads
 
 executable-fits-requires : tie.Need-executable-fits-requires
 executable-fits-requires c κs = search needs

@@ -5,8 +5,6 @@ use mathlib.Core.Path.{_≡_}
 use native.Mathlib.Omega.{arith}
 use Rattle.domain.proofs.note.count_frame.Statement.{statement}
 use Rattle.domain.proofs.note.count_frame.Tie as tie
-use Rattle.domain.proofs.note.count_frame.Reads as reads
-use Rattle.domain.proofs.note.count_frame.Lts as lts
 
 add-r : tie.Need-add-r
 add-r c = let s = c .before .before in omega (arith, room-fluents (s .args .n) (s .args .kind) (s .pre) (omega arith))

@@ -1,14 +1,11 @@
-use Rattle.domain.proofs.PayloadLaws.{back, set-back}
+use Rattle.domain.proofs.PayloadLaws.{set-back}
 use Rattle.domain.proofs.CheckLaws.{room-fluents}
 use borrow.Author.Tests.{ne-eqb}
-use mathlib.Core.Path.{_≡_, refl}
+use mathlib.Core.Path.{refl}
 use native.Mathlib.Omega.{arith}
 use borrow.Author.Needs.{needs}
 use Rattle.domain.proofs.note.note_fluent.Statement.{statement}
 use Rattle.domain.proofs.note.note_fluent.Tie as tie
-use Rattle.domain.proofs.note.note_fluent.Reads as reads
-use Rattle.domain.proofs.note.note_fluent.Lts as lts
-use Rattle.domain.proofs.payload.value_at.Reads as value-at-reads
 
 value-at-requires : tie.Need-value-at-requires
 value-at-requires c κs = search needs
@@ -41,10 +38,11 @@ returns : tie.Need-returns
 returns c =
     let a = c .before .before .before .before .before .args in
     let i = a .n .fluents in
-    rw (c .before .before .before .if1 .taken)
-    (set-back (a .lowest .now) i (c .before .before .value-at .ok) (c .before .before .value-at .ensures),
-    set-back (a .highest .now) i (c .before .value-at2 .ok) (c .before .value-at2 .ensures),
-    set-back (a .start .now) i (c .value-at3 .ok) (c .value-at3 .ensures))
+    rw (c .before .before .before .if1 .taken) (
+      set-back (a .lowest .now) i (c .before .before .value-at .ok) (c .before .before .value-at .ensures),
+      set-back (a .highest .now) i (c .before .value-at2 .ok) (c .before .value-at2 .ensures),
+      set-back (a .start .now) i (c .value-at3 .ok) (c .value-at3 .ensures),
+    )
 
 returns-2 : tie.Need-returns-2
 returns-2 c = rw (ne-eqb _ 0xA2 (c .if1 .left)) (refl, refl, refl)

@@ -1,14 +1,10 @@
 use Rattle.domain.proofs.CheckLaws.{room-knowledge}
 use borrow.Author.Tests.{ne-eqb}
-use mathlib.Core.Path.{_≡_, refl}
+use mathlib.Core.Path.{refl}
 use native.Mathlib.Omega.{arith}
 use borrow.Author.Needs.{needs}
 use Rattle.domain.proofs.note.note_knowledge.Statement.{statement}
 use Rattle.domain.proofs.note.note_knowledge.Tie as tie
-use Rattle.domain.proofs.note.note_knowledge.Reads as reads
-use Rattle.domain.proofs.note.note_knowledge.Lts as lts
-use Rattle.domain.proofs.payload.byte_at.Reads as byte-at-reads
-use Rattle.domain.proofs.payload.word_at.Reads as word-at-reads
 
 byte-at-requires : tie.Need-byte-at-requires
 byte-at-requires c κs = search needs

@@ -3,8 +3,6 @@ use borrow.Author.Tests.{le-leb, lt-leb}
 use native.Mathlib.Omega.{arith}
 use Rattle.domain.proofs.note.note_law.Statement.{statement}
 use Rattle.domain.proofs.note.note_law.Tie as tie
-use Rattle.domain.proofs.note.note_law.Reads as reads
-use Rattle.domain.proofs.note.note_law.Lts as lts
 
 mul-laws : tie.Need-mul-laws
 mul-laws c = omega (arith, room-laws (c .before .args .n) (c .before .args .kind) (c .before .pre) (omega arith))

@@ -1,11 +1,7 @@
 use borrow.Author.Tests.{ne-eqb}
-use native.Mathlib.Omega.{arith}
 use borrow.Author.Needs.{needs}
 use Rattle.domain.proofs.note.note_ready.Statement.{statement}
 use Rattle.domain.proofs.note.note_ready.Tie as tie
-use Rattle.domain.proofs.note.note_ready.Reads as reads
-use Rattle.domain.proofs.note.note_ready.Lts as lts
-use Rattle.domain.proofs.payload.byte_at.Reads as byte-at-reads
 
 byte-at-requires : tie.Need-byte-at-requires
 byte-at-requires c κs = search needs

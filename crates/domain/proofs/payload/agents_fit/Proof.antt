@@ -3,8 +3,6 @@ use native.Mathlib.Omega.{arith}
 use borrow.Author.Needs.{needs}
 use Rattle.domain.proofs.payload.agents_fit.Statement.{statement}
 use Rattle.domain.proofs.payload.agents_fit.Tie as tie
-use Rattle.domain.proofs.payload.agents_fit.Reads as reads
-use Rattle.domain.proofs.payload.agents_fit.Lts as lts
 
 returns : tie.Need-returns
 returns c = agents-length _ (c .if1 .taken)

@@ -3,8 +3,6 @@ use mathlib.Core.Path.{sym}
 use borrow.Author.Needs.{needs}
 use Rattle.domain.proofs.payload.byte_at.Statement.{statement}
 use Rattle.domain.proofs.payload.byte_at.Tie as tie
-use Rattle.domain.proofs.payload.byte_at.Reads as reads
-use Rattle.domain.proofs.payload.byte_at.Lts as lts
 
 shared-slice-read-result : tie.Need-shared-slice-read-result
 shared-slice-read-result c = search needs

@@ -1,15 +1,9 @@
 use Rattle.domain.proofs.PayloadLaws.{entry-length, entry-nameless, entry-named}
 use Rattle.bmap.specs.Payload.{maskFits}
 use mathlib.Core.Path.{_∙_, ap, sym}
-use native.Mathlib.Omega.{arith}
 use borrow.Author.Needs.{needs}
 use Rattle.domain.proofs.payload.entry_fits.Statement.{statement}
 use Rattle.domain.proofs.payload.entry_fits.Tie as tie
-use Rattle.domain.proofs.payload.entry_fits.Reads as reads
-use Rattle.domain.proofs.payload.entry_fits.Lts as lts
-use Rattle.domain.proofs.payload.byte_at.Reads as byte-at-reads
-use Rattle.domain.proofs.payload.mask_fits.Reads as mask-fits-reads
-use Rattle.domain.proofs.payload.word_at.Reads as word-at-reads
 
 returns : tie.Need-returns
 returns c = let a = c .before .before .args in entry-length (a .n) (a .p .now) (c .if1 .taken)

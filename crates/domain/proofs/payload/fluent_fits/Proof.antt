@@ -1,13 +1,8 @@
 use Rattle.domain.proofs.PayloadLaws.{le-back, fluent-length, fluent-above, fluent-below}
 use mathlib.Core.Path.{_∙_, sym}
-use native.Mathlib.Omega.{arith}
 use borrow.Author.Needs.{needs}
 use Rattle.domain.proofs.payload.fluent_fits.Statement.{statement}
 use Rattle.domain.proofs.payload.fluent_fits.Tie as tie
-use Rattle.domain.proofs.payload.fluent_fits.Reads as reads
-use Rattle.domain.proofs.payload.fluent_fits.Lts as lts
-use Rattle.domain.proofs.payload.at_most.Reads as at-most-reads
-use Rattle.domain.proofs.payload.value_at.Reads as value-at-reads
 
 returns : tie.Need-returns
 returns c = fluent-length _ (c .if1 .taken)

@@ -3,8 +3,6 @@ use native.Mathlib.Omega.{arith}
 use borrow.Author.Needs.{needs}
 use Rattle.domain.proofs.payload.mask_fits.Statement.{statement}
 use Rattle.domain.proofs.payload.mask_fits.Tie as tie
-use Rattle.domain.proofs.payload.mask_fits.Reads as reads
-use Rattle.domain.proofs.payload.mask_fits.Lts as lts
 
 returns : tie.Need-returns
 returns c = let a = c .before .args in mask-none (a .n) (a .mask) (c .if1 .taken)

@@ -4,12 +4,6 @@ use native.Mathlib.Omega.{arith}
 use borrow.Author.Needs.{needs}
 use Rattle.domain.proofs.payload.payload_fits.Statement.{statement}
 use Rattle.domain.proofs.payload.payload_fits.Tie as tie
-use Rattle.domain.proofs.payload.payload_fits.Reads as reads
-use Rattle.domain.proofs.payload.payload_fits.Lts as lts
-use Rattle.domain.proofs.payload.agents_fit.Reads as agents-fit-reads
-use Rattle.domain.proofs.payload.entry_fits.Reads as entry-fits-reads
-use Rattle.domain.proofs.payload.fluent_fits.Reads as fluent-fits-reads
-use Rattle.domain.proofs.payload.knowledge_fits.Reads as knowledge-fits-reads
 
 agents-fit-requires : tie.Need-agents-fit-requires
 agents-fit-requires c κs = search needs

@@ -5,10 +5,6 @@ use mathlib.Core.Path.{_∙_, ap}
 use borrow.Author.Needs.{needs}
 use Rattle.domain.proofs.payload.value_at.Statement.{statement}
 use Rattle.domain.proofs.payload.value_at.Tie as tie
-use Rattle.domain.proofs.payload.value_at.Reads as reads
-use Rattle.domain.proofs.payload.value_at.Lts as lts
-use Rattle.domain.proofs.payload.byte_at.Reads as byte-at-reads
-use Rattle.number.proofs.signed_word.Reads as signed-word-reads
 
 byte-at-requires : tie.Need-byte-at-requires
 byte-at-requires c κs = search needs

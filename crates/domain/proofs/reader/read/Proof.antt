@@ -1,13 +1,8 @@
 -- `domain::reader::read` meets its contract. Assumes nothing.
 use Rattle.domain.proofs.ReaderLaws.{read-short, read-ends, read-stops}
-use native.Mathlib.Omega.{arith}
 use borrow.Author.Needs.{needs}
 use Rattle.domain.proofs.reader.read.Statement.{statement}
 use Rattle.domain.proofs.reader.read.Tie as tie
-use Rattle.domain.proofs.reader.read.Reads as reads
-use Rattle.domain.proofs.reader.read.Lts as lts
-use Rattle.domain.proofs.reader.read_lines.Reads as read-lines-reads
-use Rattle.line.proofs.zero_from.Reads as zero-from-reads
 
 returns : tie.Need-returns
 returns c = let a = c .before .before .before .args in read-short (a .text .now) (a .store .now) (c .if1 .taken)

@@ -19,15 +19,6 @@ use native.Mathlib.Omega.{arith}
 use Prim.Native.Nat.{ℕ, _+_, _-_, _≤_, _<_}
 use Rattle.domain.proofs.reader.read_lines.Statement.{statement}
 use Rattle.domain.proofs.reader.read_lines.Tie as tie
-use Rattle.domain.proofs.reader.read_lines.Reads as reads
-use Rattle.domain.proofs.reader.read_lines.Lts as lts
-use Rattle.domain.proofs.check.check_frame.Reads as check-frame-reads
-use Rattle.domain.proofs.found.is_complete.Reads as is-complete-reads
-use Rattle.domain.proofs.note.count_frame.Reads as count-frame-reads
-use Rattle.domain.proofs.note.note_entry.Reads as note-entry-reads
-use Rattle.domain.proofs.note.note_ready.Reads as note-ready-reads
-use Rattle.domain.proofs.payload.byte_at.Reads as byte-at-reads
-use Rattle.line.proofs.read_line.Reads as read-line-reads
 
 abbrev Inv-loop : tie.InvT-loop
 Inv-loop text store₀ latest₀ n₀ names₀ crews₀ ready₀ rest₀ used₀ line₀ store latest n names crews ready rest used line = (length store ≡ length store₀) × Reads text store rest latest n names crews ready used line
@@ -226,11 +217,12 @@ loop-again c =
     let r = z .before .before .before .before in
     let l = head e in
     let ne = c .before .before .before .before .before in
-    let nr = c .before .before .before in
-    (again r,
-    reads-next (l .loop .inv .1) (z .bytes .given .0 .0) (z .bytes .given .0 .1 .0) (r .read-line .last .1 .0) (line-is z) (r .read-line .ensures .1) (passes e)
-    (again r ∙ sym (l .loop .inv .0)) (ne .note-entry .ensures .0) (ne .note-entry .ensures .1) (nr .note-ready .ensures)
-    (c .before .count-frame .ensures ∙ ap (counted _ _) (c .before .before .byte-at .ensures)))
+    let nr = c .before .before .before in (
+      again r,
+      reads-next (l .loop .inv .1) (z .bytes .given .0 .0) (z .bytes .given .0 .1 .0) (r .read-line .last .1 .0) (line-is z) (r .read-line .ensures .1) (passes e)
+          (again r ∙ sym (l .loop .inv .0)) (ne .note-entry .ensures .0) (ne .note-entry .ensures .1) (nr .note-ready .ensures)
+          (c .before .count-frame .ensures ∙ ap (counted _ _) (c .before .before .byte-at .ensures)),
+    )
 
 pub read-lines-spec : {M : Type 1} → statement M
 read-lines-spec =

@@ -8,12 +8,9 @@ use lib.ListN.{length}
 use lib.Dec.{leb}
 use mathlib.Core.Path.{_≡_, refl, sym, ap, _∙_}
 use native.Mathlib.Omega.{arith}
-use Prim.Native.Nat.{ℕ, suc, _+_, _-_, _*_, _≤_, _<_}
+use Prim.Native.Nat.{ℕ, suc, _-_}
 use Rattle.domain.proofs.writer.lines_fit.Statement.{statement}
 use Rattle.domain.proofs.writer.lines_fit.Tie as tie
-use Rattle.domain.proofs.writer.lines_fit.Reads as reads
-use Rattle.domain.proofs.writer.lines_fit.Lts as lts
-use Rattle.line.proofs.frame_at.Reads as frame-at-reads
 
 abbrev Inv-loop : tie.InvT-loop
 Inv-loop store room at₀ left₀ at left = (looks : ℕ) × (Enough store at looks × (leb (length (linesIn store)) room ≡ leb (length (linesFrom looks store at)) left))

@@ -5,11 +5,6 @@ use mathlib.Core.Path.{sym, _∙_}
 use borrow.Author.Needs.{needs}
 use Rattle.domain.proofs.writer.write.Statement.{statement}
 use Rattle.domain.proofs.writer.write.Tie as tie
-use Rattle.domain.proofs.writer.write.Reads as reads
-use Rattle.domain.proofs.writer.write.Lts as lts
-use Rattle.domain.proofs.found.is_accepted.Reads as is-accepted-reads
-use Rattle.domain.proofs.writer.lines_fit.Reads as lines-fit-reads
-use Rattle.domain.proofs.writer.write_lines.Reads as write-lines-reads
 
 is-accepted-requires : tie.Need-is-accepted-requires
 is-accepted-requires c κs = search needs

@@ -1,20 +1,15 @@
 -- `domain::writer::write_lines` meets its contract: the lines before a place stand at the front. Assumes nothing.
 use Rattle.domain.proofs.WriterLaws.{Writes, writes-first, writes-done, writes-room, writes-next}
-use Rattle.domain.proofs.ReaderLaws.{renewed}
 use Rattle.domain.proofs.Held.{Framed, framed, no-frame}
 use Rattle.line.proofs.Lists.{length-back}
 use Rattle.line.specs.Frame.{sizeOf}
 use borrow.Author.Needs.{needs}
 use lib.ListN.{length}
-use mathlib.Core.Path.{_≡_, refl, sym, ap, _∙_}
+use mathlib.Core.Path.{sym, ap, _∙_}
 use native.Mathlib.Omega.{arith}
-use Prim.Native.Nat.{ℕ, _+_, _-_, _*_, _≤_, _<_}
+use Prim.Native.Nat.{_-_}
 use Rattle.domain.proofs.writer.write_lines.Statement.{statement}
 use Rattle.domain.proofs.writer.write_lines.Tie as tie
-use Rattle.domain.proofs.writer.write_lines.Reads as reads
-use Rattle.domain.proofs.writer.write_lines.Lts as lts
-use Rattle.line.proofs.frame_at.Reads as frame-at-reads
-use Rattle.line.proofs.put_line.Reads as put-line-reads
 
 abbrev Inv-loop : tie.InvT-loop
 Inv-loop store text₀ at₀ used₀ text at used = Writes store text₀ text at used

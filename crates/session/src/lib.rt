@@ -1,0 +1,24 @@
+// The editing session: enter, strike, amend, undo and redo, by value and on a session that is lent.
+// log.rt reads a log back into a sheet; open.rt decides refusal 17; value.rt has the five calls by value.
+mod log;
+mod open;
+mod value;
+
+pub use open::is_open;
+pub use value::amended;
+pub use value::entered;
+pub use value::redone;
+pub use value::stricken;
+pub use value::undone;
+
+// What a call on a session answers.
+pub enum Outcome {
+    Done,
+    Refused(bmap::Refusal),
+}
+
+// What a call by value leaves.
+pub struct Change {
+    pub outcome: Outcome,
+    pub session: bmap::Session,
+}

@@ -1,0 +1,53 @@
+use borrow.Author.Needs.{needs}
+use Rattle.session.proofs.value.add.Statement.{statement}
+use Rattle.session.proofs.value.add.Tie as tie
+use Rattle.session.proofs.value.add.Reads as reads
+use Rattle.session.proofs.value.add.Lts as lts
+use Rattle.session.proofs.log.lay.Reads as lay-reads
+use Rattle.session.proofs.log.write_entry.Reads as write-entry-reads
+use Rattle.session.proofs.value.accept.Reads as accept-reads
+
+slice-aggregate-lay : tie.Need-slice-aggregate-lay
+slice-aggregate-lay c = search needs
+
+mul-lay : tie.Need-mul-lay
+mul-lay c = search needs
+
+lay-requires : tie.Need-lay-requires
+lay-requires c κs = ?
+
+slice-aggregate-write-entry : tie.Need-slice-aggregate-write-entry
+slice-aggregate-write-entry c = search needs
+
+mul-write-entry : tie.Need-mul-write-entry
+mul-write-entry c = search needs
+
+write-entry-requires : tie.Need-write-entry-requires
+write-entry-requires c κs = ?
+
+add-t17 : tie.Need-add-t17
+add-t17 c = search needs
+
+add-t21 : tie.Need-add-t21
+add-t21 c = search needs
+
+accept-requires : tie.Need-accept-requires
+accept-requires c κs = search needs
+
+returns : tie.Need-returns
+returns c = ?
+
+pub add-spec : {M : Type 1} → statement M
+add-spec =
+    tie.close
+    (tie.spec
+    slice-aggregate-lay
+    mul-lay
+    lay-requires
+    slice-aggregate-write-entry
+    mul-write-entry
+    write-entry-requires
+    add-t17
+    add-t21
+    accept-requires
+    returns)

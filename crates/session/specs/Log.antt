@@ -29,10 +29,14 @@ placeOf kind number steps =
     (if-else (eqb kind 2) (if-else (both (eqb number 0) (ltb 0 steps)) (Step (steps - 1) (steps - 1)) Nowhere)
     (if-else (eqb kind 3) (if-else (both (ltb 0 number) (leb number steps)) (Step (number - 1) steps) Nowhere) Nowhere))
 
--- an entry's place, where zeros follow its names; a strike has none
+-- where an entry's names end: a strike has none
+abbrev pub namesEnd : ℕ → ℕ → ℕ
+namesEnd agents kind = if-else (eqb kind 2) 2 (2 + agents)
+
+-- an entry's place, where zeros follow its names
 unfoldable pub targetOf : ℕ → List ℕ → ℕ → Place
 targetOf agents entry steps =
-    if-else (zeros (drop (if-else (eqb (getD entry 0 0) 2) 2 (2 + agents)) entry)) (placeOf (getD entry 0 0) (getD entry 1 0) steps) Nowhere
+    if-else (zeros (drop (namesEnd agents (getD entry 0 0)) entry)) (placeOf (getD entry 0 0) (getD entry 1 0) steps) Nowhere
 
 -- the first k entries of a log are written as edits are, and done in turn they leave a sheet
 pub record Sound (agents k : ℕ) (log : List ℕ) : Type 0 where

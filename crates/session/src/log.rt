@@ -9,7 +9,7 @@ ghost use Rattle.bmap.specs.Limits.{mostAgents, mostEdits, mostSteps, sheetSize
 ghost use Rattle.bmap.specs.Store.{zeros};
 ghost use Rattle.bmap.specs.Buffer.{padded};
 ghost use Rattle.bmap.specs.Session.{editSize};
-ghost use Rattle.session.specs.Log.{laid, placeOf, targetOf, Reached, RunTo};
+ghost use Rattle.session.specs.Log.{laid, placeOf, namesEnd, targetOf, Reached, RunTo};
 
 // Where an edit's names are laid in a sheet, and the number of steps after it.
 pub enum Place {
@@ -102,17 +102,24 @@ pub fn edit_place(kind: u8, number: usize, steps: usize) -> Place
     Place::Nowhere
 }
 
+// Where an entry's names end: a strike has none.
+pub fn names_end(agents: usize, kind: u8) -> usize
+    requires { ⌜ agents ≤ mostAgents ⌝ }
+    ensures { λ r. ⌜ r ≡ namesEnd agents kind ⌝ }
+{
+    if kind == 2 {
+        return 2;
+    }
+    2 + agents
+}
+
 // The place of an entry's edit, where zeros follow what the entry has.
 pub fn target(agents: usize, entry: &[u8], steps: usize) -> Place
     requires { ⌜ (agents ≤ mostAgents) × (length (now entry) ≡ editSize) ⌝ }
     ensures { λ r. ⌜ r ≡ targetOf agents (now (entry .entry)) steps ⌝ }
 {
     let kind = entry[0];
-    let mut from = 2;
-    if kind != 2 {
-        from = 2 + agents;
-    }
-    if !is_zero_from(entry, from) {
+    if !is_zero_from(entry, names_end(agents, kind)) {
         return Place::Nowhere;
     }
     edit_place(kind, entry[1] as usize, steps)

@@ -1,2 +1,4 @@
 pub mod ListLaws
 pub mod SheetLaws
+pub mod LogLaws
+pub mod TurnLaws

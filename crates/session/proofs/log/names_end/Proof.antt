@@ -1,0 +1,17 @@
+use borrow.Author.Needs.{needs}
+use Rattle.session.proofs.log.names_end.Statement.{statement}
+use Rattle.session.proofs.log.names_end.Tie as tie
+use Rattle.session.proofs.log.names_end.Reads as reads
+use Rattle.session.proofs.log.names_end.Lts as lts
+
+returns : tie.Need-returns
+returns c = ?
+
+add-result : tie.Need-add-result
+add-result c = search needs
+
+returns-2 : tie.Need-returns-2
+returns-2 c = ?
+
+pub names-end-spec : {M : Type 1} → statement M
+names-end-spec = tie.close (tie.spec returns add-result returns-2)

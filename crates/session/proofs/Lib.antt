@@ -2,3 +2,4 @@ pub mod ListLaws
 pub mod SheetLaws
 pub mod LogLaws
 pub mod TurnLaws
+pub mod ReplayLaws

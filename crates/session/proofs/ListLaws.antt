@@ -8,8 +8,8 @@ use native.Mathlib.Nat.{not-suc-le-zero, le-of-suc-le-suc, sub-zero, add-zero}
 use native.Mathlib.Numerals.{add-one}
 use native.Mathlib.Omega.{arith}
 use lib.Dec.{eqb}
-use lib.ListN.{length, getD, take, drop, set, replicate, length-append, length-take, length-drop, length-replicate, getD-replicate, replicate-append-replicate, take-append-drop, drop-of-length-le}
-use lib.Seq.{take-length, drop-length, take-all, take-at, drop-at, drop-drop, drop-cons, length-take-le, paste, paste-suc, take-suc-set, take-set-le}
+use lib.ListN.{length, getD, take, drop, set, replicate, length-append, length-take, length-drop, length-replicate, getD-replicate, replicate-append-replicate, take-append-drop, drop-of-length-le, length-set}
+use lib.Seq.{take-length, drop-length, take-all, take-at, drop-at, drop-drop, drop-cons, length-take-le, paste, paste-suc, take-suc-set, length-paste, take-paste}
 use borrow.Author.Tests.{eq-eqb, ne-eqb, eqb-true}
 use Rattle.bmap.specs.Plain.{both, if-else, all, flat}
 use Rattle.bmap.specs.Buffer.{padded}
@@ -96,6 +96,32 @@ clear-all d from i l h k m e =
     let c : take (length d - from) (replicate {A = ℕ} (length d - from) 0) ≡ replicate (length d - from) 0 = take-all (length d - from) (replicate (length d - from) 0) (omega (arith, length-replicate {A = ℕ} (length d - from) 0)) in
     let f : length (take from d) ≡ from = length-take-le from d (omega arith) in
     e ∙ rw (a, b, c, f, drop-length d) (append-nil (take from d ++ replicate (length d - from) 0))
+
+-- ---- a new entry after the first bytes of a list, zeros after it
+module _ (d : List ℕ) (at k m : ℕ) (names l : List ℕ) (h : at + 2 + length names ≤ length d) (e : l ≡ paste (set (set d at k) (at + 1) m) (at + 2) names (length names)) where
+  abbrev set-two : List ℕ
+  set-two = set (set d at k) (at + 1) m
+
+  pub entry-laid : length l ≡ length d
+  entry-laid =
+      let n : length set-two ≡ length d = length-set (set d at k) (at + 1) m ∙ length-set d at k in
+      ap length e ∙ length-paste set-two (at + 2) names (length names) (omega arith) (omega arith) ∙ n
+
+  entry-head : take (at + 2 + length names) l ≡ take at d ++ (k ∷ m ∷ names)
+  entry-head =
+      let n : length set-two ≡ length d = length-set (set d at k) (at + 1) m ∙ length-set d at k in
+      let b : at + 2 ≡ suc (at + 1) = omega arith in
+      let two : take (at + 2) set-two ≡ (take at d ++ (k ∷ [])) ++ (m ∷ []) =
+      ap (λ (i : ℕ). take i set-two) b ∙ take-suc-set (set d at k) (at + 1) m (omega (arith, length-set d at k))
+      ∙ ap (λ (x : List ℕ). x ++ (m ∷ [])) (ap (λ (i : ℕ). take i (set d at k)) (add-one at) ∙ take-suc-set d at k (omega arith)) in
+      ap (take (at + 2 + length names)) e ∙ take-paste set-two (at + 2) names (length names) (omega arith) (omega arith) ∙ rw (two, take-length names) (simp append-assoc)
+
+  module _ (r : List ℕ) (f : r ≡ padded (length l) (take (at + 2 + length names) l)) where
+    pub entry-written : r ≡ padded (length d) (take at d ++ (k ∷ m ∷ names))
+    entry-written = f ∙ ap (λ (i : ℕ). padded i (take (at + 2 + length names) l)) entry-laid ∙ ap (padded (length d)) entry-head
+
+    pub entry-kept : length r ≡ length d
+    entry-kept = ap length f ∙ length-padded (length l) (take (at + 2 + length names) l) (omega (arith, entry-laid, length-take-le (at + 2 + length names) l (omega (arith, entry-laid)))) ∙ entry-laid
 
 -- ---- two lists of bytes compared
 pub same-refl : (xs : List ℕ) → sameBytes xs xs ≡ true

@@ -80,7 +80,7 @@ pub short-join : (xs ys : List Edit) → AllShort xs → AllShort ys → AllShor
 short-join [] ys f g = g
 short-join (x ∷ xs) ys f g = (f .0, short-join xs ys (f .1) g)
 
-take-short : (j : ℕ) (l : List ℕ) → length (take j l) ≤ j
+pub take-short : (j : ℕ) (l : List ℕ) → length (take j l) ≤ j
 take-short zero l = omega arith
 take-short (suc j) [] = omega arith
 take-short (suc j) (x ∷ l) = omega (arith, take-short j l)
@@ -112,9 +112,16 @@ entry-edit n l h = rw (getD-take 18 l 0 0 (omega arith), getD-take 18 l 1 0 (ome
 
 -- ---- a sound log
 module _ (n : ℕ) (log : List ℕ) where
-  pub sound-none : Sound n 0 log
-  unfolding editsFrom loggedAll replayed
-  sound-none = record { sheet = []; written = refl; leaves = refl }
+  pub none-written : [] ≡ loggedAll (editsFrom n 0 log)
+  unfolding editsFrom loggedAll
+  none-written = refl
+
+  pub none-leaves : replayed n (editsFrom n 0 log) [] ≡ got []
+  unfolding editsFrom replayed
+  none-leaves = refl
+
+  abbrev pub sound-none : Sound n 0 log
+  sound-none = record { sheet = []; written = none-written; leaves = none-leaves }
 
   pub sound-sheet : (k : ℕ) (a b : Sound n k log) → a .sheet ≡ b .sheet
   sound-sheet k a b = got-inj (a .sheet) (b .sheet) (sym (a .leaves) ∙ b .leaves)
@@ -122,7 +129,7 @@ module _ (n : ℕ) (log : List ℕ) where
   pub sound-fits : (k : ℕ) (a : Sound n k log) → Fits n (a .sheet)
   sound-fits k a = replayed-fits n (editsFrom n k log) [] (a .sheet) (a .leaves) (tt, omega arith)
 
-  pub sound-more : (k : ℕ) (a : Sound n k log) (t : List Names) → take 18 (drop (k * 18) log) ≡ logged (editAt n (drop (k * 18) log))
+  abbrev pub sound-more : (k : ℕ) (a : Sound n k log) (t : List Names) → take 18 (drop (k * 18) log) ≡ logged (editAt n (drop (k * 18) log))
       → edited n (editAt n (drop (k * 18) log)) (a .sheet) ≡ got t → Sound n (k + 1) log
   sound-more k a t w d =
       let e : Edit = editAt n (drop (k * 18) log) in

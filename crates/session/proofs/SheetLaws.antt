@@ -99,6 +99,9 @@ room c n hc hn =
     let h : c ≤ 63 = omega arith in
     omega (arith, mul-le-mul-right n h)
 
+pub page-room : (c n : ℕ) → c ≤ 64 → n ≤ 16 → c * n ≤ 1024
+page-room c n hc hn = omega (arith, mul-le-mul-right n hc)
+
 -- ---- the bytes that hold a sheet
 abbrev zeros : ℕ → List ℕ
 zeros k = replicate k 0

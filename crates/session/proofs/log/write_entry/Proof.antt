@@ -1,3 +1,9 @@
+-- `session::log::write_entry` meets its contract.
+-- Assumes nothing.
+use Prim.Native.Nat.{_+_, _≤_}
+use native.Mathlib.Omega.{arith}
+use lib.ListN.{length, length-set}
+use Rattle.session.proofs.ListLaws.{entry-laid, entry-kept, entry-written}
 use borrow.Author.Needs.{needs}
 use Rattle.session.proofs.log.write_entry.Statement.{statement}
 use Rattle.session.proofs.log.write_entry.Tie as tie
@@ -13,7 +19,7 @@ add-log : tie.Need-add-log
 add-log c = search needs
 
 slice-write-log-2 : tie.Need-slice-write-log-2
-slice-write-log-2 c = ?
+slice-write-log-2 c = simp length-set (omega arith)
 
 add-lay : tie.Need-add-lay
 add-lay c = search needs
@@ -28,13 +34,23 @@ add-clear-2 : tie.Need-add-clear-2
 add-clear-2 c = search needs
 
 clear-requires : tie.Need-clear-requires
-clear-requires c κs = ?
+clear-requires c κs =
+    let x = c .before .before .before .before .before .before .before .args in
+    let l = c .before .before .before .lay .last .0 in
+    let h : x .at + 2 + length (x .names .now) ≤ length l = omega (arith, entry-laid (x .log .now) (x .at) (x .kind) (x .number) (x .names .now) l (omega arith) (c .before .before .before .lay .ensures)) in
+    h
 
 same-length : tie.Need-same-length
-same-length c = ?
+same-length c =
+    let x = c .before .before .before .before .before .before .before .before .before .before .args in
+    let lay = c .before .before .before .before .before .before .lay in
+    omega (arith, entry-kept (x .log .now) (x .at) (x .kind) (x .number) (x .names .now) (lay .last .0) (omega arith) (lay .ensures) (c .before .before .clear .last .0) (c .before .before .clear .ensures))
 
 returns : tie.Need-returns
-returns c = ?
+returns c =
+    let x = c .before .before .before .before .before .before .before .before .before .before .args in
+    let lay = c .before .before .before .before .before .before .lay in
+    entry-written (x .log .now) (x .at) (x .kind) (x .number) (x .names .now) (lay .last .0) (omega arith) (lay .ensures) (c .before .before .clear .last .0) (c .before .before .clear .ensures)
 
 pub write-entry-spec : {M : Type 1} → statement M
 write-entry-spec =

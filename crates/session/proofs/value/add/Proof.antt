@@ -1,3 +1,12 @@
+-- `session::value::add` meets its contract.
+-- Assumes nothing.
+use mathlib.Core.Path.{_≡_, sym, ap, _∙_}
+use mathlib.Core.List.{_∷_, _++_}
+use Prim.Native.Nat.{ℕ, _+_, _*_}
+use native.Mathlib.Omega.{arith}
+use lib.ListN.{take}
+use Rattle.bmap.specs.Buffer.{padded}
+use Rattle.session.specs.Calls.{done}
 use borrow.Author.Needs.{needs}
 use Rattle.session.proofs.value.add.Statement.{statement}
 use Rattle.session.proofs.value.add.Tie as tie
@@ -14,7 +23,7 @@ mul-lay : tie.Need-mul-lay
 mul-lay c = search needs
 
 lay-requires : tie.Need-lay-requires
-lay-requires c κs = ?
+lay-requires c κs = omega (arith, slice-aggregate-lay c)
 
 slice-aggregate-write-entry : tie.Need-slice-aggregate-write-entry
 slice-aggregate-write-entry c = search needs
@@ -23,7 +32,7 @@ mul-write-entry : tie.Need-mul-write-entry
 mul-write-entry c = search needs
 
 write-entry-requires : tie.Need-write-entry-requires
-write-entry-requires c κs = ?
+write-entry-requires c κs = omega (arith, slice-aggregate-write-entry c)
 
 add-t17 : tie.Need-add-t17
 add-t17 c = search needs
@@ -35,7 +44,17 @@ accept-requires : tie.Need-accept-requires
 accept-requires c κs = search needs
 
 returns : tie.Need-returns
-returns c = ?
+returns c =
+    let x = c .before .before .before .before .before .before .before .before .before .before .before .args in
+    let page = c .before .before .before .before .before .before .lay .ensures in
+    let log = c .before .before .write-entry .ensures in
+    c .accept .ensures ∙ ap done (λ i. record {
+      agents = x .s .agents;
+      sheet = record { steps = x .steps; names = page i };
+      standing = x .s .standing + 1;
+      total = x .s .standing + 1;
+      log = (log ∙ ap (λ (n : ℕ). padded n (take (x .s .standing * 18) (x .s .log) ++ (x .kind ∷ x .number ∷ x .names .now))) (sym (slice-aggregate-write-entry (c .before .before .before)))) i;
+    })
 
 pub add-spec : {M : Type 1} → statement M
 add-spec =

@@ -3,3 +3,5 @@ pub mod SheetLaws
 pub mod LogLaws
 pub mod TurnLaws
 pub mod ReplayLaws
+pub mod OpenLaws
+pub mod CallLaws

@@ -6,8 +6,8 @@ use mathlib.Core.List.{List, [], _∷_, _++_, append-assoc, append-nil}
 use Prim.Native.Nat.{ℕ, _+_, _-_, _*_, _<_, _≤_}
 use native.Mathlib.Omega.{arith}
 use lib.Dec.{eqb, ltb, leb}
-use lib.ListN.{length, take, drop, set, replicate, length-append, length-drop, length-replicate, replicate-append-replicate, take-append-drop}
-use lib.Seq.{take-at}
+use lib.ListN.{length, take, drop, set, replicate, length-append, length-drop, length-set, length-replicate, replicate-append-replicate, take-append-drop}
+use lib.Seq.{take-at, length-take-le}
 use borrow.Author.Tests.{eq-eqb, ne-eqb, lt-ltb, le-ltb, le-leb, lt-leb}
 use Rattle.bmap.specs.Plain.{both}
 use Rattle.bmap.specs.Refusal.{Answer, got, refused, then}
@@ -18,20 +18,20 @@ use Rattle.bmap.specs.declared.session.Session.{Session}
 use Rattle.session.specs.Log.{laid, Sound, Holds, Reached}
 use Rattle.session.specs.Calls.{done, standingAt, withEdit}
 use Rattle.session.proofs.ListLaws.{padded-zeros}
-use Rattle.session.proofs.SheetLaws.{page, Fits, one-more}
+use Rattle.session.proofs.SheetLaws.{page, Fits, one-more, enter-got, strike-got, amend-got, enter-page, strike-page, amend-page}
 use Rattle.session.proofs.LogLaws.{length-edits, edits-upto, length-edits-logged, logged-one, sound-prefix, sound-fits}
-use Rattle.session.proofs.OpenLaws.{Open, opens, Kept, kept-layout, true-kept, every, every-edit, count-standing, count-undone, agents-kept, sheet-standing}
+use Rattle.session.proofs.OpenLaws.{Open, opens, Kept, layout-is, true-kept, every, every-edit, count-standing, count-undone, agents-kept, sheet-standing}
 
 -- ---- an open session
-module _ (s : Session) (h : isOpen s ≡ true) (len : length (s .log) ≡ 3600) where
+module _ (s : Session) (h : isOpen s ≡ true) where
   pub open-is : Open s
   open-is = opens s h
 
   pub kept-is : Kept s
-  kept-is = let o = open-is in true-kept s (o .few) (o .below) (o .short) len (o .test)
+  kept-is = let o = open-is in true-kept s (o .few) (o .below) (o .short) (o .test)
 
   pub layout-of : s ≡ layout (modelOf s)
-  layout-of = let o = open-is in kept-layout s (o .few) (o .below) (o .short) len kept-is
+  layout-of = let o = open-is in layout-is s (o .few) (o .below) (o .short) (o .test)
 
   pub standing-sheet : List Names
   standing-sheet = kept-is .stands .sound .sheet
@@ -235,3 +235,73 @@ unfolding logged
 strike-written n h =
     let a : n + (16 - n) ≡ 16 = omega arith in
     sym (rw (length-replicate {A = ℕ} n 0, replicate-append-replicate {A = ℕ} n (16 - n) 0, a))
+
+-- ---- the three edits, by the bytes
+module _ (s : Session) (h : isOpen s ≡ true) (few : s .standing < 200) where
+  abbrev n : ℕ
+  n = s .agents
+
+  pub open-few : n ≤ 16
+  open-few = open-is s h .few
+
+  pub open-steps : s .sheet .steps ≤ 64
+  open-steps = omega (arith, steps-are s h, sheet-fits s h .1)
+
+  enter-logged : (y : Names) → logged (enter y) ≡ 1 ∷ 0 ∷ padded 16 y
+  unfolding logged
+  enter-logged y = refl
+
+  amend-logged : (k : ℕ) (y : Names) → logged (amend k y) ≡ 3 ∷ k ∷ padded 16 y
+  unfolding logged
+  amend-logged k y = refl
+
+  pub entered-8 : (y : Names) → (length y ≡ n → ⊥) → changed s (refused 8) ≡ editSession (enter y) s
+  entered-8 y a = edited-refused s h (enter y) few 8 (enter-8 n (standing-sheet s h) y a)
+
+  pub stricken-11 : s .sheet .steps ≡ 0 → changed s (refused 11) ≡ editSession strike s
+  stricken-11 z = edited-refused s h strike few 11 (strike-11 n (standing-sheet s h) (sym (steps-are s h) ∙ z))
+
+  pub stricken-got : 0 < s .sheet .steps → done (withEdit s 2 0 (replicate n 0) (s .sheet .steps - 1) (s .sheet .steps - 1)) ≡ editSession strike s
+  stricken-got p =
+      let t : List Names = standing-sheet s h in
+      let c : s .sheet .steps ≡ length t = steps-are s h in
+      let f = sheet-fits s h in
+      let b : 0 < length t = omega arith in
+      let g : length t - 1 ≤ length t = omega arith in
+      edited-got s h strike few 2 0 (replicate n 0) (s .sheet .steps - 1) (s .sheet .steps - 1) (take (length t - 1) t) (strike-got n t b) (strike-written n open-few)
+      (omega (arith, length-replicate {A = ℕ} n 0, open-few)) (ap (λ (i : ℕ). i - 1) c ∙ sym (length-take-le (length t - 1) t g))
+      (ap (λ (i : ℕ). laid (page t) ((i - 1) * n) (replicate n 0)) c ∙ strike-page n open-few t (f .0) b (f .1))
+
+  pub amended-8 : (k : ℕ) (y : Names) → (length y ≡ n → ⊥) → changed s (refused 8) ≡ editSession (amend k y) s
+  amended-8 k y a = edited-refused s h (amend k y) few 8 (amend-8 n (standing-sheet s h) k y a)
+
+  module _ (y : Names) (a : length y ≡ n) where
+    short-names : length y ≤ 16
+    short-names = omega (arith, open-few)
+
+    pub entered-9 : 64 ≤ s .sheet .steps → changed s (refused 9) ≡ editSession (enter y) s
+    entered-9 l = edited-refused s h (enter y) few 9 (enter-9 n (standing-sheet s h) y a (omega (arith, steps-are s h)))
+
+    pub entered-got : s .sheet .steps < 64 → done (withEdit s 1 0 y (s .sheet .steps) (s .sheet .steps + 1)) ≡ editSession (enter y) s
+    entered-got l =
+        let t : List Names = standing-sheet s h in
+        let c : s .sheet .steps ≡ length t = steps-are s h in
+        let b : length t < 64 = omega arith in
+        edited-got s h (enter y) few 1 0 y (s .sheet .steps) (s .sheet .steps + 1) (t ++ (y ∷ [])) (enter-got n y t a b) (enter-logged y) short-names
+        (ap (λ (i : ℕ). i + 1) c ∙ sym (length-append t (y ∷ [])))
+        (ap (λ (i : ℕ). laid (page t) (i * n) y) c ∙ enter-page n open-few t y (sheet-fits s h .0) a b)
+
+    pub amended-11-zero : (k : ℕ) → k ≡ 0 → changed s (refused 11) ≡ editSession (amend k y) s
+    amended-11-zero k z = edited-refused s h (amend k y) few 11 (amend-11-zero n (standing-sheet s h) k y a z)
+
+    module _ (k : ℕ) (p : 1 ≤ k) where
+      pub amended-11 : s .sheet .steps < k → changed s (refused 11) ≡ editSession (amend k y) s
+      amended-11 l = edited-refused s h (amend k y) few 11 (amend-11 n (standing-sheet s h) k y a p (omega (arith, steps-are s h)))
+
+      pub amended-got : k ≤ s .sheet .steps → done (withEdit s 3 k y (k - 1) (s .sheet .steps)) ≡ editSession (amend k y) s
+      amended-got l =
+          let t : List Names = standing-sheet s h in
+          let c : s .sheet .steps ≡ length t = steps-are s h in
+          let b : k ≤ length t = omega arith in
+          edited-got s h (amend k y) few 3 k y (k - 1) (s .sheet .steps) (set t (k - 1) y) (amend-got n k y t a p b) (amend-logged k y) short-names
+          (c ∙ sym (length-set t (k - 1) y)) (amend-page n open-few k y t (sheet-fits s h .0) a p b)

@@ -82,7 +82,7 @@ pub record Kept (s : Session) : Type 0 where
 abbrev pub kept : Session → Bool
 kept s = both (replays (modelOf s)) (sameSession s (layout (modelOf s)))
 
-module _ (s : Session) (few : s .agents ≤ 16) (below : s .standing ≤ s .total) (short : s .total ≤ 200) (len : length (s .log) ≡ 3600) where
+module _ (s : Session) (few : s .agents ≤ 16) (below : s .standing ≤ s .total) (short : s .total ≤ 200) where
   abbrev n : ℕ
   n = s .agents
 
@@ -93,19 +93,19 @@ module _ (s : Session) (few : s .agents ≤ 16) (below : s .standing ≤ s .tota
   es-length = length-edits-logged n (s .total) (s .log) few
 
   -- the log is its edits as they are written, zeros after
-  log-is : Kept s → s .log ≡ padded 3600 (loggedAll es)
-  log-is k =
+  log-is : length (s .log) ≡ 3600 → Kept s → s .log ≡ padded 3600 (loggedAll es)
+  log-is len k =
       let l : length (drop (s .total * 18) (s .log)) ≡ 3600 - length (loggedAll es) = omega (arith, length-drop (s .total * 18) (s .log), es-length) in
       sym (take-append-drop (s .total * 18) (s .log))
       ∙ ap (λ (x : List ℕ). x ++ drop (s .total * 18) (s .log)) (k .sound .written)
       ∙ ap (λ (x : List ℕ). loggedAll es ++ x) (zeros-are (drop (s .total * 18) (s .log)) (k .tail) ∙ ap (λ (i : ℕ). replicate i 0) l)
 
-  pub kept-layout : Kept s → s ≡ layout (modelOf s)
+  pub kept-layout : length (s .log) ≡ 3600 → Kept s → s ≡ layout (modelOf s)
   unfolding layout
-  kept-layout k =
+  kept-layout len k =
       let sh : sheetOf (modelOf s) ≡ k .stands .sound .sheet = sheet-standing s (k .stands .sound) in
       let t : length (modelOf s .standing) + length (modelOf s .undone) ≡ s .total = omega (arith, count-standing s, count-undone s) in
-      let lg : s .log ≡ padded 3600 (loggedAll (every (modelOf s))) = log-is k ∙ ap (λ (x : List Edit). padded 3600 (loggedAll x)) (sym (every-edit s below)) in
+      let lg : s .log ≡ padded 3600 (loggedAll (every (modelOf s))) = log-is len k ∙ ap (λ (x : List Edit). padded 3600 (loggedAll x)) (sym (every-edit s below)) in
       λ i. record {
         agents = sym (agents-kept s) i;
         sheet = record { steps = (k .stands .holds .count ∙ ap length (sym sh)) i; names = (k .stands .holds .bytes ∙ ap page (sym sh)) i };
@@ -120,8 +120,8 @@ module _ (s : Session) (few : s .agents ≤ 16) (below : s .standing ≤ s .tota
       ∙ ap (λ (x : List Edit). isGot (replayed n x [])) (every-edit s below)
       ∙ ap isGot (k .sound .leaves)
 
-  pub kept-true : Kept s → true ≡ kept s
-  kept-true k = sym (rw (kept-replays k) (same-session s (layout (modelOf s)) (kept-layout k)))
+  pub kept-true : length (s .log) ≡ 3600 → Kept s → true ≡ kept s
+  kept-true len k = sym (rw (kept-replays k) (same-session s (layout (modelOf s)) (kept-layout len k)))
 
   -- and back
   module _ (h : kept s ≡ true) where
@@ -181,13 +181,13 @@ module _ (s : Session) (few : s .agents ≤ 16) (below : s .standing ≤ s .tota
         let e = f (a .holds .bytes ∙ ap page (same-sheet h) ∙ sym (true-kept h .stands .holds .bytes)) in
         let y : _≡_ {A = ℕ} 0 1 = cc in omega arith)
 
-    pub by-tail : steps ≡ s .sheet .steps → names ≡ s .sheet .names → Sound n (s .total) (s .log) → (t : Bool) → t ≡ zeros (drop (s .total * 18) (s .log)) → t ≡ kept s
-    by-tail c b d true e = kept-true (record {
+    pub by-tail : length (s .log) ≡ 3600 → steps ≡ s .sheet .steps → names ≡ s .sheet .names → Sound n (s .total) (s .log) → (t : Bool) → t ≡ zeros (drop (s .total * 18) (s .log)) → t ≡ kept s
+    by-tail len c b d true e = kept-true len (record {
       sound = d;
       stands = record { sound = a .sound; holds = record { count = sym c ∙ a .holds .count; bytes = sym b ∙ a .holds .bytes } };
       tail = sym e;
     })
-    by-tail c b d false e = is-false (kept s) (λ h.
+    by-tail len c b d false e = is-false (kept s) (λ h.
         let z = true-kept h .tail in
         let y : _≡_ {A = ℕ} 0 1 = cc in omega arith)
 

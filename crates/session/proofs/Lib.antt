@@ -5,3 +5,4 @@ pub mod TurnLaws
 pub mod ReplayLaws
 pub mod OpenLaws
 pub mod CallLaws
+pub mod LentWalk

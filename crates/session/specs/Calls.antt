@@ -22,6 +22,10 @@ answerOf (Refused why) = refused (numberOf why)
 abbrev pub changedOf : Change → Changed
 changedOf c = record { answer = answerOf (c .outcome); session = c .session }
 
+-- "each edit alters that session itself": what a call that is lent the session answers, and the session after it
+abbrev pub leaves : Outcome → Session → Changed
+leaves outcome s = record { answer = answerOf outcome; session = s }
+
 abbrev pub done : Session → Changed
 done s = record { answer = got tt; session = s }
 

@@ -17,3 +17,6 @@ pub mod Judge
 pub mod Verdict
 pub mod Session
 pub mod Program
+pub mod River
+pub mod Cases
+pub mod Theorems

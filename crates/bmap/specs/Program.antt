@@ -16,10 +16,12 @@ use Rattle.bmap.specs.Judge.{Verdict, accepted, broken, Judged, judge}
 
 -- ---- numbers as text
 
--- the decimal digits of a number; so many are left
+-- the decimal digits of a number, so many at most: a number has fewer digits than its successor counts
 unfoldable pub digitsOf : ℕ → ℕ → List ℕ
 digitsOf zero n = []
-digitsOf (suc left) n = elim (ltb n 10) [ true ↦ (48 + n) ∷ [] | false ↦ digitsOf left (n / 10) ++ ((48 + n % 10) ∷ []) ]
+digitsOf (suc left) n =
+    let more : List ℕ = digitsOf left (n / 10) ++ ((48 + n % 10) ∷ []) in
+    if-else (ltb n 10) ((48 + n) ∷ []) more
 
 abbrev pub decimal : ℕ → List ℕ
 decimal n = digitsOf (suc n) n
@@ -57,7 +59,7 @@ refusedText n line = lineOf (text "REFUSED") (decimal n ∷ decimal line ∷ [])
 
 -- ---- the input
 
--- "the sheet begins at the first line starting "B1""
+-- "the sheet begins at the first line starting "B1"": the characters 66 and 49
 abbrev pub startsSheet : List ℕ → Bool
 startsSheet [] = false
 startsSheet (a ∷ []) = false

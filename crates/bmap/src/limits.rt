@@ -13,9 +13,13 @@ pub struct Counts {
 
 impl Counts {
     pub const AGENTS: usize = 16;
+
     pub const FLUENTS: usize = 32;
+
     pub const KNOWLEDGE: usize = 64;
+
     pub const ENTRIES: usize = 64;
+
     pub const LAWS: usize = 128;
 }
 
@@ -35,17 +39,22 @@ pub struct Sheet {
 
 impl Sheet {
     pub const STEPS: usize = 64;
+
     pub const BYTES: usize = Sheet::STEPS * Counts::AGENTS;
 }
 
 // A frame's payload, a law's nesting and its lag, at most.
 pub const PAYLOAD: usize = 120;
+
 pub const DEPTH: usize = 16;
+
 pub const LAG: usize = 63;
 
 // What is lent to be written, at least; what the program takes, at most.
 pub const STORE: usize = 36_000;
+
 pub const LEVELS: usize = (Sheet::STEPS + 1) * Counts::FLUENTS;
+
 pub const INPUT: usize = 60_000;
 
 // Every limit, for the promise below.

@@ -1,0 +1,54 @@
+-- What is to be shown of the definitions: lines round-trip exactly, and 17 is exact. Each is proved in the crate that it is about.
+use Prim.Native.Nat.{ℕ, _≤_, _*_, _/_}
+use mathlib.Core.Path.{_≡_}
+use mathlib.Core.Logic.{_↔_}
+use mathlib.Core.Bool.{true}
+use mathlib.Core.List.{List}
+use lib.Dec.{T, ltb}
+use lib.ListN.{length, take}
+use Rattle.bmap.specs.Plain.{all}
+use Rattle.bmap.specs.Limits.{storeSize, sheetSize}
+use Rattle.bmap.specs.Refusal.{got}
+use Rattle.bmap.specs.Accept.{read}
+use Rattle.bmap.specs.Domain.{Domain, Names}
+use Rattle.bmap.specs.Buffer.{padded, over}
+use Rattle.bmap.specs.Store.{reading, readDomain, writeDomain}
+use Rattle.bmap.specs.Sheet.{stepsIn, readSheet, writeSheet}
+use Rattle.bmap.specs.Session.{isOpen, CouldBeLeft}
+use Rattle.bmap.specs.declared.session.Session.{Session}
+
+-- what a lent buffer of bytes holds
+abbrev pub AreBytes : List ℕ → Type 0
+AreBytes l = T (all (λ x. ltb x 256) l)
+
+-- accepted lines, read and written again, are the same lines
+abbrev pub DomainLinesReturn : Type 0
+DomainLinesReturn =
+    (lines store text : List ℕ) (d : Domain) →
+    reading lines ≡ read d → storeSize ≤ length store → length lines ≤ length text →
+    writeDomain (readDomain lines store .buffer) text ≡ record { answer = got (length lines); buffer = over lines text }
+
+-- an accepted domain, written and read again, is the same bytes, zeros after
+abbrev pub DomainReturns : Type 0
+DomainReturns =
+    (store text new : List ℕ) (n : ℕ) → AreBytes store → writeDomain store text .answer ≡ got n → storeSize ≤ length new →
+    (bytes : List ℕ) × (store ≡ padded (length store) bytes)
+    × (readDomain (take n (writeDomain store text .buffer)) new ≡ record { answer = read (length bytes); buffer = padded (length new) bytes })
+
+abbrev pub SheetLinesReturn : Type 0
+SheetLinesReturn =
+    (agents : ℕ) (lines buffer text : List ℕ) (steps : List Names) →
+    stepsIn agents lines ≡ read steps → sheetSize ≤ length buffer → length lines ≤ length text →
+    writeSheet (take (length steps * agents) (readSheet agents lines buffer .buffer)) agents text
+    ≡ record { answer = got (length lines); buffer = over lines text }
+
+abbrev pub SheetReturns : Type 0
+SheetReturns =
+    (agents : ℕ) (sheet text buffer : List ℕ) (n : ℕ) →
+    AreBytes sheet → writeSheet sheet agents text .answer ≡ got n → sheetSize ≤ length buffer →
+    readSheet agents (take n (writeSheet sheet agents text .buffer)) buffer
+    ≡ record { answer = read (length sheet / agents); buffer = padded (length buffer) sheet }
+
+-- the test for 17 decides what an accepted opening and calls after it could leave
+abbrev pub OpenExactly : Type 0
+OpenExactly = (s : Session) → (isOpen s ≡ true) ↔ CouldBeLeft s

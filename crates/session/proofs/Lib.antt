@@ -6,3 +6,4 @@ pub mod ReplayLaws
 pub mod OpenLaws
 pub mod CallLaws
 pub mod LentWalk
+pub mod ModelLaws

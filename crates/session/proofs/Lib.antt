@@ -7,3 +7,5 @@ pub mod OpenLaws
 pub mod CallLaws
 pub mod LentWalk
 pub mod ModelLaws
+pub mod SomeDomain
+pub mod Theorems

@@ -5,7 +5,7 @@ use crate::log::Run;
 use crate::log::lay;
 use crate::log::replay;
 use crate::log::write_entry;
-use crate::open::is_open;
+use crate::kept::is_open;
 use bmap::Counts;
 use bmap::Refusal;
 use bmap::Session;

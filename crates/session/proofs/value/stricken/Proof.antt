@@ -16,7 +16,7 @@ use Rattle.session.proofs.value.stricken.Statement.{statement}
 use Rattle.session.proofs.value.stricken.Tie as tie
 use Rattle.session.proofs.value.stricken.Reads as reads
 use Rattle.session.proofs.value.stricken.Lts as lts
-use Rattle.session.proofs.open.is_open.Reads as is-open-reads
+use Rattle.session.proofs.kept.is_open.Reads as is-open-reads
 use Rattle.session.proofs.value.add.Reads as add-reads
 use Rattle.session.proofs.value.is_full.Reads as is-full-reads
 use Rattle.session.proofs.value.refuse.Reads as refuse-reads

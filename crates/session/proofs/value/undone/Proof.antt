@@ -15,7 +15,7 @@ use Rattle.session.proofs.value.undone.Tie as tie
 use Rattle.session.proofs.value.undone.Reads as reads
 use Rattle.session.proofs.value.undone.Lts as lts
 use Rattle.session.proofs.log.replay.Reads as replay-reads
-use Rattle.session.proofs.open.is_open.Reads as is-open-reads
+use Rattle.session.proofs.kept.is_open.Reads as is-open-reads
 use Rattle.session.proofs.value.refuse.Reads as refuse-reads
 use Rattle.session.proofs.value.stand.Reads as stand-reads
 

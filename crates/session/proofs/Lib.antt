@@ -9,3 +9,4 @@ pub mod LentWalk
 pub mod ModelLaws
 pub mod SomeDomain
 pub mod Theorems
+pub mod OpeningLaws

@@ -1,9 +1,9 @@
 -- The calls' answers as document 01 has them.
 use Prim.Native.Nat.{ℕ, _+_, _*_}
-use mathlib.Core.List.{List, _∷_, _++_}
+use mathlib.Core.List.{List, [], _∷_, _++_}
 use lib.ListN.{take}
 use Rattle.bmap.specs.Refusal.{Answer, got, refused, numberOf}
-use Rattle.bmap.specs.Limits.{mostEdits}
+use Rattle.bmap.specs.Limits.{mostEdits, sheetSize}
 use Rattle.bmap.specs.Buffer.{padded}
 use Rattle.bmap.specs.Session.{Changed, editSize}
 use Rattle.bmap.specs.declared.limits.Sheet.{Sheet}
@@ -41,4 +41,14 @@ withEdit s kind number names step steps = record {
   standing = s .standing + 1;
   total = s .standing + 1;
   log = padded (mostEdits * editSize) (take (s .standing * editSize) (s .log) ++ (kind ∷ number ∷ names));
+}
+
+-- a session of no edit
+abbrev pub emptied : ℕ → Session
+emptied n = record {
+  agents = n;
+  sheet = record { steps = 0; names = padded sheetSize [] };
+  standing = 0;
+  total = 0;
+  log = padded (mostEdits * editSize) [];
 }

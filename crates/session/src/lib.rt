@@ -4,6 +4,7 @@
 mod kept;
 mod lent;
 mod log;
+mod opening;
 mod value;
 
 pub use kept::is_open;
@@ -12,6 +13,7 @@ pub use lent::enter;
 pub use lent::redo;
 pub use lent::strike;
 pub use lent::undo;
+pub use opening::open;
 pub use value::amended;
 pub use value::entered;
 pub use value::redone;

@@ -54,7 +54,7 @@ module _ (s : Session) (h : isOpen s ≡ true) where
   pub sound-upto : (k : ℕ) → k ≤ s .total → Sound (s .agents) k (s .log)
   sound-upto k l = sound-prefix (s .agents) (s .log) (open-is .few) k (s .total) l (kept-is .sound)
 
-  sheet-is : sheetOf (modelOf s) ≡ standing-sheet
+  pub sheet-is : sheetOf (modelOf s) ≡ standing-sheet
   unfolding standing-sheet
   sheet-is = sheet-standing s (kept-is .stands .sound)
 

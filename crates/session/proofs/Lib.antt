@@ -10,3 +10,4 @@ pub mod ModelLaws
 pub mod SomeDomain
 pub mod Theorems
 pub mod OpeningLaws
+pub mod VerdictLaws

@@ -1,11 +1,12 @@
 -- The calls' answers as document 01 has them.
 use Prim.Native.Nat.{ℕ, _+_, _*_}
 use mathlib.Core.List.{List, [], _∷_, _++_}
+use lib.Dec.{ltb}
 use lib.ListN.{take}
-use Rattle.bmap.specs.Refusal.{Answer, got, refused, numberOf}
+use Rattle.bmap.specs.Refusal.{Answer, got, refused, need, numberOf}
 use Rattle.bmap.specs.Limits.{mostEdits, sheetSize}
 use Rattle.bmap.specs.Buffer.{padded}
-use Rattle.bmap.specs.Session.{Changed, editSize}
+use Rattle.bmap.specs.Session.{Changed, editSize, isOpen}
 use Rattle.bmap.specs.declared.limits.Sheet.{Sheet}
 use Rattle.bmap.specs.declared.session.Session.{Session}
 use Rattle.session.specs.Log.{laid}
@@ -28,6 +29,10 @@ leaves outcome s = record { answer = answerOf outcome; session = s }
 
 abbrev pub done : Session → Changed
 done s = record { answer = got tt; session = s }
+
+-- what every edit asks first: "17, 14"
+abbrev pub mayEdit : Session → Answer (Unit {0})
+mayEdit s = need (isOpen s) 17 (need (ltb (s .standing) mostEdits) 14 (got tt))
 
 -- the same edits, of which the first k stand and leave this sheet
 abbrev pub standingAt : Session → ℕ → Sheet → Session

@@ -12,19 +12,19 @@ ghost use Rattle.bmap.specs.Session.{editSize};
 ghost use Rattle.session.specs.Log.{laid, placeOf, namesEnd, targetOf, Reached, RunTo};
 
 // Where an edit's names are laid in a sheet, and the number of steps after it.
-pub enum Place {
+pub(crate) enum Place {
     Nowhere,
     Step(usize, usize),
 }
 
 // The number of steps that a log's entries leave, or that one of them is no edit that could be done.
-pub enum Run {
+pub(crate) enum Run {
     Stuck,
     Steps(usize),
 }
 
 // Whether only zeros stand in s from a place on.
-pub fn is_zero_from(s: &[u8], from: usize) -> bool
+pub(crate) fn is_zero_from(s: &[u8], from: usize) -> bool
     ensures { λ r. ⌜ r ≡ zeros (drop from (now (s .entry))) ⌝ }
 {
     let mut i = from;
@@ -38,7 +38,7 @@ pub fn is_zero_from(s: &[u8], from: usize) -> bool
 }
 
 // Lays src over dst from a place on.
-pub fn lay(dst: &mut [u8], at: usize, src: &[u8])
+pub(crate) fn lay(dst: &mut [u8], at: usize, src: &[u8])
     requires { ⌜ at + length (now src) ≤ length (now dst) ⌝ }
     ensures { λ _. ⌜ now (dst .exit) ≡ laid (now (dst .entry)) at (now (src .entry)) ⌝ }
 {
@@ -50,7 +50,7 @@ pub fn lay(dst: &mut [u8], at: usize, src: &[u8])
 }
 
 // Zeros from a place on.
-pub fn clear(dst: &mut [u8], from: usize)
+pub(crate) fn clear(dst: &mut [u8], from: usize)
     requires { ⌜ from ≤ length (now dst) ⌝ }
     ensures { λ _. ⌜ now (dst .exit) ≡ padded (length (now (dst .entry))) (take from (now (dst .entry))) ⌝ }
 {
@@ -62,7 +62,7 @@ pub fn clear(dst: &mut [u8], from: usize)
 }
 
 // The first bytes of a log, a new entry after them, and zeros after it.
-pub fn write_entry(log: &mut [u8], at: usize, kind: u8, number: u8, names: &[u8])
+pub(crate) fn write_entry(log: &mut [u8], at: usize, kind: u8, number: u8, names: &[u8])
     requires { ⌜ at + 2 + length (now names) ≤ length (now log) ⌝ }
     ensures { λ _. ⌜ now (log .exit) ≡ padded (length (now (log .entry))) (take at (now (log .entry)) ++ (kind ∷ number ∷ now (names .entry))) ⌝ }
 {
@@ -73,7 +73,7 @@ pub fn write_entry(log: &mut [u8], at: usize, kind: u8, number: u8, names: &[u8]
 }
 
 // The place of an edit in a sheet of so many steps.
-pub fn edit_place(kind: u8, number: usize, steps: usize) -> Place
+pub(crate) fn edit_place(kind: u8, number: usize, steps: usize) -> Place
     ensures { λ r. ⌜ r ≡ placeOf kind number steps ⌝ }
 {
     if kind == 1 {
@@ -103,7 +103,7 @@ pub fn edit_place(kind: u8, number: usize, steps: usize) -> Place
 }
 
 // Where an entry's names end: a strike has none.
-pub fn names_end(agents: usize, kind: u8) -> usize
+pub(crate) fn names_end(agents: usize, kind: u8) -> usize
     requires { ⌜ agents ≤ mostAgents ⌝ }
     ensures { λ r. ⌜ r ≡ namesEnd agents kind ⌝ }
 {
@@ -114,7 +114,7 @@ pub fn names_end(agents: usize, kind: u8) -> usize
 }
 
 // The place of an entry's edit, where zeros follow what the entry has.
-pub fn target(agents: usize, entry: &[u8], steps: usize) -> Place
+pub(crate) fn target(agents: usize, entry: &[u8], steps: usize) -> Place
     requires { ⌜ (agents ≤ mostAgents) × (length (now entry) ≡ editSize) ⌝ }
     ensures { λ r. ⌜ r ≡ targetOf agents (now (entry .entry)) steps ⌝ }
 {
@@ -126,7 +126,7 @@ pub fn target(agents: usize, entry: &[u8], steps: usize) -> Place
 }
 
 // The entries from one to another, done on the sheet that those before them left.
-pub fn replay(agents: usize, log: &[u8], from: usize, to: usize, steps: usize, names: &mut [u8]) -> Run
+pub(crate) fn replay(agents: usize, log: &[u8], from: usize, to: usize, steps: usize, names: &mut [u8]) -> Run
     requires { ⌜ (agents ≤ mostAgents) × (from ≤ to) × (to * editSize ≤ length (now log)) × (Reached agents from (now log) steps (now names)) ⌝ }
     ensures { λ r. ⌜ RunTo agents to (now (log .entry)) r (now (names .exit)) ⌝ }
 {

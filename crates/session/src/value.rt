@@ -12,12 +12,11 @@ use bmap::Session;
 use bmap::Sheet;
 ghost use mathlib.Core.Path.{_≡_};
 ghost use Prim.Native.Nat.{_+_, _≤_, _<_, _*_};
-ghost use lib.Dec.{leb};
 ghost use lib.ListN.{length};
 ghost use Rattle.bmap.specs.Limits.{mostAgents, mostEdits, sheetSize};
 ghost use Rattle.bmap.specs.Refusal.{refused, numberOf};
 ghost use Rattle.bmap.specs.Session.{enter, strike, amend, changed, editSession, undoSession, redoSession};
-ghost use Rattle.session.specs.Calls.{changedOf, done, standingAt, withEdit};
+ghost use Rattle.session.specs.Calls.{answerOf, changedOf, mayEdit, done, standingAt, withEdit};
 
 fn refuse(s: Session, why: Refusal) -> Change
     ensures { λ r. ⌜ changedOf r ≡ changed s (refused (numberOf why)) ⌝ }
@@ -36,11 +35,17 @@ fn accept(session: Session) -> Change
     Change { outcome, session }
 }
 
-// 14: "200 edits stand"; undone ones take no room.
-fn is_full(s: Session) -> bool
-    ensures { λ r. ⌜ r ≡ leb mostEdits (s .standing) ⌝ }
+// What every edit asks first: 17, then 14, "200 edits stand". Undone edits take no room.
+fn may_edit(s: Session) -> Outcome
+    ensures { λ r. ⌜ answerOf r ≡ mayEdit s ⌝ }
 {
-    s.standing >= Session::EDITS
+    if !is_open(s) {
+        return Outcome::Refused(Refusal::NotSession);
+    }
+    if s.standing >= Session::EDITS {
+        return Outcome::Refused(Refusal::LogFull);
+    }
+    Outcome::Done
 }
 
 // The same edits, of which so many stand and leave this sheet.
@@ -89,11 +94,10 @@ fn add(s: Session, kind: u8, number: u8, names: &[u8], step: usize, steps: usize
 pub fn entered(s: Session, step: &[u8]) -> Change
     ensures { λ r. ⌜ changedOf r ≡ editSession (enter (now (step .entry))) s ⌝ }
 {
-    if !is_open(s) {
-        return refuse(s, Refusal::NotSession);
-    }
-    if is_full(s) {
-        return refuse(s, Refusal::LogFull);
+    let may = may_edit(s);
+    match may {
+        Outcome::Refused(why) => return refuse(s, why),
+        Outcome::Done => {}
     }
     if step.len() != s.agents {
         return refuse(s, Refusal::NotWhole);
@@ -110,11 +114,10 @@ pub fn entered(s: Session, step: &[u8]) -> Change
 pub fn stricken(s: Session) -> Change
     ensures { λ r. ⌜ changedOf r ≡ editSession strike s ⌝ }
 {
-    if !is_open(s) {
-        return refuse(s, Refusal::NotSession);
-    }
-    if is_full(s) {
-        return refuse(s, Refusal::LogFull);
+    let may = may_edit(s);
+    match may {
+        Outcome::Refused(why) => return refuse(s, why),
+        Outcome::Done => {}
     }
     let sheet = s.sheet;
     let steps = sheet.steps;
@@ -131,11 +134,10 @@ pub fn stricken(s: Session) -> Change
 pub fn amended(s: Session, number: usize, step: &[u8]) -> Change
     ensures { λ r. ⌜ changedOf r ≡ editSession (amend number (now (step .entry))) s ⌝ }
 {
-    if !is_open(s) {
-        return refuse(s, Refusal::NotSession);
-    }
-    if is_full(s) {
-        return refuse(s, Refusal::LogFull);
+    let may = may_edit(s);
+    match may {
+        Outcome::Refused(why) => return refuse(s, why),
+        Outcome::Done => {}
     }
     if step.len() != s.agents {
         return refuse(s, Refusal::NotWhole);

@@ -1,18 +1,16 @@
 -- What opening a session returns is what its promise says.
 -- Assumes nothing.
 use mathlib.Core.Path.{_≡_, refl, sym, ap, _∙_}
-use mathlib.Core.Bool.{Bool, true, false}
+use mathlib.Core.Bool.{true, false}
 use mathlib.Core.List.{List, [], map}
 use mathlib.Core.Option.{Option, none, some}
 use Prim.Native.Nat.{ℕ}
-use native.Mathlib.Omega.{arith}
 use Rattle.bmap.specs.Plain.{flat, maybe}
 use Rattle.bmap.specs.Refusal.{Answer, got, refused, known}
 use Rattle.bmap.specs.Domain.{Domain}
 use Rattle.bmap.specs.Store.{framesIn, whatWasRead, domainIn}
 use Rattle.bmap.specs.Accept.{taken}
-use Rattle.bmap.specs.Session.{Changed, opened, replayed, sheetOf, loggedAll, layout, closed, openedOn, openSession}
-use Rattle.bmap.specs.declared.session.Session.{Session}
+use Rattle.bmap.specs.Session.{opened, replayed, sheetOf, loggedAll, layout, closed, openedOn, openSession}
 use Rattle.domain.specs.declared.found.Found.{Found}
 use Rattle.domain.specs.Found.{lawPlaces, indexWith, foundOf, foundIn}
 use Rattle.session.specs.Calls.{done, emptied}

@@ -1,26 +1,25 @@
 -- What the verdict of a session returns is what its promise says: the judge's, of the bytes of its sheet.
 -- Assumes nothing.
-use mathlib.Core.Path.{_≡_, refl, sym, ap, _∙_}
-use mathlib.Core.Bool.{Bool, true, false}
-use mathlib.Core.List.{List, [], _∷_, _++_, append-nil}
-use Prim.Native.Nat.{ℕ, _+_, _-_, _*_, _/_, _%_, _<_, _≤_}
+use mathlib.Core.Path.{_≡_, sym, ap, _∙_}
+use mathlib.Core.Bool.{true, false}
+use mathlib.Core.List.{List, [], append-nil}
+use Prim.Native.Nat.{ℕ, _-_, _*_, _/_, _%_, _<_, _≤_}
 use native.Mathlib.Nat.{mul-div-cancel, mod-eq-sub-div-mul}
 use native.Mathlib.Omega.{arith}
-use lib.Dec.{eqb, leb}
 use lib.IntN.{ℤ}
-use lib.ListN.{length, take, drop}
+use lib.ListN.{length, take}
 use lib.Seq.{take-at}
 use borrow.Author.Tests.{eq-eqb, ne-eqb, le-leb, lt-leb}
-use Rattle.bmap.specs.Plain.{if-else, flat}
-use Rattle.bmap.specs.Refusal.{Answer, got, refused, need, then}
+use Rattle.bmap.specs.Plain.{flat}
+use Rattle.bmap.specs.Refusal.{got, refused}
 use Rattle.bmap.specs.Domain.{Domain, Names}
 use Rattle.bmap.specs.Store.{domainIn}
 use Rattle.bmap.specs.Sheet.{rows, sheetOf as stepsOf}
 use Rattle.bmap.specs.Judge.{judge}
-use Rattle.bmap.specs.Verdict.{Judgement, judgement, judgeSheet}
-use Rattle.bmap.specs.Session.{sheetOf, verdict, modelOf, isOpen, verdictOf}
+use Rattle.bmap.specs.Verdict.{judgement, judgeSheet}
+use Rattle.bmap.specs.Session.{verdict, modelOf, isOpen, verdictOf}
 use Rattle.bmap.specs.declared.session.Session.{Session}
-use Rattle.session.proofs.SheetLaws.{Width, Fits, page, length-flat, rows-of}
+use Rattle.session.proofs.SheetLaws.{Fits, length-flat, rows-of}
 use Rattle.session.proofs.OpenLaws.{agents-kept}
 use Rattle.session.proofs.CallLaws.{open-is, standing-sheet, steps-are, names-are, sheet-fits, sheet-is}
 

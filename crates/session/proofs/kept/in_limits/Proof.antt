@@ -4,8 +4,6 @@ use borrow.Author.Tests.{le-leb, lt-leb}
 use native.Mathlib.Omega.{arith}
 use Rattle.session.proofs.kept.in_limits.Statement.{statement}
 use Rattle.session.proofs.kept.in_limits.Tie as tie
-use Rattle.session.proofs.kept.in_limits.Reads as reads
-use Rattle.session.proofs.kept.in_limits.Lts as lts
 
 returns : tie.Need-returns
 returns c = simp (lt-leb 1 (c .before .args .agents) (omega arith))

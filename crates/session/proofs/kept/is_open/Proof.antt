@@ -6,10 +6,6 @@ use Rattle.session.proofs.OpenLaws.{outside, inside, within}
 use borrow.Author.Needs.{needs}
 use Rattle.session.proofs.kept.is_open.Statement.{statement}
 use Rattle.session.proofs.kept.is_open.Tie as tie
-use Rattle.session.proofs.kept.is_open.Reads as reads
-use Rattle.session.proofs.kept.is_open.Lts as lts
-use Rattle.session.proofs.kept.in_limits.Reads as in-limits-reads
-use Rattle.session.proofs.kept.is_kept.Reads as is-kept-reads
 
 in-limits-requires : tie.Need-in-limits-requires
 in-limits-requires c κs = search needs

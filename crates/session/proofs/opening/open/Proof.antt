@@ -1,6 +1,6 @@
 -- `session::opening::open` meets its contract.
 -- Assumes nothing.
-use mathlib.Core.Path.{_≡_, ap, _∙_}
+use mathlib.Core.Path.{ap, _∙_}
 use borrow.Author.Tests.{not-true, not-false}
 use Rattle.bmap.specs.Refusal.{refused}
 use Rattle.bmap.specs.declared.session.Session.{Session}
@@ -9,10 +9,6 @@ use Rattle.session.proofs.OpeningLaws.{opened-15, opened-got}
 use borrow.Author.Needs.{needs}
 use Rattle.session.proofs.opening.open.Statement.{statement}
 use Rattle.session.proofs.opening.open.Tie as tie
-use Rattle.session.proofs.opening.open.Reads as reads
-use Rattle.session.proofs.opening.open.Lts as lts
-use Rattle.domain.proofs.index_of.Reads as index-of-reads
-use Rattle.session.proofs.opening.empty.Reads as empty-reads
 
 index-of-requires : tie.Need-index-of-requires
 index-of-requires c κs = search needs

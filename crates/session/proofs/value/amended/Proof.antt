@@ -1,6 +1,6 @@
 -- `session::value::amended` meets its contract.
 -- Assumes nothing.
-use mathlib.Core.Path.{_≡_, _∙_}
+use mathlib.Core.Path.{_∙_}
 use Prim.Native.Nat.{_-_}
 use native.Mathlib.Omega.{arith}
 use Rattle.bmap.specs.Session.{amend}
@@ -9,11 +9,6 @@ use Rattle.session.proofs.CallLaws.{may-refused, may-done, open-few, op
 use borrow.Author.Needs.{needs}
 use Rattle.session.proofs.value.amended.Statement.{statement}
 use Rattle.session.proofs.value.amended.Tie as tie
-use Rattle.session.proofs.value.amended.Reads as reads
-use Rattle.session.proofs.value.amended.Lts as lts
-use Rattle.session.proofs.value.add.Reads as add-reads
-use Rattle.session.proofs.value.may_edit.Reads as may-edit-reads
-use Rattle.session.proofs.value.refuse.Reads as refuse-reads
 
 may-edit-requires : tie.Need-may-edit-requires
 may-edit-requires c κs = search needs

@@ -1,6 +1,6 @@
 -- `session::value::entered` meets its contract.
 -- Assumes nothing.
-use mathlib.Core.Path.{_≡_, _∙_}
+use mathlib.Core.Path.{_∙_}
 use native.Mathlib.Omega.{arith}
 use Rattle.bmap.specs.Session.{enter}
 use Rattle.session.proofs.SheetLaws.{room}
@@ -8,11 +8,6 @@ use Rattle.session.proofs.CallLaws.{may-refused, may-done, open-few, en
 use borrow.Author.Needs.{needs}
 use Rattle.session.proofs.value.entered.Statement.{statement}
 use Rattle.session.proofs.value.entered.Tie as tie
-use Rattle.session.proofs.value.entered.Reads as reads
-use Rattle.session.proofs.value.entered.Lts as lts
-use Rattle.session.proofs.value.add.Reads as add-reads
-use Rattle.session.proofs.value.may_edit.Reads as may-edit-reads
-use Rattle.session.proofs.value.refuse.Reads as refuse-reads
 
 may-edit-requires : tie.Need-may-edit-requires
 may-edit-requires c κs = search needs

@@ -5,9 +5,6 @@ use borrow.Author.Tests.{not-true, not-false, lt-ltb, le-ltb}
 use borrow.Author.Needs.{needs}
 use Rattle.session.proofs.value.may_edit.Statement.{statement}
 use Rattle.session.proofs.value.may_edit.Tie as tie
-use Rattle.session.proofs.value.may_edit.Reads as reads
-use Rattle.session.proofs.value.may_edit.Lts as lts
-use Rattle.session.proofs.kept.is_open.Reads as is-open-reads
 
 is-open-requires : tie.Need-is-open-requires
 is-open-requires c κs = search needs

@@ -1,6 +1,6 @@
 -- `session::value::stricken` meets its contract.
 -- Assumes nothing.
-use mathlib.Core.Path.{_≡_, sym, ap, _∙_}
+use mathlib.Core.Path.{sym, ap, _∙_}
 use mathlib.Core.List.{List}
 use Prim.Native.Nat.{ℕ, _-_}
 use native.Mathlib.Omega.{arith}
@@ -13,11 +13,6 @@ use Rattle.session.proofs.CallLaws.{may-refused, may-done, open-few, op
 use borrow.Author.Needs.{needs}
 use Rattle.session.proofs.value.stricken.Statement.{statement}
 use Rattle.session.proofs.value.stricken.Tie as tie
-use Rattle.session.proofs.value.stricken.Reads as reads
-use Rattle.session.proofs.value.stricken.Lts as lts
-use Rattle.session.proofs.value.add.Reads as add-reads
-use Rattle.session.proofs.value.may_edit.Reads as may-edit-reads
-use Rattle.session.proofs.value.refuse.Reads as refuse-reads
 
 may-edit-requires : tie.Need-may-edit-requires
 may-edit-requires c κs = search needs

@@ -126,7 +126,14 @@ pub(crate) fn target(agents: usize, entry: &[u8], steps: usize) -> Place
 }
 
 // The entries from one to another, done on the sheet that those before them left.
-pub(crate) fn replay(agents: usize, log: &[u8], from: usize, to: usize, steps: usize, names: &mut [u8]) -> Run
+pub(crate) fn replay(
+    agents: usize,
+    log: &[u8],
+    from: usize,
+    to: usize,
+    steps: usize,
+    names: &mut [u8],
+) -> Run
     requires { ⌜ (agents ≤ mostAgents) × (from ≤ to) × (to * editSize ≤ length (now log)) × (Reached agents from (now log) steps (now names)) ⌝ }
     ensures { λ r. ⌜ RunTo agents to (now (log .entry)) r (now (names .exit)) ⌝ }
 {

@@ -1,11 +1,11 @@
 // The calls by value: the session is taken, and returned with the answer.
 use crate::Change;
 use crate::Outcome;
+use crate::kept::is_open;
 use crate::log::Run;
 use crate::log::lay;
 use crate::log::replay;
 use crate::log::write_entry;
-use crate::kept::is_open;
 use bmap::Counts;
 use bmap::Refusal;
 use bmap::Session;
@@ -75,10 +75,7 @@ fn add(s: Session, kind: u8, number: u8, names: &[u8], step: usize, steps: usize
     lay(&mut page, step * agents, names);
     let mut log = s.log;
     write_entry(&mut log, standing * Session::EDIT, kind, number, names);
-    let sheet = Sheet {
-        steps,
-        names: page,
-    };
+    let sheet = Sheet { steps, names: page };
     let count = standing + 1;
     let session = Session {
         agents,
@@ -188,7 +185,14 @@ pub fn redone(s: Session) -> Change
     }
     let held = s.sheet;
     let mut names = held.names;
-    let run = replay(s.agents, &s.log, standing, standing + 1, held.steps, &mut names);
+    let run = replay(
+        s.agents,
+        &s.log,
+        standing,
+        standing + 1,
+        held.steps,
+        &mut names,
+    );
     match run {
         Run::Stuck => refuse(s, Refusal::NotSession),
         Run::Steps(steps) => {

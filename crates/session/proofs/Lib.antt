@@ -1,0 +1,13 @@
+pub mod ListLaws
+pub mod SheetLaws
+pub mod LogLaws
+pub mod TurnLaws
+pub mod ReplayLaws
+pub mod OpenLaws
+pub mod CallLaws
+pub mod LentWalk
+pub mod ModelLaws
+pub mod SomeDomain
+pub mod Theorems
+pub mod OpeningLaws
+pub mod VerdictLaws

@@ -1,0 +1,149 @@
+-- Laws of lists, zeros and tests that know nothing of a session.
+-- Assumes nothing.
+use mathlib.Core.Path.{_≡_, refl, sym, ap, _∙_}
+use mathlib.Core.Bool.{Bool, true, false}
+use mathlib.Core.List.{List, [], _∷_, _++_, append-assoc, append-nil}
+use Prim.Native.Nat.{ℕ, zero, suc, _+_, _-_, _<_, _≤_}
+use native.Mathlib.Nat.{not-suc-le-zero, le-of-suc-le-suc, sub-zero}
+use native.Mathlib.Numerals.{add-one}
+use native.Mathlib.Omega.{arith}
+use lib.Dec.{eqb}
+use lib.ListN.{length, getD, take, drop, set, replicate, length-append, length-replicate, getD-replicate, replicate-append-replicate, drop-of-length-le, length-set}
+use lib.Seq.{take-length, drop-length, take-all, take-at, drop-at, drop-drop, drop-cons, length-take-le, paste, paste-suc, take-suc-set, length-paste, take-paste}
+use borrow.Author.Tests.{eq-eqb, ne-eqb, eqb-true}
+use Rattle.bmap.specs.Plain.{both, all}
+use Rattle.bmap.specs.Buffer.{padded}
+use Rattle.bmap.specs.Store.{zeros}
+use Rattle.bmap.specs.Session.{sameBytes}
+
+-- ---- tests
+pub both-true : (a b : Bool) → both a b ≡ true → (a ≡ true) × (b ≡ true)
+both-true true b h = (refl, h)
+both-true false b h = absurd (let z : _≡_ {A = ℕ} 0 1 = cc in omega arith)
+
+pub is-false : (b : Bool) → (b ≡ true → ⊥) → false ≡ b
+is-false true h = absurd (h refl)
+is-false false h = refl
+
+pub never : {A : Type 0} (b : Bool) → b ≡ true → b ≡ false → A
+never b t f = absurd (let z : _≡_ {A = ℕ} 0 1 = cc in omega arith)
+
+-- ---- zeros
+pub drop-replicate : (n m a : ℕ) → drop n (replicate m a) ≡ replicate (m - n) a
+drop-replicate zero m a = rw sub-zero
+drop-replicate (suc n) zero a = let e : 0 - suc n ≡ 0 = omega arith in rw e
+drop-replicate (suc n) (suc m) a = let e : suc m - suc n ≡ m - n = omega arith in rw e (drop-replicate n m a)
+
+pub take-replicate : (n m a : ℕ) → n ≤ m → take n (replicate m a) ≡ replicate n a
+take-replicate zero m a h = refl
+take-replicate (suc n) zero a h = absurd (not-suc-le-zero h)
+take-replicate (suc n) (suc m) a h = ap (λ (l : List ℕ). a ∷ l) (take-replicate n m a (le-of-suc-le-suc h))
+
+pub zeros-replicate : (n : ℕ) → zeros (replicate n 0) ≡ true
+unfolding all
+zeros-replicate zero = refl
+zeros-replicate (suc n) = zeros-replicate n
+
+pub zeros-are : (l : List ℕ) → zeros l ≡ true → l ≡ replicate (length l) 0
+unfolding all
+zeros-are [] h = refl
+zeros-are (x ∷ l) h =
+    let p = both-true (eqb x 0) (zeros l) h in
+    let a : x ≡ 0 = eqb-true x 0 (p .0) in
+    let b = zeros-are l (p .1) in
+    rw a (ap (λ (r : List ℕ). 0 ∷ r) b)
+
+-- a turn of the search for a byte that is not 0
+pub zero-here : (l : List ℕ) (i : ℕ) → i < length l → getD l i 0 ≡ 0 → zeros (drop i l) ≡ zeros (drop (i + 1) l)
+unfolding all
+zero-here l i h z = rw (drop-cons l i 0 h, eq-eqb (getD l i 0) 0 z, add-one i)
+
+pub not-zero-here : (l : List ℕ) (i : ℕ) → i < length l → (getD l i 0 ≡ 0 → ⊥) → false ≡ zeros (drop i l)
+unfolding all
+not-zero-here l i h z = rw (drop-cons l i 0 h, ne-eqb (getD l i 0) 0 z)
+
+pub zeros-past : (l : List ℕ) (i : ℕ) → length l ≤ i → true ≡ zeros (drop i l)
+unfolding all
+zeros-past l i h = rw (drop-of-length-le l h)
+
+-- ---- zeros after a list
+pub length-padded : (n : ℕ) (l : List ℕ) → length l ≤ n → length (padded n l) ≡ n
+length-padded n l h = omega (arith, length-append l (replicate (n - length l) 0), length-replicate {A = ℕ} (n - length l) 0)
+
+-- zeros at the end of a list that is padded
+pub padded-zeros : (n k : ℕ) (l : List ℕ) → length l + k ≤ n → padded n (l ++ replicate k 0) ≡ padded n l
+padded-zeros n k l h =
+    let a : length (l ++ replicate k 0) ≡ length l + k = omega (arith, length-append l (replicate k 0), length-replicate {A = ℕ} k 0) in
+    let b : k + (n - (length l + k)) ≡ n - length l = omega arith in
+    rw (a, append-assoc l (replicate k 0) (replicate (n - (length l + k)) 0), replicate-append-replicate {A = ℕ} k (n - (length l + k)) 0, b)
+
+-- ---- a store of zeros from a place on
+abbrev pub cleared : List ℕ → ℕ → ℕ → List ℕ
+cleared d from j = paste d from (replicate (length d - from) 0) j
+
+pub clear-more : (d : List ℕ) (from i : ℕ) (l : List ℕ) → from ≤ i → i < length d → l ≡ cleared d from (i - from) → set l i 0 ≡ cleared d from (i + 1 - from)
+clear-more d from i l h k e =
+    let j : ℕ = i - from in
+    let a : from + j ≡ i = omega arith in
+    let b : i + 1 - from ≡ suc j = omega arith in
+    let z : getD (replicate {A = ℕ} (length d - from) 0) j 0 ≡ 0 = getD-replicate (length d - from) j 0 0 (omega arith) in
+    rw (e, b, ← paste-suc d from (replicate (length d - from) 0) j 0 (omega arith) (omega (arith, length-replicate {A = ℕ} (length d - from) 0)), z, a)
+
+pub clear-all : (d : List ℕ) (from i : ℕ) (l : List ℕ) → from ≤ i → i ≤ length d → length d ≤ i → l ≡ cleared d from (i - from) → l ≡ padded (length d) (take from d)
+clear-all d from i l h k m e =
+    let a : i ≡ length d = omega arith in
+    let b : from + (length d - from) ≡ length d = omega arith in
+    let c : take (length d - from) (replicate {A = ℕ} (length d - from) 0) ≡ replicate (length d - from) 0 = take-all (length d - from) (replicate (length d - from) 0) (omega (arith, length-replicate {A = ℕ} (length d - from) 0)) in
+    let f : length (take from d) ≡ from = length-take-le from d (omega arith) in
+    e ∙ rw (a, b, c, f, drop-length d) (append-nil (take from d ++ replicate (length d - from) 0))
+
+-- ---- a new entry after the first bytes of a list, zeros after it
+module _ (d : List ℕ) (at k m : ℕ) (names l : List ℕ) (h : at + 2 + length names ≤ length d) (e : l ≡ paste (set (set d at k) (at + 1) m) (at + 2) names (length names)) where
+  abbrev set-two : List ℕ
+  set-two = set (set d at k) (at + 1) m
+
+  pub entry-laid : length l ≡ length d
+  entry-laid =
+      let n : length set-two ≡ length d = length-set (set d at k) (at + 1) m ∙ length-set d at k in
+      ap length e ∙ length-paste set-two (at + 2) names (length names) (omega arith) (omega arith) ∙ n
+
+  entry-head : take (at + 2 + length names) l ≡ take at d ++ (k ∷ m ∷ names)
+  entry-head =
+      let n : length set-two ≡ length d = length-set (set d at k) (at + 1) m ∙ length-set d at k in
+      let b : at + 2 ≡ suc (at + 1) = omega arith in
+      let two : take (at + 2) set-two ≡ (take at d ++ (k ∷ [])) ++ (m ∷ []) =
+      ap (λ (i : ℕ). take i set-two) b ∙ take-suc-set (set d at k) (at + 1) m (omega (arith, length-set d at k))
+      ∙ ap (λ (x : List ℕ). x ++ (m ∷ [])) (ap (λ (i : ℕ). take i (set d at k)) (add-one at) ∙ take-suc-set d at k (omega arith)) in
+      ap (take (at + 2 + length names)) e ∙ take-paste set-two (at + 2) names (length names) (omega arith) (omega arith) ∙ rw (two, take-length names) (simp append-assoc)
+
+  module _ (r : List ℕ) (f : r ≡ padded (length l) (take (at + 2 + length names) l)) where
+    pub entry-written : r ≡ padded (length d) (take at d ++ (k ∷ m ∷ names))
+    entry-written = f ∙ ap (λ (i : ℕ). padded i (take (at + 2 + length names) l)) entry-laid ∙ ap (padded (length d)) entry-head
+
+    pub entry-kept : length r ≡ length d
+    entry-kept = ap length f ∙ length-padded (length l) (take (at + 2 + length names) l) (omega (arith, entry-laid, length-take-le (at + 2 + length names) l (omega (arith, entry-laid)))) ∙ entry-laid
+
+-- ---- two lists of bytes compared
+pub same-refl : (xs : List ℕ) → sameBytes xs xs ≡ true
+unfolding sameBytes
+same-refl [] = refl
+same-refl (x ∷ xs) = simp (eq-eqb x x refl) (same-refl xs)
+
+pub same-eq : (xs ys : List ℕ) → sameBytes xs ys ≡ true → xs ≡ ys
+unfolding sameBytes
+same-eq [] [] h = refl
+same-eq [] (y ∷ ys) h = absurd (let z : _≡_ {A = ℕ} 0 1 = cc in omega arith)
+same-eq (x ∷ xs) [] h = absurd (let z : _≡_ {A = ℕ} 0 1 = cc in omega arith)
+same-eq (x ∷ xs) (y ∷ ys) h =
+    let p = both-true (eqb x y) (sameBytes xs ys) h in
+    let a : x ≡ y = eqb-true x y (p .0) in
+    let q = same-eq xs ys (p .1) in cc
+
+pub same-of : (xs ys : List ℕ) → xs ≡ ys → sameBytes xs ys ≡ true
+same-of xs ys e = rw e (same-refl ys)
+
+-- ---- what is laid over the middle
+pub laid-mid : (A B C Y : List ℕ) (at : ℕ) → length A ≡ at → length B ≡ length Y → paste (A ++ (B ++ C)) at Y (length Y) ≡ (A ++ Y) ++ C
+laid-mid A B C Y at a b =
+    let d : drop (at + length Y) (A ++ (B ++ C)) ≡ C = sym (drop-drop (length Y) at (A ++ (B ++ C))) ∙ ap (drop (length Y)) (drop-at A (B ++ C) at a) ∙ drop-at B C (length Y) b in
+    rw (take-at A (B ++ C) at a, take-length Y, d)

@@ -18,12 +18,13 @@ use Rattle.line.specs.Read.{Taken, frameSize, firstOf, lineRead, bytesRe
 use Rattle.line.specs.Within.{Begins}
 use Rattle.line.proofs.Digits.{spelt-most}
 use Rattle.line.proofs.Spelling.{spelt-all}
-use Rattle.line.proofs.Lines.{after, firstLine, front, lines-first, lines-nonempty, text-first}
+use Rattle.line.proofs.Lines.{after, firstLine, front, lines-nonempty, text-first}
 use Rattle.line.proofs.FirstLaws.{decoded, first-is, sizeIn}
-use Rattle.line.proofs.HexLaws.{decodes, hex-bytes, length-hex}
+use Rattle.line.proofs.HexLaws.{hex-bytes, length-hex}
 use Rattle.line.proofs.Answers.{then-got-inv, then-refused}
--- a frame's line there and back, for callers that cite this module
-pub use Rattle.line.proofs.HexLaws.{decode-line, line-decoded, lines-line, text-line}
+-- the first line, and a frame's line there and back, for callers that cite this module
+pub use Rattle.line.proofs.Lines.{lines-first}
+pub use Rattle.line.proofs.HexLaws.{Decodes, decodes, decode-line, line-decoded, lines-line, text-line}
 
 -- room for a frame, or refusal 10
 read-in-room : (text out : List ℕ) → frameSize ≤ length out → lineRead text out ≡ firstOf (linesOf text)

@@ -11,8 +11,8 @@ use Rattle.bmap.specs.Domain.{Entry}
 use Rattle.bmap.specs.Payload.{Item, itemIn}
 use Rattle.bmap.specs.Accept.{inOrder, room, fresh}
 use Rattle.bmap.specs.declared.limits.Counts.{Counts}
-use Rattle.domain.specs.declared.check.Check.{Check}
-use Rattle.domain.specs.declared.check.Check.the-variants.{Passed, Refused}
+use Rattle.domain.specs.declared.checks.Check.{Check}
+use Rattle.domain.specs.declared.checks.Check.the-variants.{Passed, Refused}
 
 abbrev pub isSome : {A : Type 0} → Option A → Bool
 isSome none = false

@@ -1,6 +1,6 @@
 // Acceptance and index of a store, in one pass.
-use crate::check::Check;
-use crate::check::check_frame;
+use crate::checks::Check;
+use crate::checks::check_frame;
 use crate::note::count_frame;
 use crate::note::note_entry;
 use crate::note::note_fluent;

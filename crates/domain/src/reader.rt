@@ -1,6 +1,6 @@
 // The domain reader: hex lines to a store.
-use crate::check::Check;
-use crate::check::check_frame;
+use crate::checks::Check;
+use crate::checks::check_frame;
 use crate::found::NO_COUNTS;
 use crate::found::is_complete;
 use crate::note::count_frame;

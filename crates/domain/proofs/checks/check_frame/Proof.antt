@@ -3,8 +3,8 @@ use Rattle.domain.proofs.CheckLaws.{check-3, check-5, check-4, check-ot
 use Rattle.domain.specs.Check.{entriesOf}
 use mathlib.Core.Path.{sym, _∙_}
 use borrow.Author.Needs.{needs}
-use Rattle.domain.proofs.check.check_frame.Statement.{statement}
-use Rattle.domain.proofs.check.check_frame.Tie as tie
+use Rattle.domain.proofs.checks.check_frame.Statement.{statement}
+use Rattle.domain.proofs.checks.check_frame.Tie as tie
 
 in-order-requires : tie.Need-in-order-requires
 in-order-requires c κs = search needs

@@ -1,7 +1,7 @@
 use Rattle.domain.proofs.CheckLaws.{order-low, order-high, order-known}
 use native.Mathlib.Omega.{arith}
-use Rattle.domain.proofs.check.in_order.Statement.{statement}
-use Rattle.domain.proofs.check.in_order.Tie as tie
+use Rattle.domain.proofs.checks.in_order.Statement.{statement}
+use Rattle.domain.proofs.checks.in_order.Tie as tie
 
 returns : tie.Need-returns
 returns c = let a = c .before .args in order-low (a .latest) (a .kind) (omega arith)

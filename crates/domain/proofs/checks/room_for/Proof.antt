@@ -2,8 +2,8 @@ use Rattle.domain.proofs.CheckLaws.{room-law}
 use Rattle.bmap.specs.Accept.{room}
 use mathlib.Core.Path.{_≡_}
 use native.Mathlib.Omega.{arith}
-use Rattle.domain.proofs.check.room_for.Statement.{statement}
-use Rattle.domain.proofs.check.room_for.Tie as tie
+use Rattle.domain.proofs.checks.room_for.Statement.{statement}
+use Rattle.domain.proofs.checks.room_for.Tie as tie
 
 returns : tie.Need-returns
 unfolding room

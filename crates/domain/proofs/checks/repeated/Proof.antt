@@ -9,8 +9,8 @@ use mathlib.Core.Path.{_≡_, sym, _∙_}
 use mathlib.Core.Logic.{⊎-elim}
 use native.Mathlib.Omega.{arith}
 use Prim.Native.Nat.{_-_, _≤_}
-use Rattle.domain.proofs.check.repeated.Statement.{statement}
-use Rattle.domain.proofs.check.repeated.Tie as tie
+use Rattle.domain.proofs.checks.repeated.Statement.{statement}
+use Rattle.domain.proofs.checks.repeated.Tie as tie
 
 abbrev Inv-loop : tie.InvT-loop
 Inv-loop n names crews p name crew i₀ i = (n ≤ 64) × (any (alike (entryIn p)) (entriesOf n names crews) ≡ any (alike (entryIn p)) (map (entryOf names crews) (numbers i (n - i))))

@@ -1,0 +1,37 @@
+-- The paper's number and values of each answer.
+use Prim.Native.Nat.{ℕ}
+use Rattle.bmap.specs.Refusal.{Answer, got, refused, numberOf}
+use Rattle.bmap.specs.Judge.{Pass, pass, fault, accepted, broken} 
+use Rattle.bmap.specs.Judge as paper
+use Rattle.judge.specs.declared.verdict.Fault.{Fault}
+use Rattle.judge.specs.declared.verdict.Fault.the-variants.{Misplaced, Barred, Concurrency, Conflict, Range, Static, NoValue, Goal}
+use Rattle.judge.specs.declared.verdict.Verdict.{Verdict}
+use Rattle.judge.specs.declared.verdict.Verdict.the-variants.{Accepted, Broken}
+use Rattle.judge.specs.declared.verdict.Judgement.{Judgement}
+use Rattle.judge.specs.declared.verdict.Judgement.the-variants.{Refused, Judged}
+use Rattle.judge.specs.declared.verdict.Check.{Check}
+use Rattle.judge.specs.declared.verdict.Check.the-variants.{Passed, Failed}
+
+-- the paper's number of each fault's kind
+abbrev pub kindOf : Fault → ℕ
+kindOf Misplaced = 1
+kindOf Barred = 2
+kindOf Concurrency = 3
+kindOf Conflict = 4
+kindOf Range = 5
+kindOf Static = 6
+kindOf NoValue = 7
+kindOf Goal = 8
+
+-- "Accepted, or Broken with kind, step and number"
+abbrev pub verdictOf : Verdict → paper.Verdict
+verdictOf Accepted = accepted
+verdictOf (Broken fault step number) = broken (kindOf fault) step number
+
+abbrev pub answerOf : Judgement → Answer paper.Verdict
+answerOf (Refused r) = refused (numberOf r)
+answerOf (Judged v) = got (verdictOf v)
+
+abbrev pub passOf : Check → Pass
+passOf Passed = pass
+passOf (Failed f n) = fault (kindOf f) n

@@ -26,7 +26,7 @@ kindOf Goal = 8
 -- "Accepted, or Broken with kind, step and number"
 abbrev pub verdictOf : Verdict → paper.Verdict
 verdictOf Accepted = accepted
-verdictOf (Broken fault step number) = broken (kindOf fault) step number
+verdictOf (Broken f step n) = broken (kindOf f) step n
 
 abbrev pub answerOf : Judgement → Answer paper.Verdict
 answerOf (Refused r) = refused (numberOf r)

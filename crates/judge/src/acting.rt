@@ -61,7 +61,7 @@ fn all_name(names: &[u8], action: u8, crew: u16) -> bool
 }
 
 // The first n entries, from the last to the first, so that each takes the lowest bit.
-pub fn acting(names: &[u8], actions: &[u8], crews: &[u16], n: usize) -> Acting
+pub fn who_acts(names: &[u8], actions: &[u8], crews: &[u16], n: usize) -> Acting
     requires { ⌜ (length (now names) ≤ mostAgents) × ((n ≤ mostEntries) × ((n ≤ length (now actions)) × (n ≤ length (now crews)))) ⌝ }
     ensures { λ r. ⌜ r ≡ actingOf (now (names .entry)) (now (actions .entry)) (now (crews .entry)) n ⌝ }
 {

@@ -1,2 +1,4 @@
 pub mod LoopLaws
 pub mod MaskLaws
+pub mod ByteLaws
+pub mod MeaningLaws

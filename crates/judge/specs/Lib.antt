@@ -1,3 +1,4 @@
 -- What the judge's functions answer, and what their contracts cite beside document 01.
-pub mod Masks
 pub mod Answer
+pub mod Masks
+pub mod Told

@@ -1,4 +1,5 @@
 -- What the judge's functions answer, and what their contracts cite beside document 01.
 pub mod Answer
 pub mod Masks
+pub mod States
 pub mod Told

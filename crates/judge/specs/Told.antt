@@ -6,11 +6,12 @@ use mathlib.Core.List.{List}
 use mathlib.Core.Option.{some}
 use lib.IntN.{ℤ, pos}
 use lib.ListN.{length, getD, drop}
-use Rattle.bmap.specs.Plain.{if-else}
+use Rattle.bmap.specs.Plain.{any}
 use Rattle.bmap.specs.Limits.{mostFluents}
 use Rattle.bmap.specs.Tree.{Con, always}
 use Rattle.bmap.specs.Meaning.{History}
 use Rattle.bmap.specs.Domain.{Domain, Names, Law, executable, effect, must, Scope, static, concurrency, goal, entryAt, has, occursIn, readable}
+use Rattle.bmap.specs.Judge.{carries}
 use Rattle.bmap.specs.Payload.{lawIn, asks}
 use Rattle.bmap.specs.Accept.{countsOf}
 use Rattle.index.specs.Index.{frameBytes}
@@ -62,3 +63,7 @@ pub record Seen (asked : Bool) (d : Domain) (h : History) (levels : List ℤ) (o
 -- a mask has the entries that occur in a step
 abbrev pub Occurring : Domain → Names → ℕ → Type 0
 Occurring d names mask = (e : ℕ) → e < length (d .entries) → occursIn d names (entryAt d e) ≡ has mask e
+
+-- a mask has the agents who belong to an occurring entry with the action that they name
+abbrev pub Belonging : Domain → Names → ℕ → Type 0
+Belonging d names mask = (a : ℕ) → a < length names → any (carries d names a (getD names a 0)) (d .entries) ≡ has mask a

@@ -1,11 +1,8 @@
 // The judge: the six checks of a step in the paper's order, the run over the steps, the goals, and the states that were reached.
 // It reads a store through `index` (made by `domain`), laws through `law`; `session`, the program and the desk stand on it.
 mod acting;
-
-
-
-
-
+mod checks;
+mod states;
 mod verdict;
 
 pub use verdict::Fault;

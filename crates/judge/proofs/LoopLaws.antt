@@ -43,8 +43,11 @@ module _ {A Y : Type 0} (R : ℕ → List A → Y) (l : List A) (d : A) where
   pub starts : (n : ℕ) → n ≤ length l → Idle 0 n → R 0 l ≡ R n (drop n l)
   starts n h idle = idles 0 n (omega arith) h idle
 
-  pub rests : (i : ℕ) → i ≤ length l → Idle i (length l) → R i (drop i l) ≡ R (length l) []
-  rests i h idle = idles i (length l) h (omega arith) idle ∙ ends (length l) (omega arith)
+  pub rests : (i : ℕ) {y : Y} → ((k : ℕ) → R k [] ≡ y) → Idle i (length l) → R i (drop i l) ≡ y
+  rests i e idle = elim (decLt i (length l)) [
+    | yes h ↦ idles i (length l) (omega arith) (omega arith) idle ∙ (ends (length l) (omega arith) ∙ e (length l))
+    | no h ↦ ends i (omega arith) ∙ e i
+  ]
 
 -- ---- checks of a list in turn
 

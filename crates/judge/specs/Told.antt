@@ -6,7 +6,7 @@ use mathlib.Core.List.{List}
 use mathlib.Core.Option.{some}
 use lib.IntN.{ℤ, pos}
 use lib.ListN.{length, getD, drop}
-use Rattle.bmap.specs.Plain.{any}
+use Rattle.bmap.specs.Plain.{any, if-else}
 use Rattle.bmap.specs.Limits.{mostFluents}
 use Rattle.bmap.specs.Tree.{Con, always}
 use Rattle.bmap.specs.Meaning.{History}
@@ -36,6 +36,12 @@ scopeKind goal = 0xA9
 abbrev pub lawNumber : Domain → ℕ → Law
 lawNumber d i = getD (d .laws) i (must static always)
 
+-- where its constraint stands in a frame
+abbrev pub placeOf : Law → ℕ
+placeOf (executable e c) = 3
+placeOf (effect e c f x) = 3
+placeOf (must s c) = 2
+
 -- the bytes of a frame are this law
 unfoldable pub Says : Domain → List ℕ → Law → Type 0
 Says d frame l = lawIn (countsOf d) (getD frame 0 0) (drop 2 frame) ≡ some l
@@ -49,9 +55,20 @@ pub record Lawful (d : Domain) (store places : List ℕ) (n : ℕ) : Type 0 wher
   pub count : length (d .laws) ≡ n
   pub law : (i : ℕ) → i < n → Says d (frameOf store places i) (lawNumber d i)
 
+-- whose law it is, if its crew may read it: "a law that names a fluent known to nobody in the crew counts as false"
+abbrev pub ownerOf : Domain → Law → ℕ
+ownerOf d (executable e c) = if-else (readable d (entryAt d e) c) e 255
+ownerOf d (effect e c f x) = 255
+ownerOf d (must s c) = 255
+
+-- a table has the owner of each law
+abbrev pub Owned : Domain → List ℕ → Type 0
+Owned d owners = (i : ℕ) → i < length (d .laws) → getD owners i 0 ≡ ownerOf d (lawNumber d i)
+
 -- the laws of a kind lie from one number to another
-pub record Run (store places : List ℕ) (n kind from to : ℕ) : Type 0 where
-  pub whole : to ≤ n
+pub record Within (store places : List ℕ) (n kind from to : ℕ) : Type 0 where
+  pub starts : from ≤ n
+  pub ends : to ≤ n
   pub before : (i : ℕ) → i < from → getD (frameOf store places i) 0 0 ≡ kind → ⊥
   pub after : (i : ℕ) → to ≤ i → i < n → getD (frameOf store places i) 0 0 ≡ kind → ⊥
 

@@ -1,0 +1,90 @@
+// The laws of a store as the checks read them: always the frame that `index::law_at` hands out.
+ghost use mathlib.Core.Path.{_≡_};
+ghost use mathlib.Core.Bool.{true};
+ghost use Prim.Native.Nat.{ℕ, _≤_, _<_};
+ghost use lib.ListN.{getD};
+ghost use Rattle.bmap.specs.Domain.{Domain, Names, Law};
+ghost use Rattle.bmap.specs.Meaning.{History, evalC};
+ghost use Rattle.bmap.specs.Judge.{sets};
+ghost use Rattle.number.specs.Answer.{truthOf};
+ghost use Rattle.judge.specs.Told.{Says, Seen, Occurring, Within, frameOf, conOf, placeOf, asksOf};
+ghost use Rattle.judge.specs.Answer.{wantsOf};
+
+use crate::acting::has_entry;
+use index::law_at;
+use number::Truth;
+use number::Value;
+
+// The kinds of laws.
+pub const EXECUTABLE: u8 = 0xA5;
+pub const EFFECT: u8 = 0xA6;
+pub const STATIC: u8 = 0xA7;
+pub const CONCURRENCY: u8 = 0xA8;
+pub const GOAL: u8 = 0xA9;
+
+pub fn byte(s: &[u8], i: usize) -> u8
+    ensures { λ r. ⌜ r ≡ getD (now (s .entry)) i 0 ⌝ }
+{
+    if i < s.len() { s[i] } else { 0 }
+}
+
+// What the constraint of a law gives at position j. It stands after kind and count, and after the entry if there is one.
+pub fn constraint_of(frame: &[u8], at: usize, levels: &[i16], occurred: &[u64], j: usize) -> Truth
+    ensures { λ r. ⌜ ((d : Domain) (h : History) (l : Law) → Says d (now (frame .entry)) l → at ≡ placeOf l → Seen (asksOf l) d h (now (levels .entry)) (now (occurred .entry)) j → truthOf r ≡ evalC (conOf l) h j) ⌝ }
+{
+    Truth::NoTruth
+}
+
+// What a law wants set: a fluent and its new level.
+pub enum Wants {
+    Blank,
+    Leaves,
+    Sets(u8, i32),
+}
+
+// "each A6 law in order whose entry occurs: constraint, and if true, expression"
+pub fn wanted(frame: &[u8], entries: u64, levels: &[i16], occurred: &[u64], j: usize) -> Wants
+    ensures { λ r. ⌜ ((d : Domain) (h : History) (l : Law) (names : Names) → Says d (now (frame .entry)) l → Occurring d names entries → Seen true d h (now (levels .entry)) (now (occurred .entry)) j → wantsOf r ≡ sets d h j names l) ⌝ }
+{
+    Wants::Blank
+}
+
+// The kinds never decrease from law to law, so the laws of a kind stand together, in a run of law numbers.
+pub struct Run {
+    pub from: usize,
+    pub to: usize,
+}
+
+fn first_of(store: &[u8], laws: &[u16], n: usize, kind: u8) -> usize
+    ensures { λ r. ⌜ (r ≤ n) × ((i : ℕ) → i < r → getD (frameOf (now (store .entry)) (now (laws .entry)) i) 0 0 ≡ kind → ⊥) ⌝ }
+{
+    let mut i = 0;
+    while i < n {
+        if byte(law_at(store, laws, i), 0) == kind {
+            return i;
+        }
+        i += 1;
+    }
+    i
+}
+
+fn end_of(store: &[u8], laws: &[u16], n: usize, kind: u8) -> usize
+    ensures { λ r. ⌜ (r ≤ n) × ((i : ℕ) → r ≤ i → i < n → getD (frameOf (now (store .entry)) (now (laws .entry)) i) 0 0 ≡ kind → ⊥) ⌝ }
+{
+    let mut i = n;
+    while 0 < i {
+        if byte(law_at(store, laws, i - 1), 0) == kind {
+            return i;
+        }
+        i -= 1;
+    }
+    i
+}
+
+pub fn run_of(store: &[u8], laws: &[u16], n: usize, kind: u8) -> Run
+    ensures { λ r. ⌜ Within (now (store .entry)) (now (laws .entry)) n kind (r .from) (r .to) ⌝ }
+{
+    let from = first_of(store, laws, n, kind);
+    let to = end_of(store, laws, n, kind);
+    Run { from, to }
+}

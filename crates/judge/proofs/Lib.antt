@@ -5,3 +5,5 @@ pub mod MeaningLaws
 pub mod StateLaws
 pub mod CheckLaws
 pub mod SignedLaws
+pub mod SettingLaws
+pub mod LandingLaws

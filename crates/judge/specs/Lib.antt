@@ -2,4 +2,6 @@
 pub mod Answer
 pub mod Masks
 pub mod States
+pub mod Settings
+pub mod Landing
 pub mod Told

@@ -2,6 +2,8 @@
 // It reads a store through `index` (made by `domain`), laws through `law`; `session`, the program and the desk stand on it.
 mod acting;
 mod checks;
+mod effects;
+mod landing;
 mod reading;
 mod states;
 mod verdict;

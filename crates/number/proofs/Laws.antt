@@ -171,8 +171,8 @@ both-true false q h = absurd (subst T (sym h) tt)
 equal-as : (m n a b : ℕ) → (m ≡ n → a ≡ b) → (a ≡ b → m ≡ n) → eqb m n ≡ both (leb a b) (leb b a)
 equal-as m n a b f g =
     alike (eqb m n) (both (leb a b) (leb b a))
-        (λ h. let e : a ≡ b = f (eqb-true m n h) in rw (le-leb a b (omega arith), le-leb b a (omega arith)))
-        (λ h. let t = both-true (leb a b) (leb b a) h in eq-eqb m n (g (omega (arith, leb-true a b (t .0), leb-true b a (t .1)))))
+    (λ h. let e : a ≡ b = f (eqb-true m n h) in rw (le-leb a b (omega arith), le-leb b a (omega arith)))
+    (λ h. let t = both-true (leb a b) (leb b a) h in eq-eqb m n (g (omega (arith, leb-true a b (t .0), leb-true b a (t .1)))))
 
 equal-bits : (x y : ℤ) → SFits w32 x → SFits w32 y → eqb (ofZ w32 x) (ofZ w32 y) ≡ same x y
 equal-bits (pos a) (pos b) f g = equal-as a b a b (λ e. e) (λ e. e)
@@ -227,17 +227,14 @@ a-truth p = ap truthOf p
 -- ---- the bounds: two tests, and what passes both fits 32 bits
 
 -- a number between two bounds fits a width that holds both
-within : (w : Width) (lo hi : ℕ) (z : ℤ) → leZ (negsuc lo) z ≡ true → leZ z (pos hi) ≡ true → T (ltb lo (2 ^ hbits w)) → T (ltb hi (2 ^ hbits w)) → SFits w z
+pub within : (w : Width) (lo hi : ℕ) (z : ℤ) → leZ (negsuc lo) z ≡ true → leZ z (pos hi) ≡ true → T (ltb lo (2 ^ hbits w)) → T (ltb hi (2 ^ hbits w)) → SFits w z
 within w lo hi (pos n) p q s t = record { sfits = lt-of-le-of-lt (leb-true n hi q) (ltb→lt hi (2 ^ hbits w) t) }
 within w lo hi (negsuc n) p q s t = record { sfits = lt-of-le-of-lt (leb-true n lo p) (ltb→lt lo (2 ^ hbits w) s) }
 
 module _ {z : ℤ} (f : SFits w64 z) where
-  pub inside-fits : leZ (negsuc 999_999_999) (back w64 z) ≡ true → leZ (back w64 z) (pos 1_000_000_000) ≡ true → SFits w32 (back w64 z)
-  inside-fits p q = within w32 999_999_999 1_000_000_000 (back w64 z) p q tt tt
-
   pub inside : leZ (negsuc 999_999_999) (back w64 z) ≡ true → leZ (back w64 z) (pos 1_000_000_000) ≡ true → value (back w32 (back w64 z)) ≡ bounded z
   unfolding bounded
-  inside p q = rw (toZ-ofZ (inside-fits p q)) (rw (toZ-ofZ f) (simp (rw (toZ-ofZ f) at p, rw (toZ-ofZ f) at q)))
+  inside p q = rw (toZ-ofZ (within w32 999_999_999 1_000_000_000 (back w64 z) p q tt tt)) (rw (toZ-ofZ f) (simp (rw (toZ-ofZ f) at p, rw (toZ-ofZ f) at q)))
 
   pub under : leZ (negsuc 999_999_999) (back w64 z) ≡ false → no-value ≡ bounded z
   unfolding bounded
@@ -326,7 +323,7 @@ pub ruleset comparisons = (equal-is, unequal-is, less-is, at-most-is, greater-is
 
 pub ruleset parts = (one-part, two-parts, value-is, true-is-one, false-is-zero, a-number, a-truth)
 
-pub ruleset bounds = (inside-fits, inside, under, over)
+pub ruleset bounds = (within, inside, under, over)
 
 pub ruleset words = (missing-fits, word-above, word-below, plain-sign, plain-fits, plain-bits, flipped-fits, flipped-sign, flipped-size, flipped-most, flipped-bits, high-is, low-is)
 

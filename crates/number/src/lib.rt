@@ -8,7 +8,6 @@ ghost use Rattle.bmap.specs.declared.Operation.the-variants.{Sum, Difference, P
 ghost use Rattle.bmap.specs.declared.Single.the-variants.{Negation, Absolute};
 ghost use Rattle.bmap.specs.declared.Comparison.the-variants.{Equal, Unequal, Less, AtMost, Greater, AtLeast};
 ghost use Rattle.number.specs.Answer.{valuedOf, truthOf};
-
 use bmap::Comparison;
 use bmap::Junction;
 use bmap::Operation;
@@ -76,6 +75,7 @@ pub fn operate(op: Operation, a: Value, b: Value) -> Value
     }
 }
 
+// The operators by their names, for a caller that holds no code of the law language.
 pub fn sum(a: Value, b: Value) -> Value
     ensures { λ r. ⌜ valuedOf r ≡ with2 (operate Sum) (valuedOf a) (valuedOf b) ⌝ }
 {

@@ -72,7 +72,7 @@ not-entry k static p q = omega arith
 not-entry k concurrency p q = omega arith
 not-entry k goal p q = omega arith
 
-not-effect : (k : ℕ) (s : Scope) → k ≡ 0xA6 → k ≡ scopeKind s → ⊥
+pub not-effect : (k : ℕ) (s : Scope) → k ≡ 0xA6 → k ≡ scopeKind s → ⊥
 not-effect k static p q = omega arith
 not-effect k concurrency p q = omega arith
 not-effect k goal p q = omega arith

@@ -7,3 +7,4 @@ pub mod CheckLaws
 pub mod SignedLaws
 pub mod SettingLaws
 pub mod LandingLaws
+pub mod ReadingLaws

@@ -8,7 +8,8 @@ use native.Mathlib.Omega.{arith}
 use lib.Bits.{bitAnd, bitOr}
 use lib.Dec.{eqb}
 use lib.ListN.{length, getD}
-use lib.Pow.{pow-add, pow-mono, shr-shr}
+use lib.Arith.{lt-one}
+use lib.Pow.{pow-add, pow-mono, shr-shr, shr-lt}
 use borrow.Author.Tests.{eq-eqb, ne-eqb}
 use Rattle.bmap.specs.Plain.{either, both, implies, if-else, all, any, numbers}
 use Rattle.bmap.specs.Domain.{Names, Entry, has, follows}
@@ -25,6 +26,15 @@ module _ (names : Names) (action crew a : ℕ) {t : Bool} (i : t ≡ has crew a)
 
   pub follows-not : t ≡ true → (getD names a 0 ≡ action → ⊥) → follows names (record { name = action; crew = crew }) a ≡ false
   follows-not q s = rw (← i, q, ne-eqb (getD names a 0) action s)
+
+-- a number below 2 ^ 64 has no bit past 63
+pub no-bit : (mask i : ℕ) → mask < 2 ^ 64 → 64 ≤ i → false ≡ has mask i
+no-bit mask i h p =
+    let z : mask / 2 ^ i ≡ 0 = lt-one (shr-lt {n = mask} 0 i (lt-of-lt mask i h p)) in
+    sym (ap (λ (k : ℕ). eqb (k % 2) 1) z)
+  where
+    lt-of-lt : (mask i : ℕ) → mask < 2 ^ 64 → 64 ≤ i → mask < 2 ^ (0 + i)
+    lt-of-lt mask i h p = let y : 0 + i ≡ i = omega arith in rw y (omega (arith, pow-mono {i = 64} {j = i} p))
 
 -- ---- building a mask, from the last number to the first
 

@@ -8,6 +8,8 @@ ghost use Rattle.bmap.specs.Limits.{mostAgents, mostEntries};
 ghost use Rattle.bmap.specs.Domain.{has};
 ghost use Rattle.judge.specs.Masks.{flagOf, joins, actingOf};
 
+use bmap::Counts;
+
 pub struct Acting {
     pub entries: u64,
     pub agents: u16,
@@ -21,11 +23,11 @@ pub fn has_agent(mask: u16, a: usize) -> bool
     (mask >> a) % 2 == 1
 }
 
+// A mask has no bit past the last entry's.
 pub fn has_entry(mask: u64, i: usize) -> bool
-    requires { ⌜ i < mostEntries ⌝ }
     ensures { λ r. ⌜ r ≡ has mask i ⌝ }
 {
-    (mask >> i) % 2 == 1
+    if i < Counts::ENTRIES { (mask >> i) % 2 == 1 } else { false }
 }
 
 // The mask, moved up by one, with a new lowest bit.

@@ -67,7 +67,7 @@ module _ (d : Domain) (names : Names) (mask a : ℕ) where
 
 -- ---- 3, 6 and the goals: a law of a scope
 
-not-entry : (k : ℕ) (s : Scope) → k ≡ 0xA5 → k ≡ scopeKind s → ⊥
+pub not-entry : (k : ℕ) (s : Scope) → k ≡ 0xA5 → k ≡ scopeKind s → ⊥
 not-entry k static p q = omega arith
 not-entry k concurrency p q = omega arith
 not-entry k goal p q = omega arith

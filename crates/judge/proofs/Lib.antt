@@ -8,3 +8,4 @@ pub mod SignedLaws
 pub mod SettingLaws
 pub mod LandingLaws
 pub mod ReadingLaws
+pub mod KnowledgeLaws

@@ -10,7 +10,7 @@ use Rattle.bmap.specs.Plain.{any, if-else}
 use Rattle.bmap.specs.Limits.{mostFluents}
 use Rattle.bmap.specs.Tree.{Con, always}
 use Rattle.bmap.specs.Meaning.{History}
-use Rattle.bmap.specs.Domain.{Domain, Names, Law, executable, effect, must, Scope, static, concurrency, goal, entryAt, has, occursIn, readable}
+use Rattle.bmap.specs.Domain.{Domain, Names, Law, executable, effect, must, Scope, static, concurrency, goal, entryAt, has, occursIn, knows, readable}
 use Rattle.bmap.specs.Judge.{carries}
 use Rattle.bmap.specs.Payload.{lawIn, asks}
 use Rattle.bmap.specs.Accept.{countsOf}
@@ -64,6 +64,13 @@ ownerOf d (must s c) = 255
 -- a table has the owner of each law
 abbrev pub Owned : Domain → List ℕ → Type 0
 Owned d owners = (i : ℕ) → i < length (d .laws) → getD owners i 0 ≡ ownerOf d (lawNumber d i)
+
+-- a table has the agents who know each fluent, and a list the crew of each entry
+pub record Knowing (d : Domain) (table : List ℕ) (w : ℕ) (crews : List ℕ) (agents : ℕ) : Type 0 where
+  pub fluents : length (d .fluents) ≡ w
+  pub count : d .agents ≡ agents
+  pub knowers : (f a : ℕ) → f < w → has (getD table f 0) a ≡ knows d a f
+  pub crew : (e : ℕ) → e < length (d .entries) → entryAt d e .crew ≡ getD crews e 0
 
 -- the laws of a kind lie from one number to another
 pub record Within (store places : List ℕ) (n kind from to : ℕ) : Type 0 where

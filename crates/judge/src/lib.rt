@@ -3,6 +3,7 @@
 mod acting;
 mod checks;
 mod effects;
+mod knowledge;
 mod landing;
 mod reading;
 mod states;

@@ -9,3 +9,4 @@ pub mod SettingLaws
 pub mod LandingLaws
 pub mod ReadingLaws
 pub mod KnowledgeLaws
+pub mod StepLaws

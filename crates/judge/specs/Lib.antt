@@ -5,3 +5,4 @@ pub mod States
 pub mod Settings
 pub mod Landing
 pub mod Told
+pub mod Prepared

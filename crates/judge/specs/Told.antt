@@ -1,8 +1,8 @@
 -- What the judge's functions may take for granted of the bytes and numbers that they are lent: that they are a domain's.
-use Prim.Native.Nat.{ℕ, _+_, _*_, _≤_, _<_}
+use Prim.Native.Nat.{ℕ, _+_, _-_, _*_, _≤_, _<_}
 use mathlib.Core.Path.{_≡_}
 use mathlib.Core.Bool.{Bool, true}
-use mathlib.Core.List.{List}
+use mathlib.Core.List.{List, []}
 use mathlib.Core.Option.{some}
 use lib.IntN.{ℤ, pos}
 use lib.ListN.{length, getD, drop}
@@ -15,6 +15,7 @@ use Rattle.bmap.specs.Judge.{carries}
 use Rattle.bmap.specs.Payload.{lawIn, asks}
 use Rattle.bmap.specs.Accept.{countsOf}
 use Rattle.index.specs.Index.{frameBytes}
+use Rattle.judge.specs.declared.reading.Runs.{Runs}
 
 -- the parts that the laws of every kind have
 abbrev pub conOf : Law → Con
@@ -79,6 +80,13 @@ pub record Within (store places : List ℕ) (n kind from to : ℕ) : Type 0 wher
   pub before : (i : ℕ) → i < from → getD (frameOf store places i) 0 0 ≡ kind → ⊥
   pub after : (i : ℕ) → to ≤ i → i < n → getD (frameOf store places i) 0 0 ≡ kind → ⊥
 
+pub record Ordered (store places : List ℕ) (n : ℕ) (runs : Runs) : Type 0 where
+  pub executable : Within store places n 0xA5 (runs .executable .from) (runs .executable .to)
+  pub effect : Within store places n 0xA6 (runs .effect .from) (runs .effect .to)
+  pub fixed : Within store places n 0xA7 (runs .fixed .from) (runs .fixed .to)
+  pub concurrency : Within store places n 0xA8 (runs .concurrency .from) (runs .concurrency .to)
+  pub goal : Within store places n 0xA9 (runs .goal .from) (runs .goal .to)
+
 -- the levels of the states 0 to j are those of a history, and the masks of the steps 1 to j + 1 its occurrences, if they are asked
 pub record Seen (asked : Bool) (d : Domain) (h : History) (levels : List ℤ) (occurred : List ℕ) (j : ℕ) : Type 0 where
   pub level : (k f : ℕ) → k ≤ j → f < length (d .fluents) → h .level k f ≡ getD levels (mostFluents * k + f) (pos 0)
@@ -91,3 +99,7 @@ Occurring d names mask = (e : ℕ) → e < length (d .entries) → occursIn d na
 -- a mask has the agents who belong to an occurring entry with the action that they name
 abbrev pub Belonging : Domain → Names → ℕ → Type 0
 Belonging d names mask = (a : ℕ) → a < length names → any (carries d names a (getD names a 0)) (d .entries) ≡ has mask a
+
+-- masks of the steps 1 to m of a sheet
+abbrev pub Acted : Domain → List Names → List ℕ → ℕ → Type 0
+Acted d sheet occurred m = (k e : ℕ) → 1 ≤ k → k ≤ m → e < length (d .entries) → occursIn d (getD sheet (k - 1) []) (entryAt d e) ≡ has (getD occurred k 0) e

@@ -7,6 +7,7 @@ mod knowledge;
 mod landing;
 mod reading;
 mod states;
+mod steps;
 mod verdict;
 
 pub use verdict::Fault;

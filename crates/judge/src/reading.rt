@@ -10,7 +10,7 @@ ghost use Rattle.bmap.specs.Limits.{mostDepth};
 ghost use Rattle.law.specs.Evaluate.{valueAt};
 ghost use Rattle.number.specs.Answer.{truthOf};
 ghost use Rattle.judge.specs.Settings.{settingFrom};
-ghost use Rattle.judge.specs.Told.{Says, Seen, Occurring, Within, frameOf, conOf, placeOf, asksOf};
+ghost use Rattle.judge.specs.Told.{Says, Seen, Occurring, Within, Ordered, frameOf, conOf, placeOf, asksOf};
 ghost use Rattle.judge.specs.Answer.{wantsOf};
 
 use crate::acting::has_entry;
@@ -127,4 +127,30 @@ pub fn run_of(store: &[u8], laws: &[u16], n: usize, kind: u8) -> Run
     let from = first_of(store, laws, n, kind);
     let to = end_of(store, laws, n, kind);
     Run { from, to }
+}
+
+// Where the laws of each kind stand.
+pub struct Runs {
+    pub executable: Run,
+    pub effect: Run,
+    pub fixed: Run,
+    pub concurrency: Run,
+    pub goal: Run,
+}
+
+pub fn all_runs(store: &[u8], laws: &[u16], n: usize) -> Runs
+    ensures { λ r. ⌜ Ordered (now (store .entry)) (now (laws .entry)) n r ⌝ }
+{
+    let executable = run_of(store, laws, n, EXECUTABLE);
+    let effect = run_of(store, laws, n, EFFECT);
+    let fixed = run_of(store, laws, n, STATIC);
+    let concurrency = run_of(store, laws, n, CONCURRENCY);
+    let goal = run_of(store, laws, n, GOAL);
+    Runs {
+        executable,
+        effect,
+        fixed,
+        concurrency,
+        goal,
+    }
 }

@@ -1,0 +1,81 @@
+// A step, the run over all steps, the goals.
+ghost use mathlib.Core.Path.{_≡_};
+ghost use mathlib.Core.List.{List};
+ghost use Prim.Native.Nat.{ℕ, _+_, _-_, _*_, _≤_, _<_};
+ghost use lib.ListN.{length};
+ghost use Rattle.bmap.specs.Limits.{mostAgents, mostFluents, mostEntries, mostLaws, mostSteps, levelsSize};
+ghost use Rattle.bmap.specs.Domain.{Domain, Names};
+ghost use Rattle.bmap.specs.Sheet.{rows};
+ghost use Rattle.bmap.specs.Judge.{step, carried, judge, startOf};
+ghost use Rattle.judge.specs.States.{stateAt, statesOf, leaving, Kept};
+ghost use Rattle.judge.specs.Told.{Belonging, Occurring, Acted};
+ghost use Rattle.judge.specs.Prepared.{Prepared, Entered, landed, judgedOf};
+
+use crate::acting::Acting;
+use crate::acting::who_acts;
+use crate::checks::check_agents;
+use crate::checks::check_entries;
+use crate::checks::check_laws;
+use crate::effects::Settled;
+use crate::effects::settle;
+use crate::landing::new_levels;
+use crate::landing::put_state;
+use crate::reading::CONCURRENCY;
+use crate::reading::GOAL;
+use crate::reading::Runs;
+use crate::reading::STATIC;
+use crate::verdict::Check;
+use crate::verdict::Fault;
+use crate::verdict::Verdict;
+use bmap::Counts;
+
+// Checks 4 to 6: what the effect laws set, the new state as state j + 1, the static laws on it.
+fn land(store: &[u8], laws: &[u16], runs: Runs, lowest: &[i16], highest: &[i16], w: usize, entries: u64, occurred: &[u64], levels: &mut [i16], j: usize) -> Check
+    requires { ⌜ ((j < mostSteps) × (runs .effect .to ≤ mostLaws)) × ((w ≤ mostFluents) × (((w ≤ length (now lowest)) × (w ≤ length (now highest))) × (length (now levels) ≡ levelsSize))) ⌝ }
+    ensures { λ r. ⌜ Kept j (now (levels .entry)) (now (levels .exit)) × ((d : Domain) (owners : List ℕ) (n count : ℕ) (sheet : List Names) (names : Names)
+        → Prepared d (now (store .entry)) (now (laws .entry)) owners n runs (now (lowest .entry)) (now (highest .entry)) w count → Occurring d names entries → Acted d sheet (now (occurred .entry)) (j + 1)
+        → leaving r (stateAt w (now (levels .exit)) (j + 1)) ≡ landed d sheet (statesOf w (j + 1) (now (levels .entry))) j names) ⌝ }
+{
+    let mut fluents = [0u8; Counts::LAWS];
+    let mut values = [0i32; Counts::LAWS];
+    let effect = runs.effect;
+    match settle(store, laws, effect.from, effect.to, entries, levels, occurred, j, &mut fluents, &mut values) {
+        Settled::Clash(fault, n) => Check::Failed(fault, n),
+        Settled::Count(m) => {
+            let new = new_levels(levels, j, w, &fluents, &values, m);
+            if let Check::Failed(fault, n) = put_state(lowest, highest, w, &new, levels, j) {
+                return Check::Failed(fault, n);
+            }
+            let fixed = runs.fixed;
+            check_laws(store, laws, fixed.from, fixed.to, STATIC, Fault::Static, levels, occurred, j + 1)
+        }
+    }
+}
+
+// The step from state j: "First fault wins."
+fn take_step(store: &[u8], laws: &[u16], owners: &[u8], runs: Runs, lowest: &[i16], highest: &[i16], w: usize, count: usize, names: &[u8], acting: Acting, occurred: &[u64], levels: &mut [i16], j: usize) -> Check
+    requires { ⌜ ((j < mostSteps) × (runs .effect .to ≤ mostLaws)) × (((length (now names) ≤ mostAgents) × (count ≤ mostEntries)) × ((w ≤ mostFluents) × (((w ≤ length (now lowest)) × (w ≤ length (now highest))) × (length (now levels) ≡ levelsSize)))) ⌝ }
+    ensures { λ r. ⌜ Kept j (now (levels .entry)) (now (levels .exit)) × ((d : Domain) (n : ℕ) (sheet : List Names)
+        → Prepared d (now (store .entry)) (now (laws .entry)) (now (owners .entry)) n runs (now (lowest .entry)) (now (highest .entry)) w count
+        → Occurring d (now (names .entry)) (acting .entries) → Belonging d (now (names .entry)) (acting .agents) → Acted d sheet (now (occurred .entry)) (j + 1)
+        → leaving r (stateAt w (now (levels .exit)) (j + 1)) ≡ step d sheet (statesOf w (j + 1) (now (levels .entry))) j (now (names .entry))) ⌝ }
+{
+    if let Check::Failed(fault, n) = check_agents(names, acting.agents) {
+        return Check::Failed(fault, n);
+    }
+    let own = runs.executable;
+    if let Check::Failed(fault, n) = check_entries(store, laws, owners, own.from, own.to, acting.entries, count, levels, occurred, j) {
+        return Check::Failed(fault, n);
+    }
+    let together = runs.concurrency;
+    if let Check::Failed(fault, n) = check_laws(store, laws, together.from, together.to, CONCURRENCY, Fault::Concurrency, levels, occurred, j) {
+        return Check::Failed(fault, n);
+    }
+    land(store, laws, runs, lowest, highest, w, acting.entries, occurred, levels, j)
+}
+
+// A verdict, and how many states were reached.
+pub struct Ran {
+    pub verdict: Verdict,
+    pub reached: usize,
+}

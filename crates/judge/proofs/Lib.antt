@@ -10,3 +10,4 @@ pub mod LandingLaws
 pub mod ReadingLaws
 pub mod KnowledgeLaws
 pub mod StepLaws
+pub mod RunLaws

@@ -110,3 +110,22 @@ module _ {A : Type 0} (g : ℕ → A) where
 
   pub map-at : (n k : ℕ) (d : A) → k < n → getD (map g (numbers 0 n)) k d ≡ g k
   map-at n k d h = map-from 0 n k d h ∙ ap g (omega arith)
+
+-- what holds of all holds of each
+all-from : (p : ℕ → Bool) (i n k : ℕ) → i ≤ k → k < i + n → all p (numbers i n) ≡ true → p k ≡ true
+unfolding all numbers
+all-from p i zero k h q e = absurd (omega arith)
+all-from p i (suc n) k h q e = elim (decLt i k) [
+  | yes r ↦ all-from p (suc i) n k (omega arith) (omega arith) (second (p i) (all p (numbers (suc i) n)) e)
+  | no r ↦ let z : k ≡ i = omega arith in ap p z ∙ first (p i) (all p (numbers (suc i) n)) e
+]
+  where
+    first : (s t : Bool) → both s t ≡ true → s ≡ true
+    first true t e = refl
+    first false t e = e
+    second : (s t : Bool) → both s t ≡ true → t ≡ true
+    second true t e = e
+    second false t e = let z : _≡_ {A = ℕ} 0 1 = cc in absurd (omega arith)
+
+pub all-at : (p : ℕ → Bool) (n k : ℕ) → k < n → all p (numbers 0 n) ≡ true → p k ≡ true
+all-at p n k h e = all-from p 0 n k (omega arith) (omega arith) e

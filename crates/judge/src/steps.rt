@@ -79,3 +79,36 @@ pub struct Ran {
     pub verdict: Verdict,
     pub reached: usize,
 }
+
+// The steps in turn, from state 0 of the history; the masks of those that were taken are kept for code 29.
+fn run_steps(store: &[u8], laws: &[u16], owners: &[u8], runs: Runs, lowest: &[i16], highest: &[i16], w: usize, actions: &[u8], crews: &[u16], count: usize, agents: usize, sheet: &[u8], n: usize, levels: &mut [i16], occurred: &mut [u64]) -> Ran
+    requires { ⌜ ((n ≤ mostSteps) × ((runs .effect .to ≤ mostLaws) × (length (now sheet) ≡ n * agents))) × (((agents ≤ mostAgents) × ((count ≤ mostEntries) × ((count ≤ length (now actions)) × (count ≤ length (now crews)))))
+        × ((w ≤ mostFluents) × (((w ≤ length (now lowest)) × (w ≤ length (now highest))) × ((length (now levels) ≡ levelsSize) × (length (now occurred) ≡ mostSteps + 1))))) ⌝ }
+    ensures { λ r. ⌜ ((r .reached ≤ n + 1) × (length (now (levels .exit)) ≡ levelsSize)) × ((d : Domain) (l : ℕ)
+        → Prepared d (now (store .entry)) (now (laws .entry)) (now (owners .entry)) l runs (now (lowest .entry)) (now (highest .entry)) w count → Entered d (now (actions .entry)) (now (crews .entry)) count → d .agents ≡ agents
+        → judgedOf w r (now (levels .exit)) ≡ carried d (rows agents n (now (sheet .entry))) 0 (statesOf w 1 (now (levels .entry))) (rows agents n (now (sheet .entry)))) ⌝ }
+{
+    let mut rest = sheet;
+    let mut j = 0;
+    while j < n {
+        let names = &rest[..agents];
+        let acting = who_acts(names, actions, crews, count);
+        occurred[j + 1] = acting.entries;
+        if let Check::Failed(fault, number) = take_step(store, laws, owners, runs, lowest, highest, w, count, names, acting, occurred, levels, j) {
+            return Ran {
+                verdict: Verdict::Broken {
+                    fault,
+                    step: j + 1,
+                    number,
+                },
+                reached: j + 1,
+            };
+        }
+        rest = &rest[agents..];
+        j += 1;
+    }
+    Ran {
+        verdict: Verdict::Accepted,
+        reached: n + 1,
+    }
+}

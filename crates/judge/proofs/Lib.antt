@@ -11,3 +11,4 @@ pub mod ReadingLaws
 pub mod KnowledgeLaws
 pub mod StepLaws
 pub mod RunLaws
+pub mod JudgeLaws

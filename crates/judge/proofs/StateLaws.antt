@@ -77,7 +77,7 @@ states-one w h e = ap (λ (s : State). s ∷ []) e
 
 -- ---- a row that is filled, a level at a time
 
-map-snoc : {A : Type 0} (g : ℕ → A) (i n : ℕ) → map g (numbers i (suc n)) ≡ map g (numbers i n) ++ (g (i + n) ∷ [])
+pub map-snoc : {A : Type 0} (g : ℕ → A) (i n : ℕ) → map g (numbers i (suc n)) ≡ map g (numbers i n) ++ (g (i + n) ∷ [])
 unfolding numbers
 map-snoc g i zero = ap (λ (k : ℕ). g k ∷ []) (omega arith)
 map-snoc {A} g i (suc n) = ap (λ (t : List A). g i ∷ t) (map-snoc g (suc i) n ∙ ap (λ (k : ℕ). map g (numbers (suc i) n) ++ (g k ∷ [])) (omega arith))

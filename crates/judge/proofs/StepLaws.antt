@@ -31,6 +31,9 @@ module _ (d : Domain) (sheet : List Names) (w : ℕ) (levels : List ℤ) (occurr
   pub seen-states : Seen false d (history d sheet (statesOf w (j + 1) levels)) levels occurred j
   seen-states = record { level = seen-level; acted = λ e. absurd (let z : _≡_ {A = ℕ} 0 1 = cc in omega arith) }
 
+  pub seen-at : {states : List State} → statesOf w (j + 1) levels ≡ states → Seen false d (history d sheet states) levels occurred j
+  seen-at e = subst (λ (s : List State). Seen false d (history d sheet s) levels occurred j) e seen-states
+
   pub seen-all : Acted d sheet occurred (j + 1) → Seen true d (history d sheet (statesOf w (j + 1) levels)) levels occurred j
   unfolding history
   seen-all acted = record { level = seen-level; acted = λ e. acted }

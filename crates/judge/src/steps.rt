@@ -2,11 +2,12 @@
 ghost use mathlib.Core.Path.{_≡_};
 ghost use mathlib.Core.List.{List};
 ghost use Prim.Native.Nat.{ℕ, _+_, _-_, _*_, _≤_, _<_};
-ghost use lib.ListN.{length};
+ghost use lib.ListN.{length, take};
 ghost use Rattle.bmap.specs.Limits.{mostAgents, mostFluents, mostEntries, mostLaws, mostSteps, levelsSize};
 ghost use Rattle.bmap.specs.Domain.{Domain, Names};
 ghost use Rattle.bmap.specs.Sheet.{rows};
-ghost use Rattle.bmap.specs.Judge.{step, carried, judge, startOf};
+ghost use Rattle.bmap.specs.Judge.{step, carried, judge, startOf, accepted};
+ghost use Rattle.judge.specs.Answer.{verdictOf};
 ghost use Rattle.judge.specs.States.{stateAt, statesOf, leaving, Kept};
 ghost use Rattle.judge.specs.Told.{Belonging, Occurring, Acted};
 ghost use Rattle.judge.specs.Prepared.{Prepared, Entered, landed, judgedOf};
@@ -27,7 +28,9 @@ use crate::reading::STATIC;
 use crate::verdict::Check;
 use crate::verdict::Fault;
 use crate::verdict::Verdict;
+use crate::states::copy_levels;
 use bmap::Counts;
+use bmap::Sheet;
 
 // Checks 4 to 6: what the effect laws set, the new state as state j + 1, the static laws on it.
 fn land(store: &[u8], laws: &[u16], runs: Runs, lowest: &[i16], highest: &[i16], w: usize, entries: u64, occurred: &[u64], levels: &mut [i16], j: usize) -> Check
@@ -84,7 +87,7 @@ pub struct Ran {
 fn run_steps(store: &[u8], laws: &[u16], owners: &[u8], runs: Runs, lowest: &[i16], highest: &[i16], w: usize, actions: &[u8], crews: &[u16], count: usize, agents: usize, sheet: &[u8], n: usize, levels: &mut [i16], occurred: &mut [u64]) -> Ran
     requires { ⌜ ((n ≤ mostSteps) × ((runs .effect .to ≤ mostLaws) × (length (now sheet) ≡ n * agents))) × (((agents ≤ mostAgents) × ((count ≤ mostEntries) × ((count ≤ length (now actions)) × (count ≤ length (now crews)))))
         × ((w ≤ mostFluents) × (((w ≤ length (now lowest)) × (w ≤ length (now highest))) × ((length (now levels) ≡ levelsSize) × (length (now occurred) ≡ mostSteps + 1))))) ⌝ }
-    ensures { λ r. ⌜ ((r .reached ≤ n + 1) × (length (now (levels .exit)) ≡ levelsSize)) × ((d : Domain) (l : ℕ)
+    ensures { λ r. ⌜ ((r .reached ≤ n + 1) × ((verdictOf (r .verdict) ≡ accepted → r .reached ≡ n + 1) × (length (now (levels .exit)) ≡ levelsSize))) × ((d : Domain) (l : ℕ)
         → Prepared d (now (store .entry)) (now (laws .entry)) (now (owners .entry)) l runs (now (lowest .entry)) (now (highest .entry)) w count → Entered d (now (actions .entry)) (now (crews .entry)) count → d .agents ≡ agents
         → judgedOf w r (now (levels .exit)) ≡ carried d (rows agents n (now (sheet .entry))) 0 (statesOf w 1 (now (levels .entry))) (rows agents n (now (sheet .entry)))) ⌝ }
 {
@@ -111,4 +114,44 @@ fn run_steps(store: &[u8], laws: &[u16], owners: &[u8], runs: Runs, lowest: &[i1
         verdict: Verdict::Accepted,
         reached: n + 1,
     }
+}
+
+// The static laws on state 0, the steps, the goals after the last.
+pub fn run_sheet(store: &[u8], laws: &[u16], owners: &[u8], runs: Runs, start: &[i16], lowest: &[i16], highest: &[i16], w: usize, actions: &[u8], crews: &[u16], count: usize, agents: usize, sheet: &[u8], n: usize, levels: &mut [i16]) -> Ran
+    requires { ⌜ ((n ≤ mostSteps) × ((runs .effect .to ≤ mostLaws) × (length (now sheet) ≡ n * agents))) × (((agents ≤ mostAgents) × ((count ≤ mostEntries) × ((count ≤ length (now actions)) × (count ≤ length (now crews)))))
+        × ((w ≤ mostFluents) × (((w ≤ length (now lowest)) × (w ≤ length (now highest))) × ((w ≤ length (now start)) × (length (now levels) ≡ levelsSize))))) ⌝ }
+    ensures { λ r. ⌜ ((r .reached ≤ mostSteps + 1) × (length (now (levels .exit)) ≡ levelsSize)) × ((d : Domain) (l : ℕ)
+        → Prepared d (now (store .entry)) (now (laws .entry)) (now (owners .entry)) l runs (now (lowest .entry)) (now (highest .entry)) w count → Entered d (now (actions .entry)) (now (crews .entry)) count → d .agents ≡ agents
+        → startOf d ≡ take w (now (start .entry)) → judgedOf w r (now (levels .exit)) ≡ judge d (rows agents n (now (sheet .entry)))) ⌝ }
+{
+    let mut occurred = [0u64; Sheet::STEPS + 1];
+    copy_levels(start, 0, w, levels, 0);
+    let fixed = runs.fixed;
+    if let Check::Failed(fault, number) = check_laws(store, laws, fixed.from, fixed.to, STATIC, Fault::Static, levels, &occurred, 0) {
+        return Ran {
+            verdict: Verdict::Broken {
+                fault,
+                step: 0,
+                number,
+            },
+            reached: 0,
+        };
+    }
+    let ran = run_steps(store, laws, owners, runs, lowest, highest, w, actions, crews, count, agents, sheet, n, levels, &mut occurred);
+    let verdict = ran.verdict;
+    let Verdict::Accepted = verdict else {
+        return ran;
+    };
+    let goal = runs.goal;
+    if let Check::Failed(fault, number) = check_laws(store, laws, goal.from, goal.to, GOAL, Fault::Goal, levels, &occurred, n) {
+        return Ran {
+            verdict: Verdict::Broken {
+                fault,
+                step: n,
+                number,
+            },
+            reached: n + 1,
+        };
+    }
+    ran
 }

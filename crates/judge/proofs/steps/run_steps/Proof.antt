@@ -76,7 +76,7 @@ same-length-2 c = simp length-set (c .before .before .before .before .before .be
 
 returns : tie.Need-returns Inv-loop μ-loop
 returns c = let s = c .before .before .before .before .before .before .before .before .before .before .before .before .before .before .before .before .before .before .args in let j = c .before .before .before .before .before .before .before .before .before .before .loop .j in let rest = c .before .before .before .before .before .before .before .before .before .before .loop .rest .now in let levels = c .before .before .before .before .take-step .last .1 .1 .1 .1 .1 .1 .1 .1 .1 .1 .1 .0 in
-    ((omega (arith, c .before .before .before .before .before .before .before .before .before .loop-test .taken), c .before .before .before .before .take-step .ensures .0 .long), λ d l p entered agents.
+    ((omega (arith, c .before .before .before .before .before .before .before .before .before .loop-test .taken), (λ e. absurd (let z : _≡_ {A = ℕ} 0 1 = cc in omega arith), c .before .before .before .before .take-step .ensures .0 .long)), λ d l p entered agents.
     let sheet = rows (s .agents) (s .n) (s .sheet .now) in let names = take (s .agents) rest in let going = c .before .before .before .before .before .before .before .before .before .before .loop .inv .1 .1 d l p entered agents in
     let there = row-there (s .agents) (s .n) j rest (c .before .before .before .before .before .before .before .before .before .loop-test .taken) (c .before .before .before .before .before .before .before .before .before .before .loop .inv .0 .1) in
     let long = length-take-le (s .agents) rest there ∙ sym agents in
@@ -130,7 +130,7 @@ same-length-4 : tie.Need-same-length-4 Inv-loop μ-loop
 same-length-4 c = search needs
 
 returns-2 : tie.Need-returns-2 Inv-loop μ-loop
-returns-2 c = let s = c .before .before .before .before .before .before .before .before .before .args in let z : c .before .loop .j ≡ s .n = omega arith in ((search needs, c .before .loop .inv .1 .0 .0), λ d l p entered agents.
+returns-2 c = let s = c .before .before .before .before .before .before .before .before .before .args in let z : c .before .loop .j ≡ s .n = omega arith in ((search needs, (λ e. refl, c .before .loop .inv .1 .0 .0)), λ d l p entered agents.
     let going = c .before .loop .inv .1 .1 d l p entered agents in
     sym (going .1 .1 ∙ (carried-end (s .agents) d (rows (s .agents) (s .n) (s .sheet .now)) (s .n) (c .before .loop .j) (statesOf (s .w) (c .before .loop .j + 1) (c .before .loop .levels)) (c .before .loop .rest .now) (c .loop-test .left)
       ∙ ap (λ (k : ℕ). record { states = statesOf (s .w) (k + 1) (c .before .loop .levels); verdict = accepted }) z)))

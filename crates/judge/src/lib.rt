@@ -3,6 +3,7 @@
 mod acting;
 mod checks;
 mod effects;
+mod judgement;
 mod knowledge;
 mod landing;
 mod reading;

@@ -12,3 +12,5 @@ pub mod KnowledgeLaws
 pub mod StepLaws
 pub mod RunLaws
 pub mod JudgeLaws
+pub mod IndexLaws
+pub mod CallLaws

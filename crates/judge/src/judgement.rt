@@ -45,3 +45,39 @@ fn judge_steps(store: &[u8], index: Index, sheet: &[u8], n: usize, levels: &mut 
     let names = index.names;
     run_sheet(store, &laws, &owners, runs, &start, &lowest, &highest, counts.fluents, &names, &crews, counts.entries, counts.agents, sheet, n, levels)
 }
+
+// By an index: "8, 9", then the states go to the caller's buffer once.
+fn judge_by(store: &[u8], index: Index, sheet: &[u8], levels: &mut [i16]) -> Judgement
+    requires { ⌜ Sound (now store) index × (levelsSize ≤ length (now levels)) ⌝ }
+    ensures { λ r. ⌜ record { answer = answerOf r; levels = now (levels .exit) }
+        ≡ judgement (now (levels .entry)) (then (sheetOf (index .counts .agents) (now (sheet .entry))) (λ steps. got (judge (domainOf (now (store .entry)) index) steps))) ⌝ }
+{
+    let agents = index.counts.agents;
+    if sheet.len() % agents != 0 {
+        return Judgement::Refused(Refusal::NotWhole);
+    }
+    let n = sheet.len() / agents;
+    if Sheet::STEPS < n {
+        return Judgement::Refused(Refusal::TooLong);
+    }
+    let mut history = [0i16; LEVELS];
+    let ran = judge_steps(store, index, sheet, n, &mut history);
+    copy_states(&history, ran.reached, index.counts.fluents, levels);
+    let verdict = ran.verdict;
+    Judgement::Judged(verdict)
+}
+
+// "Judge: 10, 15, 8, 9": the verdict, and the states reached in the levels buffer; a refusal touches nothing.
+pub fn judge(store: &[u8], sheet: &[u8], levels: &mut [i16]) -> Judgement
+    ensures { λ r. ⌜ record { answer = answerOf r; levels = now (levels .exit) } ≡ judgeSheet (now (store .entry)) (now (sheet .entry)) (now (levels .entry)) ⌝ }
+{
+    if levels.len() < LEVELS {
+        return Judgement::Refused(Refusal::NoRoom);
+    }
+    let found = index_of(store);
+    if !found.ok {
+        return Judgement::Refused(Refusal::NotDomain);
+    }
+    let index = found.index;
+    judge_by(store, index, sheet, levels)
+}

@@ -11,6 +11,7 @@ mod states;
 mod steps;
 mod verdict;
 
+pub use judgement::judge;
 pub use verdict::Fault;
 pub use verdict::Judgement;
 pub use verdict::Verdict;

@@ -10,6 +10,8 @@ use lib.ListN.{length, getD, take, drop, set}
 use lib.ListN as list
 use borrow.Author.Needs.{length-unmapped}
 use Rattle.index.specs.declared.Index.{Index}
+use Rattle.index.specs.Index.{domainOf}
+use Rattle.judge.proofs.IndexLaws.{index-lawful, index-ranged, index-entered, index-entries, index-agents, index-started, index-knowing}
 use Rattle.judge.proofs.judgement.judge_steps.Statement.{statement}
 use Rattle.judge.proofs.judgement.judge_steps.Tie as tie
 
@@ -89,7 +91,14 @@ same-length : tie.Need-same-length
 same-length c = search needs
 
 returns : tie.Need-returns
-returns c = ?
+returns c = let s = c .before .before .before .before .before .before .before .before .before .before .before .before .before .before .before .before .before .before .before .before .before .before .before .before .before .before .before .before .before .before .args in let x = s .index in let d = domainOf (s .store .now) x in (c .before .run-sheet .ensures .0,
+    c .before .run-sheet .ensures .1 d (x .counts .laws) (record {
+      lawful = index-lawful (s .store .now) x (c .before .before .before .before .before .before .before .before .before .before .before .before .before .before .before .before .before .before .before .before .before .before .before .before .before .before .before .before .before .before .pre .0);
+      owned = c .before .before .before .before .before .before .before .before .before .before .before .before .before .before .before .before .all-owners .ensures .1 d (index-lawful (s .store .now) x (c .before .before .before .before .before .before .before .before .before .before .before .before .before .before .before .before .before .before .before .before .before .before .before .before .before .before .before .before .before .before .pre .0)) (index-knowing (s .store .now) x (c .before .before .before .before .before .before .before .before .before .before .before .before .before .before .before .before .before .before .before .before .all-knowers .result) (c .before .before .before .before .before .before .before .before .before .before .before .before .before .before .before .before .before .before .before .before .all-knowers .ensures .1));
+      ordered = c .before .before .before .before .before .before .before .before .before .before .before .before .before .before .all-runs .ensures;
+      ranged = index-ranged (s .store .now) x;
+      entries = index-entries (s .store .now) x;
+    }) (index-entered (s .store .now) x) (index-agents (s .store .now) x) (index-started (s .store .now) x (omega (arith, c .before .before .before .before .before .before .before .before .before .before .before .before .before .before .before .before .before .before .before .before .before .before .before .before .before .before .before .before .before .before .pre .0 .fluents, long (c .before .before .before .before .before .before .before .before .before .before .before .before .before .before .before .before .before .before .before .before .before .before .before .before .before .before .before .before .before .before) .start))))
 
 pub judge-steps-spec : {M : Type 1} → statement M
 judge-steps-spec =

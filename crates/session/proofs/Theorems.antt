@@ -26,7 +26,7 @@ use Rattle.bmap.specs.declared.session.Session.{Session}
 use Rattle.session.specs.declared.Outcome.{Outcome}
 use Rattle.session.specs.declared.Outcome.the-variants.{Done, Refused}
 use Rattle.session.specs.declared.Change.{Change}
-use Rattle.session.specs.Calls.{answerOf, changedOf}
+use Rattle.session.specs.Calls.{answerOf, changedOf, leaves}
 use Rattle.session.specs.Series.{Called, calledBy, called, sessionAfter, repliesOf}
 use Rattle.session.proofs.SheetLaws.{need-got, got-inj, one-more, prefix-got}
 use Rattle.session.proofs.OpenLaws.{every}
@@ -270,3 +270,7 @@ same-change a b h =
     let o : a .outcome ≡ b .outcome = same-outcome (a .outcome) (b .outcome) (ap (λ (x : Changed). x .answer) h) in
     let s : a .session ≡ b .session = ap (λ (x : Changed). x .session) h in
     λ i. record { outcome = o i; session = s i }
+
+-- and the session that a call was lent has one value after it
+pub same-left : (a b : Outcome) (s t : Session) → leaves a s ≡ leaves b t → (a ≡ b) × (s ≡ t)
+same-left a b s t h = (same-outcome a b (ap (λ (x : Changed). x .answer) h), ap (λ (x : Changed). x .session) h)

@@ -11,6 +11,15 @@ ghost use Rattle.bmap.specs.Buffer.{padded};
 ghost use Rattle.bmap.specs.Session.{editSize};
 ghost use Rattle.session.specs.Log.{laid, placeOf, namesEnd, targetOf, Reached, RunTo};
 
+// An entry's first byte, and where its names begin, after its step's number.
+pub(crate) const ENTER: u8 = 1;
+
+pub(crate) const STRIKE: u8 = 2;
+
+pub(crate) const AMEND: u8 = 3;
+
+const NAMES: usize = 2;
+
 // Where an edit's names are laid in a sheet, and the number of steps after it.
 pub(crate) enum Place {
     Nowhere,
@@ -68,15 +77,15 @@ pub(crate) fn write_entry(log: &mut [u8], at: usize, kind: u8, number: u8, names
 {
     log[at] = kind;
     log[at + 1] = number;
-    lay(log, at + 2, names);
-    clear(log, at + 2 + names.len());
+    lay(log, at + NAMES, names);
+    clear(log, at + NAMES + names.len());
 }
 
 // The place of an edit in a sheet of so many steps.
 pub(crate) fn edit_place(kind: u8, number: usize, steps: usize) -> Place
     ensures { λ r. ⌜ r ≡ placeOf kind number steps ⌝ }
 {
-    if kind == 1 {
+    if kind == ENTER {
         if number == 0 {
             if steps < Sheet::STEPS {
                 return Place::Step(steps, steps + 1);
@@ -84,7 +93,7 @@ pub(crate) fn edit_place(kind: u8, number: usize, steps: usize) -> Place
         }
         return Place::Nowhere;
     }
-    if kind == 2 {
+    if kind == STRIKE {
         if number == 0 {
             if steps > 0 {
                 return Place::Step(steps - 1, steps - 1);
@@ -92,7 +101,7 @@ pub(crate) fn edit_place(kind: u8, number: usize, steps: usize) -> Place
         }
         return Place::Nowhere;
     }
-    if kind == 3 {
+    if kind == AMEND {
         if number > 0 {
             if number <= steps {
                 return Place::Step(number - 1, steps);
@@ -107,10 +116,10 @@ pub(crate) fn names_end(agents: usize, kind: u8) -> usize
     requires { ⌜ agents ≤ mostAgents ⌝ }
     ensures { λ r. ⌜ r ≡ namesEnd agents kind ⌝ }
 {
-    if kind == 2 {
-        return 2;
+    if kind == STRIKE {
+        return NAMES;
     }
-    2 + agents
+    NAMES + agents
 }
 
 // The place of an entry's edit, where zeros follow what the entry has.
@@ -146,7 +155,7 @@ pub(crate) fn replay(
         match found {
             Place::Nowhere => return Run::Stuck,
             Place::Step(step, after) => {
-                lay(names, step * agents, &entry[2..2 + agents]);
+                lay(names, step * agents, &entry[NAMES..NAMES + agents]);
                 count = after;
             }
         }

@@ -2,7 +2,10 @@
 use crate::Change;
 use crate::Outcome;
 use crate::kept::is_open;
+use crate::log::AMEND;
+use crate::log::ENTER;
 use crate::log::Run;
+use crate::log::STRIKE;
 use crate::log::lay;
 use crate::log::replay;
 use crate::log::write_entry;
@@ -104,7 +107,7 @@ pub fn entered(s: Session, step: &[u8]) -> Change
     if steps >= Sheet::STEPS {
         return refuse(s, Refusal::TooLong);
     }
-    add(s, 1, 0, step, steps, steps + 1)
+    add(s, ENTER, 0, step, steps, steps + 1)
 }
 
 // "Strike: 17, 14, 11".
@@ -124,7 +127,7 @@ pub fn stricken(s: Session) -> Change
     let agents = s.agents;
     let idle = [0u8; Counts::AGENTS];
     let last = steps - 1;
-    add(s, 2, 0, &idle[..agents], last, last)
+    add(s, STRIKE, 0, &idle[..agents], last, last)
 }
 
 // "Amend: 17, 14, 8, 11"; "Steps are numbered from 1".
@@ -147,7 +150,7 @@ pub fn amended(s: Session, number: usize, step: &[u8]) -> Change
     if number > steps {
         return refuse(s, Refusal::NoStep);
     }
-    add(s, 3, number as u8, step, number - 1, steps)
+    add(s, AMEND, number as u8, step, number - 1, steps)
 }
 
 // "Undo: 17, 12".

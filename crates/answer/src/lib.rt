@@ -1,0 +1,2 @@
+// The program as one function from input bytes to output bytes. `waroth` stands on it.
+mod print;

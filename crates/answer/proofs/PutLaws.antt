@@ -51,3 +51,15 @@ decimal-small n h = rw (lt-ltb n 10 h) (ap (λ k. (48 + k) ∷ []) (omega arith)
 pub decimal-large : (n : ℕ) → 10 ≤ n → decimal n ≡ decimal (n / 10) ++ ((48 + n % 10) ∷ [])
 unfolding digitsOf
 decimal-large n h = rw (le-ltb n 10 h) (ap (λ r. r ++ ((48 + n % 10) ∷ [])) (digits-enough n (suc (n / 10)) (n / 10) (omega arith) (omega arith)))
+
+pub length-small : (n : ℕ) → n < 10 → length (decimal n) ≡ 1
+length-small n h = ap length (decimal-small n h)
+
+pub length-large : (n : ℕ) → 10 ≤ n → length (decimal n) ≡ length (decimal (n / 10)) + 1
+length-large n h = ap length (decimal-large n h) ∙ length-append (decimal (n / 10)) _
+
+pub digits-one : (buffer : List ℕ) (at n : ℕ) → n < 10 → Put buffer at (decimal n) (at + 1) (set buffer at (48 + n % 10))
+digits-one buffer at n h = rw (decimal-small n h) (put-byte buffer at (48 + n % 10))
+
+pub digits-more : {buffer mid : List ℕ} {at p : ℕ} (n : ℕ) → 10 ≤ n → Put buffer at (decimal (n / 10)) p mid → Put buffer at (decimal n) (p + 1) (set mid p (48 + n % 10))
+digits-more {mid = mid} {p = p} n h x = rw (decimal-large n h) (put-then x (put-byte mid p (48 + n % 10)))

@@ -1,8 +1,25 @@
-// Numbers and lines as text, written from a place of a buffer on; each returns the place after what it wrote.
-ghost use Prim.Native.Nat.{_+_, _≤_};
+// Numbers and lines as text, written from a place of a buffer on; each function returns the place after what it wrote.
+ghost use Prim.Native.Nat.{_+_, _*_, _≤_, _<_};
+ghost use mathlib.Core.List.{map, _∷_, []};
+ghost use mathlib.Core.Path.{_≡_};
+ghost use lib.IntN.{natAbs};
 ghost use lib.ListN.{length};
-ghost use Rattle.bmap.specs.Program.{decimal, decimalZ};
+ghost use Rattle.bmap.specs.Plain.{text};
+ghost use Rattle.bmap.specs.Program.{decimal, decimalZ, spaced, lineOf};
 ghost use Rattle.answer.specs.Put.{Put};
+
+// Bytes as they are.
+pub fn put_text(out: &mut [u8], at: usize, word: &[u8]) -> usize
+    requires { ⌜ at + length (now word) ≤ length (now out) ⌝ }
+    ensures { λ r. ⌜ Put (now (out .entry)) at (now (word .entry)) r (now (out .exit)) ⌝ }
+{
+    let mut i: usize = 0;
+    while i < word.len() {
+        out[at + i] = word[i];
+        i += 1;
+    }
+    at + i
+}
 
 // The decimal digits of n.
 pub fn put_digits(out: &mut [u8], at: usize, n: usize) -> usize
@@ -16,4 +33,62 @@ pub fn put_digits(out: &mut [u8], at: usize, n: usize) -> usize
     let last = put_digits(out, at, n / 10);
     out[last] = 48 + (n % 10) as u8;
     last + 1
+}
+
+// A space, and the decimal digits of a number below 100,000.
+pub fn put_number(out: &mut [u8], at: usize, n: usize) -> usize
+    requires { ⌜ (at + 6 ≤ length (now out)) × (n < 100000) ⌝ }
+    ensures { λ r. ⌜ Put (now (out .entry)) at (spaced (decimal n ∷ [])) r (now (out .exit)) ⌝ }
+{
+    out[at] = 32;
+    put_digits(out, at + 1, n)
+}
+
+// A level's distance from 0.
+fn distance(level: i16) -> usize
+    ensures { λ r. ⌜ r ≡ natAbs level ⌝ }
+{
+    if level < 0 {
+        return (-(level as i32)) as usize;
+    }
+    level as usize
+}
+
+// A space, and a level with its sign.
+pub fn put_level(out: &mut [u8], at: usize, level: i16) -> usize
+    requires { ⌜ at + 7 ≤ length (now out) ⌝ }
+    ensures { λ r. ⌜ Put (now (out .entry)) at (spaced (decimalZ level ∷ [])) r (now (out .exit)) ⌝ }
+{
+    if level < 0 {
+        out[at] = 32;
+        out[at + 1] = 45;
+        return put_digits(out, at + 2, distance(level));
+    }
+    put_number(out, at, distance(level))
+}
+
+// Levels, each after a space.
+pub fn put_levels(out: &mut [u8], at: usize, levels: &[i16]) -> usize
+    requires { ⌜ at + 7 * length (now levels) ≤ length (now out) ⌝ }
+    ensures { λ r. ⌜ Put (now (out .entry)) at (spaced (map decimalZ (now (levels .entry)))) r (now (out .exit)) ⌝ }
+{
+    let mut place = at;
+    let mut i: usize = 0;
+    while i < levels.len() {
+        place = put_level(out, place, levels[i]);
+        i += 1;
+    }
+    place
+}
+
+// "S", the number of a state and its levels.
+pub fn put_state(out: &mut [u8], at: usize, k: usize, levels: &[i16]) -> usize
+    requires { ⌜ (at + 8 + 7 * length (now levels) ≤ length (now out)) × (k < 100000) ⌝ }
+    ensures { λ r. ⌜ Put (now (out .entry)) at (lineOf (text "S") (decimal k ∷ map decimalZ (now (levels .entry)))) r (now (out .exit)) ⌝ }
+{
+    out[at] = 83;
+    let numbered = put_number(out, at + 1, k);
+    let end = put_levels(out, numbered, levels);
+    out[end] = 10;
+    end + 1
 }

@@ -1,0 +1,88 @@
+-- What the promises of the contracts fix: two bytes and their value say the same, and an answer is the only one that keeps its promise.
+use mathlib.Core.Path.{_≡_, refl, ap, _∙_}
+use mathlib.Core.Bool.{Bool, true, false}
+use Prim.Native.Nat.{ℕ, _+_, _-_, _*_, _/_, _%_, _<_, _≤_}
+use native.Mathlib.Nat.{div-add-mod'}
+use native.Mathlib.Omega.{arith}
+use lib.Dec.{ltb}
+use lib.IntN.{ℤ, pos, negsuc}
+use lib.Signed.{mag}
+use borrow.Author.Tests.{ltb-true, ltb-false, lt-ltb, le-ltb}
+use Rattle.bmap.specs.Plain.{if-else}
+use Rattle.bmap.specs.Number.{Valued, value, no-value, with2, bounded, operate, join, word, signed, signedWord, bits, bytesOf, Bytes}
+use Rattle.bmap.specs.declared.Operation.the-variants.{Sum, Quotient, Remainder}
+use Rattle.bmap.specs.declared.Junction.the-variants.{Or}
+use Rattle.number.specs.declared.Value.{Value}
+use Rattle.number.specs.declared.Value.the-variants.{Number, NoValue}
+use Rattle.number.specs.declared.Truth.{Truth}
+use Rattle.number.specs.declared.Truth.the-variants.{Is, NoTruth}
+use Rattle.number.specs.Answer.{valuedOf, truthOf}
+
+-- ---- two bytes
+
+signed-bits : (z : ℤ) → mag z < 32_768 → signed (bits z) ≡ z
+signed-bits (pos n) h = rw (lt-ltb n 32_768)
+signed-bits (negsuc n) h = rw (le-ltb (65_535 - n) 32_768 (omega arith)) (ap negsuc (omega arith))
+
+-- every 16-bit value is the value of its two bytes
+pub value-back : (z : ℤ) → mag z < 32_768 → signedWord (bytesOf z .high) (bytesOf z .low) ≡ z
+unfolding signedWord bytesOf
+value-back z h = ap signed (div-add-mod' (bits z) 256) ∙ signed-bits z h
+
+bits-if : (b : Bool) (n : ℕ) → n < 65_536 → bits (if-else b (pos n) (negsuc (65_535 - n))) ≡ n
+bits-if true n h = refl
+bits-if false n h = omega arith
+
+bits-signed : (n : ℕ) → n < 65_536 → bits (signed n) ≡ n
+bits-signed n h = bits-if (ltb n 32_768) n h
+
+-- any two bytes are the bytes of their value
+pub bytes-back : (hi lo : ℕ) → hi < 256 → lo < 256 → bytesOf (signedWord hi lo) ≡ record { high = hi; low = lo }
+unfolding signedWord bytesOf
+bytes-back hi lo p q =
+    rw (bits-signed (word hi lo) (omega arith)) (ap (λ (x : ℕ). record { high = x; low = word hi lo % 256 }) (omega arith) ∙ ap (λ (x : ℕ). record { high = hi; low = x }) (omega arith))
+
+-- ---- one answer for each promise
+
+pub same-value : (a b : Value) → valuedOf a ≡ valuedOf b → a ≡ b
+same-value (Number x) (Number y) e = cc
+same-value (Number x) NoValue e = cc
+same-value NoValue (Number y) e = cc
+same-value NoValue NoValue e = refl
+
+pub same-truth : (a b : Truth) → truthOf a ≡ truthOf b → a ≡ b
+same-truth (Is x) (Is y) e = cc
+same-truth (Is x) NoTruth e = cc
+same-truth NoTruth (Is y) e = cc
+same-truth NoTruth NoTruth e = refl
+
+-- ---- cases: the definitions compute
+
+-- "Quotient truncates toward zero; the remainder has the dividend's sign"
+minus-seven-by-two : operate Quotient (negsuc 6) (pos 2) ≡ value (negsuc 2)
+unfolding bounded
+minus-seven-by-two = refl
+
+minus-seven-left-over : operate Remainder (negsuc 6) (pos 2) ≡ value (negsuc 0)
+unfolding bounded
+minus-seven-left-over = refl
+
+five-by-zero : operate Quotient (pos 5) (pos 0) ≡ no-value
+five-by-zero = refl
+
+at-the-bound : operate Sum (pos 999_999_999) (pos 1) ≡ value (pos 1_000_000_000)
+unfolding bounded
+at-the-bound = refl
+
+past-the-bound : operate Sum (pos 1_000_000_000) (pos 1) ≡ no-value
+unfolding bounded
+past-the-bound = refl
+
+-- '"and" and "or" read both sides'
+true-or-none : with2 (λ x y. value (join Or x y)) (value true) no-value ≡ no-value
+true-or-none = refl
+
+-- "two's complement", "high byte first"
+least-word : signedWord 128 0 ≡ negsuc 32_767
+unfolding signedWord
+least-word = refl

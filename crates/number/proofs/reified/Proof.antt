@@ -1,0 +1,21 @@
+use Rattle.number.proofs.Laws.{signed}
+use Rattle.number.proofs.reified.Statement.{statement}
+use Rattle.number.proofs.reified.Tie as tie
+
+enum-known-t : tie.Need-enum-known-t
+enum-known-t c = search signed
+
+returns : tie.Need-returns
+returns c = search signed
+
+enum-told : tie.Need-enum-told
+enum-told c = search signed
+
+returns-2 : tie.Need-returns-2
+returns-2 c = search signed
+
+returns-3 : tie.Need-returns-3
+returns-3 c = search signed
+
+pub reified-spec : {M : Type 1} → statement M
+reified-spec = tie.close (tie.spec enum-known-t returns enum-told returns-2 returns-3)

@@ -1,0 +1,32 @@
+use Rattle.number.proofs.Laws.{signed}
+use Rattle.number.proofs.signed_word.Statement.{statement}
+use Rattle.number.proofs.signed_word.Tie as tie
+
+mul-n : tie.Need-mul-n
+mul-n c = search signed
+
+add-n : tie.Need-add-n
+add-n c = search signed
+
+cast-result : tie.Need-cast-result
+cast-result c = search signed
+
+returns : tie.Need-returns
+returns c = search signed
+
+sub-result : tie.Need-sub-result
+sub-result c = search signed
+
+cast-result-2 : tie.Need-cast-result-2
+cast-result-2 c = search signed
+
+sub-result-2 : tie.Need-sub-result-2
+sub-result-2 c = search signed
+
+returns-2 : tie.Need-returns-2
+returns-2 c = search signed
+
+pub signed-word-spec : {M : Type 1} → statement M
+signed-word-spec =
+    tie.close
+    (tie.spec mul-n add-n cast-result returns sub-result cast-result-2 sub-result-2 returns-2)

@@ -1,18 +1,22 @@
 -- Text written at a place of a buffer, and the digits of a number. Assumes nothing.
-use Prim.Native.Nat.{ℕ, zero, suc, _+_, _/_, _%_, _≤_, _<_}
-use mathlib.Core.Path.{_≡_, refl, sym, ap, _∙_}
+use Prim.Native.Nat.{ℕ, zero, suc, _+_, _/_, _%_, _*_, _-_, _^_, _≤_, _<_}
+use mathlib.Core.Path.{_≡_, refl, sym, ap, _∙_, subst}
 use mathlib.Core.Bool.{Bool, true, false}
 use mathlib.Core.List.{List, [], _∷_, _++_}
 use native.Mathlib.Omega.{arith}
 use native.Mathlib.Numerals.{add-one}
-use native.Mathlib.Nat.{add-zero, add-suc, suc-add}
+use native.Mathlib.Nat.{div-lt-iff-lt-mul, pow-suc, add-assoc, add-zero, add-suc, suc-add}
 use native.Mathlib.Decide.{decLt}
 use lib.Dec.{ltb}
-use lib.ListN.{length, set, length-append, length-set}
-use lib.Seq.{sets, length-sets}
+use lib.ListN.{length, set, take, getD, length-append, length-set}
+use lib.Seq.{sets, length-sets, take-suc, take-all}
 use borrow.Author.Tests.{lt-ltb, le-ltb}
-use Rattle.bmap.specs.Plain.{if-else}
-use Rattle.bmap.specs.Program.{digitsOf, decimal}
+use mathlib.Core.List.{map, append-nil, append-assoc}
+use lib.IntN.{ℤ, pos, negsuc}
+use lib.Signed.{mag}
+use Rattle.bmap.specs.Plain.{if-else, text}
+use Rattle.bmap.specs.Number.{bits, bytesOf}
+use Rattle.bmap.specs.Program.{digitsOf, decimal, decimalZ, spaced, lineOf}
 use Rattle.answer.specs.Put.{Put}
 
 pub sets-append : (l : List ℕ) (i : ℕ) (a b : List ℕ) → sets l i (a ++ b) ≡ sets (sets l i a) (i + length a) b
@@ -63,3 +67,41 @@ digits-one buffer at n h = rw (decimal-small n h) (put-byte buffer at (48 + n % 
 
 pub digits-more : {buffer mid : List ℕ} {at p : ℕ} (n : ℕ) → 10 ≤ n → Put buffer at (decimal (n / 10)) p mid → Put buffer at (decimal n) (p + 1) (set mid p (48 + n % 10))
 digits-more {mid = mid} {p = p} n h x = rw (decimal-large n h) (put-then x (put-byte mid p (48 + n % 10)))
+
+
+
+
+-- a number below a power of ten has at most so many digits
+pub length-below : (k n : ℕ) → n < 10 ^ suc k → length (decimal n) ≤ suc k
+length-below zero n h = omega (arith, length-small n h)
+length-below (suc k) n h =
+    elim (decLt n 10) [
+      | yes s ↦ omega (arith, length-small n s)
+      | no s ↦ omega (arith, length-large n (omega arith), length-below k (n / 10) (div-lt-iff-lt-mul (omega arith) .1 (subst (λ m. n < m) (pow-suc 10 (suc k)) h)))
+    ]
+
+-- a space before
+pub put-space : {buffer new : List ℕ} {at p : ℕ} (w : List ℕ) → Put (set buffer at 32) (at + 1) w p new → Put buffer at (spaced (w ∷ [])) p new
+unfolding text spaced
+put-space {buffer} {at = at} w x = rw append-nil (put-then (put-byte buffer at 32) x)
+
+-- a level by its sixteen bits
+pub level-above : (z : ℤ) (n : ℕ) → n ≡ bytesOf z .high * 256 + bytesOf z .low → mag z < 32_768 → n < 32_768 → decimal n ≡ decimalZ z
+unfolding bytesOf
+level-above (pos k) n e f h = ap decimal (omega arith)
+level-above (negsuc k) n e f h = absurd (omega arith)
+
+pub level-below : (z : ℤ) (n : ℕ) → n ≡ bytesOf z .high * 256 + bytesOf z .low → mag z < 32_768 → 32_768 ≤ n → 45 ∷ decimal (65_536 - n) ≡ decimalZ z
+unfolding bytesOf text
+level-below (pos k) n e f h = absurd (omega arith)
+level-below (negsuc k) n e f h = ap (λ m. 45 ∷ decimal m) (omega arith)
+
+-- the first bytes of a text
+pub put-none : (buffer : List ℕ) (at : ℕ) → Put buffer at [] (at + 0) buffer
+put-none buffer at = record { place = refl; bytes = refl }
+
+pub put-next : {buffer new : List ℕ} (word : List ℕ) {at i : ℕ} → i < length word → Put buffer at (take i word) (at + i) new → Put buffer at (take (i + 1) word) (at + (i + 1)) (set new (at + i) (getD word i 0))
+put-next {new = new} word {at} {i} h x = rw (← add-assoc at i 1, add-one i, take-suc word i 0 h) (put-then x (put-byte new (at + i) (getD word i 0)))
+
+pub put-whole : {buffer new : List ℕ} (word : List ℕ) {at i : ℕ} → i ≤ length word → length word ≤ i → Put buffer at (take i word) (at + i) new → Put buffer at word (at + i) new
+put-whole {buffer} {new} word {at} {i} h g x = subst (λ w. Put buffer at w (at + i) new) (take-all i word g) x

@@ -2,7 +2,6 @@
 ghost use Prim.Native.Nat.{_+_, _*_, _≤_, _<_};
 ghost use mathlib.Core.List.{map, _∷_, []};
 ghost use mathlib.Core.Path.{_≡_};
-ghost use lib.IntN.{natAbs};
 ghost use lib.ListN.{length};
 ghost use Rattle.bmap.specs.Plain.{text};
 ghost use Rattle.bmap.specs.Program.{decimal, decimalZ, spaced, lineOf};
@@ -44,27 +43,25 @@ pub fn put_number(out: &mut [u8], at: usize, n: usize) -> usize
     put_digits(out, at + 1, n)
 }
 
-// A level's distance from 0.
-fn distance(level: i16) -> usize
-    ensures { λ r. ⌜ r ≡ natAbs level ⌝ }
-{
-    if level < 0 {
-        return (-(level as i32)) as usize;
-    }
-    level as usize
-}
-
-// A space, and a level with its sign.
+// A space, and a level with its sign: two's complement bits from 32,768 on stand for what is missing to 65,536.
 pub fn put_level(out: &mut [u8], at: usize, level: i16) -> usize
     requires { ⌜ at + 7 ≤ length (now out) ⌝ }
     ensures { λ r. ⌜ Put (now (out .entry)) at (spaced (decimalZ level ∷ [])) r (now (out .exit)) ⌝ }
 {
-    if level < 0 {
-        out[at] = 32;
-        out[at + 1] = 45;
-        return put_digits(out, at + 2, distance(level));
+    let two = number::bytes_of(level);
+    let bits = wide(two.high) * 256 + wide(two.low);
+    if bits < 32_768 {
+        return put_number(out, at, bits);
     }
-    put_number(out, at, distance(level))
+    out[at] = 32;
+    out[at + 1] = 45;
+    put_digits(out, at + 2, 65_536 - bits)
+}
+
+fn wide(x: u8) -> usize
+    ensures { λ r. ⌜ r ≡ x ⌝ }
+{
+    x as usize
 }
 
 // Levels, each after a space.

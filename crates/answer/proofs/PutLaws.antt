@@ -14,6 +14,10 @@ use borrow.Author.Tests.{lt-ltb, le-ltb}
 use mathlib.Core.List.{map, append-nil, append-assoc}
 use lib.IntN.{ℤ, pos, negsuc}
 use lib.Signed.{mag}
+use mir.Syntax.{w16}
+use mir.Val.{SFits}
+use mir.Facts.{toZ-ofZ}
+use Rattle.number.proofs.Laws.{back}
 use Rattle.bmap.specs.Plain.{if-else, text}
 use Rattle.bmap.specs.Number.{bits, bytesOf}
 use Rattle.bmap.specs.Program.{digitsOf, decimal, decimalZ, spaced, lineOf}
@@ -85,16 +89,33 @@ pub put-space : {buffer new : List ℕ} {at p : ℕ} (w : List ℕ) → Put (set
 unfolding text spaced
 put-space {buffer} {at = at} w x = rw append-nil (put-then (put-byte buffer at 32) x)
 
--- a level by its sixteen bits
-pub level-above : (z : ℤ) (n : ℕ) → n ≡ bytesOf z .high * 256 + bytesOf z .low → mag z < 32_768 → n < 32_768 → decimal n ≡ decimalZ z
-unfolding bytesOf
-level-above (pos k) n e f h = ap decimal (omega arith)
-level-above (negsuc k) n e f h = absurd (omega arith)
+-- a level by its sixteen bits, from its two bytes
+module _ (z : ℤ) {a b high low : ℕ} (f : SFits w16 z) (x : a ≡ high) (y : b ≡ low) (e : (high ≡ bytesOf (back w16 z) .high) × (low ≡ bytesOf (back w16 z) .low)) where
+  bits-are : a * 256 + b ≡ bits z
+  unfolding bytesOf
+  bits-are = let d : (high ≡ bytesOf z .high) × (low ≡ bytesOf z .low) = rw (toZ-ofZ f) at e in omega (arith, x, y)
 
-pub level-below : (z : ℤ) (n : ℕ) → n ≡ bytesOf z .high * 256 + bytesOf z .low → mag z < 32_768 → 32_768 ≤ n → 45 ∷ decimal (65_536 - n) ≡ decimalZ z
-unfolding bytesOf text
-level-below (pos k) n e f h = absurd (omega arith)
-level-below (negsuc k) n e f h = ap (λ m. 45 ∷ decimal m) (omega arith)
+  level-above : a * 256 + b < 32_768 → decimal (a * 256 + b) ≡ decimalZ z
+  level-above h = above z (a * 256 + b) bits-are (f .sfits) h
+    where
+      above : (z : ℤ) (n : ℕ) → n ≡ bits z → mag z < 32_768 → n < 32_768 → decimal n ≡ decimalZ z
+      above (pos k) n q g h = ap decimal q
+      above (negsuc k) n q g h = absurd (omega arith)
+
+  level-below : 32_768 ≤ a * 256 + b → 45 ∷ decimal (65_536 - (a * 256 + b)) ≡ decimalZ z
+  unfolding text
+  level-below h = below z (a * 256 + b) bits-are (f .sfits) h
+    where
+      below : (z : ℤ) (n : ℕ) → n ≡ bits z → mag z < 32_768 → 32_768 ≤ n → 45 ∷ decimal (65_536 - n) ≡ decimalZ z
+      below (pos k) n q g h = absurd (omega arith)
+      below (negsuc k) n q g h = ap (λ m. 45 ∷ decimal m) (omega arith)
+
+  module _ {buffer new : List ℕ} {at p : ℕ} where
+    pub put-above : a * 256 + b < 32_768 → Put buffer at (spaced (decimal (a * 256 + b) ∷ [])) p new → Put buffer at (spaced (decimalZ z ∷ [])) p new
+    put-above h put = subst (λ w. Put buffer at (spaced (w ∷ [])) p new) (level-above h) put
+
+    pub put-below : 32_768 ≤ a * 256 + b → Put (set (set buffer at 32) (at + 1) 45) (at + 2) (decimal (65_536 - (a * 256 + b))) p new → Put buffer at (spaced (decimalZ z ∷ [])) p new
+    put-below h put = put-space (decimalZ z) (subst (λ w. Put (set buffer at 32) (at + 1) w p new) (level-below h) (put-then (put-byte (set buffer at 32) (at + 1) 45) (rw (add-assoc at 1 1) put)))
 
 -- the first bytes of a text
 pub put-none : (buffer : List ℕ) (at : ℕ) → Put buffer at [] (at + 0) buffer

@@ -11,7 +11,7 @@ use lib.Dec.{ltb}
 use lib.ListN.{length, set, take, getD, length-append, length-set}
 use lib.Seq.{sets, length-sets, take-suc, take-all}
 use borrow.Author.Tests.{lt-ltb, le-ltb}
-use mathlib.Core.List.{map, append-nil, append-assoc}
+use mathlib.Core.List.{map, map-append, append-nil, append-assoc}
 use lib.IntN.{ℤ, pos, negsuc}
 use lib.Signed.{mag}
 use mir.Syntax.{w16}
@@ -126,3 +126,29 @@ put-next {new = new} word {at} {i} h x = rw (← add-assoc at i 1, add-one i, ta
 
 pub put-whole : {buffer new : List ℕ} (word : List ℕ) {at i : ℕ} → i ≤ length word → length word ≤ i → Put buffer at (take i word) (at + i) new → Put buffer at word (at + i) new
 put-whole {buffer} {new} word {at} {i} h g x = subst (λ w. Put buffer at w (at + i) new) (take-all i word g) x
+
+pub put-nothing : (buffer : List ℕ) (at : ℕ) → Put buffer at [] at buffer
+put-nothing buffer at = record { place = sym (add-zero at); bytes = refl }
+
+-- levels in turn, each after a space
+pub spaced-append : (a b : List (List ℕ)) → spaced (a ++ b) ≡ spaced a ++ spaced b
+unfolding spaced
+spaced-append [] b = refl
+spaced-append (w ∷ a) b = ap (λ l. text " " ++ w ++ l) (spaced-append a b) ∙ sym (append-assoc (text " " ++ w) (spaced a) (spaced b))
+
+module _ {buffer new : List ℕ} {at p : ℕ} (levels : List ℤ) {i : ℕ} where
+  pub levels-next : {q : ℕ} {newer : List ℕ} {z : ℤ} → SFits w16 z → z ≡ getD levels i (pos 0) → i < length levels → Put buffer at (spaced (map decimalZ (take i levels))) p new → Put new p (spaced (decimalZ (back w16 z) ∷ [])) q newer
+    → Put buffer at (spaced (map decimalZ (take (i + 1) levels))) q newer
+  levels-next {q} {newer} f e h x y = rw (add-one i, take-suc levels i (pos 0) h, map-append decimalZ, spaced-append) (put-then x (subst (λ z. Put new p (spaced (decimalZ z ∷ [])) q newer) (toZ-ofZ f ∙ e) y))
+
+  pub levels-whole : length levels ≤ i → Put buffer at (spaced (map decimalZ (take i levels))) p new → Put buffer at (spaced (map decimalZ levels)) p new
+  levels-whole g x = subst (λ l. Put buffer at (spaced (map decimalZ l)) p new) (take-all i levels g) x
+
+-- "S", a number, the levels and LF
+pub put-state-line : {buffer two three : List ℕ} {at p q : ℕ} (k : ℕ) (levels : List ℤ)
+    → Put (set buffer at 83) (at + 1) (spaced (decimal k ∷ [])) p two → Put two p (spaced (map decimalZ levels)) q three
+    → Put buffer at (lineOf (text "S") (decimal k ∷ map decimalZ levels)) (q + 1) (set three q 10)
+unfolding text
+put-state-line {buffer} {three = three} {at} {q = q} k levels x y =
+    let words : Put (set buffer at 83) (at + 1) (spaced (decimal k ∷ map decimalZ levels)) q three = rw (spaced-append (decimal k ∷ []) (map decimalZ levels)) (put-then x y) in
+    put-then (put-byte buffer at 83) (put-then words (put-byte three q 10))

@@ -2,7 +2,8 @@
 ghost use Prim.Native.Nat.{_+_, _*_, _≤_, _<_};
 ghost use mathlib.Core.List.{map, _∷_, []};
 ghost use mathlib.Core.Path.{_≡_};
-ghost use lib.ListN.{length};
+ghost use lib.IntN.{pos};
+ghost use lib.ListN.{length, getD};
 ghost use Rattle.bmap.specs.Plain.{text};
 ghost use Rattle.bmap.specs.Program.{decimal, decimalZ, spaced, lineOf};
 ghost use Rattle.answer.specs.Put.{Put};
@@ -38,6 +39,7 @@ pub fn put_digits(out: &mut [u8], at: usize, n: usize) -> usize
 pub fn put_number(out: &mut [u8], at: usize, n: usize) -> usize
     requires { ⌜ (at + 6 ≤ length (now out)) × (n < 100000) ⌝ }
     ensures { λ r. ⌜ Put (now (out .entry)) at (spaced (decimal n ∷ [])) r (now (out .exit)) ⌝ }
+    ensures { λ r. ⌜ r ≤ at + 6 ⌝ }
 {
     out[at] = 32;
     put_digits(out, at + 1, n)
@@ -47,6 +49,7 @@ pub fn put_number(out: &mut [u8], at: usize, n: usize) -> usize
 pub fn put_level(out: &mut [u8], at: usize, level: i16) -> usize
     requires { ⌜ at + 7 ≤ length (now out) ⌝ }
     ensures { λ r. ⌜ Put (now (out .entry)) at (spaced (decimalZ level ∷ [])) r (now (out .exit)) ⌝ }
+    ensures { λ r. ⌜ r ≤ at + 7 ⌝ }
 {
     let two = number::bytes_of(level);
     let bits = wide(two.high) * 256 + wide(two.low);
@@ -64,15 +67,22 @@ fn wide(x: u8) -> usize
     x as usize
 }
 
+fn level(levels: &[i16], i: usize) -> i16
+    ensures { λ r. ⌜ r ≡ getD (now (levels .entry)) i (pos 0) ⌝ }
+{
+    if i < levels.len() { levels[i] } else { 0 }
+}
+
 // Levels, each after a space.
 pub fn put_levels(out: &mut [u8], at: usize, levels: &[i16]) -> usize
     requires { ⌜ at + 7 * length (now levels) ≤ length (now out) ⌝ }
     ensures { λ r. ⌜ Put (now (out .entry)) at (spaced (map decimalZ (now (levels .entry)))) r (now (out .exit)) ⌝ }
+    ensures { λ r. ⌜ r ≤ at + 7 * length (now (levels .entry)) ⌝ }
 {
     let mut place = at;
     let mut i: usize = 0;
     while i < levels.len() {
-        place = put_level(out, place, levels[i]);
+        place = put_level(out, place, level(levels, i));
         i += 1;
     }
     place
@@ -82,6 +92,7 @@ pub fn put_levels(out: &mut [u8], at: usize, levels: &[i16]) -> usize
 pub fn put_state(out: &mut [u8], at: usize, k: usize, levels: &[i16]) -> usize
     requires { ⌜ (at + 8 + 7 * length (now levels) ≤ length (now out)) × (k < 100000) ⌝ }
     ensures { λ r. ⌜ Put (now (out .entry)) at (lineOf (text "S") (decimal k ∷ map decimalZ (now (levels .entry)))) r (now (out .exit)) ⌝ }
+    ensures { λ r. ⌜ r ≤ at + (8 + 7 * length (now (levels .entry))) ⌝ }
 {
     out[at] = 83;
     let numbered = put_number(out, at + 1, k);

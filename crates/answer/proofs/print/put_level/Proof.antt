@@ -29,7 +29,7 @@ same-length : tie.Need-same-length
 same-length c = search needs
 
 returns : tie.Need-returns
-returns c = put-above _ (c .before .before .before .before .before .before .before .before .before .fits .level) (c .before .before .before .before .before .before .wide .ensures) (c .before .before .before .before .before .wide2 .ensures) (c .before .before .before .before .before .before .before .bytes-of .ensures) (c .before .before .before .before .if1 .taken) (c .before .before .put-number .ensures)
+returns c = (put-above _ (c .before .before .before .before .before .before .before .before .before .fits .level) (c .before .before .before .before .before .before .wide .ensures) (c .before .before .before .before .before .wide2 .ensures) (c .before .before .before .before .before .before .before .bytes-of .ensures) (c .before .before .before .before .if1 .taken) (c .before .before .put-number .ensures .0), omega arith)
 
 slice-write-out : tie.Need-slice-write-out
 slice-write-out c = search needs
@@ -53,7 +53,7 @@ same-length-2 : tie.Need-same-length-2
 same-length-2 c = put-length (c .before .before .put-digits .ensures) ∙ simp length-set
 
 returns-2 : tie.Need-returns-2
-returns-2 c = put-below _ (c .before .before .before .before .before .before .before .before .before .fits .level) (c .before .before .before .before .before .before .wide .ensures) (c .before .before .before .before .before .wide2 .ensures) (c .before .before .before .before .before .before .before .bytes-of .ensures) (c .before .before .before .before .if1 .left) (c .before .before .put-digits .ensures)
+returns-2 c = (put-below _ (c .before .before .before .before .before .before .before .before .before .fits .level) (c .before .before .before .before .before .before .wide .ensures) (c .before .before .before .before .before .wide2 .ensures) (c .before .before .before .before .before .before .before .bytes-of .ensures) (c .before .before .before .before .if1 .left) (c .before .before .put-digits .ensures), omega (arith, c .before .before .put-digits .ensures .place, length-below 4 (65_536 - (c .before .before .before .before .before .before .wide .result * 256 + c .before .before .before .before .before .wide2 .result)) (omega arith)))
 
 pub put-level-spec : {M : Type 1} → statement M
 put-level-spec =

@@ -19,7 +19,7 @@ same-length : tie.Need-same-length
 same-length c = put-length (c .before .before .put-digits .ensures) ∙ simp length-set
 
 returns : tie.Need-returns
-returns c = put-space _ (c .before .before .put-digits .ensures)
+returns c = (put-space _ (c .before .before .put-digits .ensures), omega (arith, c .before .before .put-digits .ensures .place, length-below 4 _ (c .before .before .before .before .before .pre .1)))
 
 pub put-number-spec : {M : Type 1} → statement M
 put-number-spec =

@@ -7,7 +7,7 @@ use Rattle.bmap.specs.Plain.{if-else}
 use Rattle.bmap.specs.Refusal.{Answer, got, refused}
 use Rattle.bmap.specs.Accept.{Reading, read, refusedAt}
 
--- "zeros after"
+-- "zeros after": of a text that is no longer than the buffer
 abbrev pub padded : ℕ → List ℕ → List ℕ
 padded size l = l ++ replicate (size - length l) 0
 
@@ -41,13 +41,14 @@ pub record Written : Type 0 where
   pub answer : Answer ℕ
   pub buffer : List ℕ
 
--- "Writers return the bytes written, 0 if refused, and touch nothing after them"; "writers … touch nothing" where they refuse
+-- Writers "touch nothing after them" (the bytes written), and nothing at all where they refuse; 10: "or than the text to be written"
 abbrev pub written : List ℕ → Answer (List ℕ) → Written
 written buffer (refused n) = record { answer = refused n; buffer = buffer }
 written buffer (got text) =
     if-else (leb (length text) (length buffer)) (record { answer = got (length text); buffer = over text buffer })
     (record { answer = refused 10; buffer = buffer })
 
+-- "Writers return the bytes written, 0 if refused"
 abbrev pub bytesWritten : Answer ℕ → ℕ
 bytesWritten (got n) = n
 bytesWritten (refused m) = 0

@@ -1,4 +1,5 @@
--- The cases of document 01: those marked with a star in one list, the others in a second, under one statement.
+-- The cases of document 01: those marked with a star in one list, the others in a second; beside them what they leave open. One
+-- statement.
 use Prim.Native.Nat.{ℕ, _+_}
 use mathlib.Core.Path.{_≡_, refl}
 use mathlib.Core.Bool.{false}
@@ -15,6 +16,8 @@ use Rattle.bmap.specs.Payload.{maskFits, agentsFit, fluentFits, knowledg
 use Rattle.bmap.specs.Accept.{Reading, inOrder, room, fresh, checked, accept, complete, takenFrom}
 use Rattle.bmap.specs.Sheet.{stepOf, stepsFrom}
 use Rattle.bmap.specs.Judge.{Judged, Verdict, accepted, broken, eachFrom, history, holds, carries, placed, permits, permitted, mayOccur, sets, settled, levelAfter, stateAfter, inRange, step, carried, ran, judge}
+use Rattle.bmap.specs.Session.{enter, strike, amend, edited, replayed, sheetOf, edit, undo, redo, Call, editing, undoing, redoing, Reply, done, turn, after, replies}
+use Rattle.bmap.specs.Refusal.{got, refused}
 use Rattle.bmap.specs.Program.{digitsOf, spaced, stateLines, split, output}
 use Rattle.bmap.specs.River.{p, judgedUnder, gives}
 use Rattle.bmap.specs.declared.Operation.the-variants.{Product, Quotient, Remainder}
@@ -71,13 +74,116 @@ others =
     ∷ prints (p ++ text "B1020100\nB10101\n") (text "REFUSED 8 12\n")
     ∷ []
 
+-- one fluent, one entry of agent 0 that may always occur; two pairs that share agent 1; two fluents and three agents
+abbrev pool : List ℕ
+pool = text "A10102\nA20600C80140012C\nA403010001\nA502002A\n"
+
+abbrev crews : List ℕ
+crews = text "A10103\nA20600C80140012C\nA403010003\nA403010006\nA502002A\nA502012A\n"
+
+abbrev gauge : List ℕ
+gauge = text "A10103\nA20600C80140012C\nA206000000010001\n"
+
+-- what P's cases leave open
+abbrev pub edges : List Case
+edges =
+    -- a line of one byte has no count byte
+    prints (text "A1\n") (text "REFUSED 2 1\n")
+    -- a carriage return is a bad character
+    ∷ prints (text "A10102\r\n") (text "REFUSED 1 1\n")
+    -- a second A1
+    ∷ prints (text "A10102\nA10102\n") (text "REFUSED 5 2\n")
+    -- a second A1 after an A2
+    ∷ prints (text "A10102\nA20600C80140012C\nA10102\n") (text "REFUSED 3 3\n")
+    -- a mask with an unknown agent
+    ∷ prints (text "A10102\nA20600C80140012C\nA303000007\n") (text "REFUSED 4 3\n")
+    -- an entry again
+    ∷ prints (text "A10102\nA20600C80140012C\nA403010001\nA403010001\n") (text "REFUSED 6 4\n")
+    -- an entry without A5
+    ∷ prints (text "A10102\nA20600C80140012C\nA403010001\n") (text "REFUSED 7 3\n")
+    -- 16 deep
+    ∷ prints (pool ++ text "A8102828282828282828282828282828282A\n") (text "S 0 300\nACCEPTED\n")
+    -- 17 deep
+    ∷ prints (pool ++ text "A811282828282828282828282828282828282A\n") (text "REFUSED 4 5\n")
+    -- code 29 in A7, under code 19
+    ∷ prints (pool ++ text "A7082519290000100000\n") (text "REFUSED 4 5\n")
+    -- lag 64
+    ∷ prints (pool ++ text "A80725110040100000\n") (text "REFUSED 4 5\n")
+    -- a code that is none
+    ∷ prints (pool ++ text "A8022B2A\n") (text "REFUSED 4 5\n")
+    -- the sheet's first line without LF
+    ∷ prints (pool ++ text "B1020100") (text "REFUSED 1 5\n")
+    -- a kind that is not B1 in a sheet
+    ∷ prints (pool ++ text "B1020000\nA10102\n") (text "REFUSED 3 6\n")
+    -- code 29 with lag 2 sees step 1 in step 3
+    ∷ prints (pool ++ text "A80428290002\nB1020100\nB1020000\nB1020000\nB1020000\n") (text "S 0 300\nS 1 300\nS 2 300\nBROKEN 3 3 1\n")
+    -- lag 3 reads state 0 up to position 3
+    ∷ prints (pool ++ text "A60A002A0012110000100001\nA7072011000310012C\nB1020100\nB1020100\nB1020100\nB1020100\nB1020100\n") (text "S 0 300\nS 1 301\nS 2 302\nS 3 303\nBROKEN 6 4 2\n")
+    -- two laws that set the same value
+    ∷ prints (pool ++ text "A606002A0010012B\nA606002A0010012B\nB1020100\n") (text "S 0 300\nS 1 299\nACCEPTED\n")
+    -- a value, the same, a differing one
+    ∷ prints (pool ++ text "A606002A0010012B\nA606002A0010012B\nA606002A0010012C\nB1020100\n") (text "S 0 300\nBROKEN 4 1 3\n")
+    -- or reads both sides
+    ∷ prints (pool ++ text "A80D272A2015100001100000100000\nB1020000\n") (text "S 0 300\nBROKEN 7 1 1\n")
+    -- check 2 before check 3
+    ∷ prints (text "A10102\nA20600C80140012C\nA403010001\nA50300282A\nA802282A\nB1020100\n") (text "S 0 300\nBROKEN 2 1 0\n")
+    -- check 3 before check 4
+    ∷ prints (pool ++ text "A60A002A0015100001100000\nA802282A\nB1020100\n") (text "S 0 300\nBROKEN 3 1 2\n")
+    -- check 4 before check 5
+    ∷ prints (pool ++ text "A606002A0010FFFF\nA606002A0010FFFE\nB1020100\n") (text "S 0 300\nBROKEN 4 1 2\n")
+    -- check 5 before check 6
+    ∷ prints (pool ++ text "A606002A0010FFFF\nA70725110000100000\nB1020100\n") (text "S 0 300\nBROKEN 5 1 0\n")
+    -- a value beyond 16 bits
+    ∷ prints (pool ++ text "A60A002A0014100400107FFF\nB1020100\n") (text "S 0 300\nBROKEN 5 1 0\n")
+    -- a static law on the new state
+    ∷ prints (pool ++ text "A606002A00100100\nA70724110000100100\nB1020100\n") (text "S 0 300\nBROKEN 6 1 2\n")
+    -- a static law at step 0
+    ∷ prints (pool ++ text "A702282A\nB1020000\n") (text "BROKEN 6 0 1\n")
+    -- a goal without value
+    ∷ prints (pool ++ text "A90B2015100001100000100000\nB1020000\n") (text "S 0 300\nS 1 300\nBROKEN 7 1 1\n")
+    -- effects by the values before the step
+    ∷ prints (text "A10101\nA206000000090001\nA206000000090002\nA403010001\nA502002A\nA606002A00110100\nA606002A01110000\nB10101\n") (text "S 0 1 2\nS 1 2 1\nACCEPTED\n")
+    -- a joint action that one of its crew names
+    ∷ prints (crews ++ text "B103010000\n") (text "S 0 300\nBROKEN 1 1 0\n")
+    -- shared members
+    ∷ prints (crews ++ text "B103010101\n") (text "S 0 300\nS 1 300\nACCEPTED\n")
+    -- a fluent known to nobody in the crew
+    ∷ prints (gauge ++ text "A303010004\nA403010003\nA5080025110100100000\nB103010100\n") (text "S 0 300 1\nBROKEN 2 1 0\n")
+    -- a fluent known to one of the crew
+    ∷ prints (gauge ++ text "A303010002\nA403010003\nA5080025110100100000\nB103010100\n") (text "S 0 300 1\nS 1 300 1\nACCEPTED\n")
+    -- one known, one unknown fluent
+    ∷ prints (gauge ++ text "A303010002\nA403010003\nA50A00272A20110000110100\nB103010100\n") (text "S 0 300 1\nBROKEN 2 1 0\n")
+    -- levels below zero
+    ∷ prints (text "A10101\nA206FF00FFFFFF85\nA403010001\nA502002A\nB10101\n") (text "S 0 -123\nS 1 -123\nACCEPTED\n")
+    ∷ []
+
+-- the session: the sheet after some calls, with two agents
+abbrev sheetAfter : List Call → List Names → Case
+sheetAfter calls sheet = record { Of = List Names; left = sheetOf (after calls (record { agents = 2; standing = []; undone = [] })); right = sheet }
+
+abbrev replied : List Call → List Reply → Case
+replied calls r = record { Of = List Reply; left = replies calls (record { agents = 2; standing = []; undone = [] }); right = r }
+
+abbrev second : Names
+second = 0 ∷ 2 ∷ []
+
+abbrev yes : Reply
+yes = done (got tt)
+
+abbrev pub sessions : List Case
+sessions =
+    sheetAfter (editing (enter first) ∷ editing (enter second) ∷ editing (amend 1 second) ∷ []) (second ∷ second ∷ [])
+    ∷ sheetAfter (editing (enter first) ∷ editing (enter second) ∷ editing strike ∷ []) (first ∷ [])
+    ∷ sheetAfter (editing (enter first) ∷ editing (enter second) ∷ undoing ∷ []) (first ∷ [])
+    ∷ sheetAfter (editing (enter first) ∷ editing (enter second) ∷ undoing ∷ undoing ∷ redoing ∷ []) (first ∷ [])
+    ∷ replied (editing (enter first) ∷ undoing ∷ editing (enter second) ∷ redoing ∷ []) (yes ∷ yes ∷ yes ∷ done (refused 13) ∷ [])
+    ∷ replied (undoing ∷ editing strike ∷ editing (amend 1 first) ∷ editing (amend 1 []) ∷ editing (enter []) ∷ []) (done (refused 12) ∷ done (refused 11) ∷ done (refused 11) ∷ done (refused 8) ∷ done (refused 8) ∷ [])
+    ∷ []
+
 abbrev pub AllHold : List Case → Type 0
 AllHold [] = Unit {0}
 AllHold (c ∷ l) = (c .left ≡ c .right) × AllHold l
 
-pub shown : AllHold starred × AllHold others
-unfolding p judgedUnder text any all flat numbers bounded signedWord namedE namedC allowedE allowedC evalE evalC codeOf parseE parseC linesOf digit bytes framed decode occursIn knownTo readable maskFits agentsFit fluentFits knowledgeFits entryFits executableIn effectIn mustIn lawIn itemIn inOrder room fresh checked accept complete takenFrom stepOf stepsFrom eachFrom history holds carries placed permits permitted mayOccur sets settled levelAfter stateAfter inRange step carried ran judge digitsOf spaced stateLines split output
-shown = (
-  (refl, (refl, (refl, (refl, (refl, (refl, (refl, (refl, (refl, (refl, (refl, (refl, (refl, (refl, (refl, (refl, tt)))))))))))))))),
-  (refl, (refl, (refl, (refl, (refl, (refl, tt)))))),
-)
+pub shown : AllHold starred × AllHold others × AllHold edges × AllHold sessions
+unfolding p judgedUnder text any all flat numbers bounded signedWord namedE namedC allowedE allowedC evalE evalC codeOf parseE parseC linesOf digit bytes framed decode occursIn knownTo readable maskFits agentsFit fluentFits knowledgeFits entryFits executableIn effectIn mustIn lawIn itemIn inOrder room fresh checked accept complete takenFrom stepOf stepsFrom eachFrom history holds carries placed permits permitted mayOccur sets settled levelAfter stateAfter inRange step carried ran judge digitsOf spaced stateLines split output edited replayed sheetOf edit undo redo turn after replies
+shown = ((refl, (refl, (refl, (refl, (refl, (refl, (refl, (refl, (refl, (refl, (refl, (refl, (refl, (refl, (refl, (refl, tt)))))))))))))))), (refl, (refl, (refl, (refl, (refl, (refl, tt)))))), (refl, (refl, (refl, (refl, (refl, (refl, (refl, (refl, (refl, (refl, (refl, (refl, (refl, (refl, (refl, (refl, (refl, (refl, (refl, (refl, (refl, (refl, (refl, (refl, (refl, (refl, (refl, (refl, (refl, (refl, (refl, (refl, (refl, (refl, tt)))))))))))))))))))))))))))))))))), (refl, (refl, (refl, (refl, (refl, (refl, tt)))))))

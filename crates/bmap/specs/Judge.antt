@@ -127,7 +127,7 @@ settled d h j names n done (l ∷ laws) =
     next (settle n done new) (λ done′.
     settled d h j names (suc n) done′ laws))
 
--- "Fluents that no law set keep their value"
+-- "Fluents that no law set keep their value"; the settings of one fluent all agree, so the first found is its value
 unfoldable pub levelAfter : List Setting → ℕ → ℤ → ℤ
 levelAfter [] f old = old
 levelAfter (s ∷ rest) f old = if-else (eqb (s .fluent) f) (s .level) (levelAfter rest f old)
@@ -181,7 +181,8 @@ carried d sheet j states (names ∷ rest) =
 abbrev pub startOf : Domain → State
 startOf d = map (λ (f : Fluent). f .start) (d .fluents)
 
--- "Before step 1 the A7 laws are read on state 0 (step 0)"; "none for a fault of A7 at step 0"
+-- the run without its goals, accepted so far. "Before step 1 the A7 laws are read on state 0 (step 0)"; "none for a fault of A7 at
+-- step 0"
 unfoldable pub ran : Domain → List Names → Judged
 ran d sheet =
     judgedAt 0 [] (allHold static 6 d (history d sheet (startOf d ∷ [])) 0)
@@ -194,5 +195,6 @@ goalsAfter d sheet states (broken kind k n) = record { states = states; verdict 
 goalsAfter d sheet states accepted =
     judgedAt (length sheet) states (allHold goal 8 d (history d sheet states) (length sheet)) (λ _. passed states)
 
+-- the run, then the goals
 unfoldable pub judge : Domain → List Names → Judged
 judge d sheet = goalsAfter d sheet (ran d sheet .states) (ran d sheet .verdict)

@@ -38,7 +38,7 @@ inBounds z = both (leZ (negℤ (pos mostValue)) z) (leZ z (pos mostValue))
 unfoldable pub bounded : ℤ → Valued ℤ
 bounded z = if-else (inBounds z) (value z) no-value
 
--- "A zero divisor … gives no value"
+-- "A zero divisor, or any result outside … gives no value"
 abbrev pub unlessZero : ℤ → Valued ℤ → Valued ℤ
 unlessZero (pos zero) v = no-value
 unlessZero (pos (suc n)) v = v

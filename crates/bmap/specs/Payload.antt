@@ -105,12 +105,13 @@ effectIn n p =
     below (n .fluents) rest (λ f rest.
     exprIn (context n true) rest (λ x. last (effect i c f x)))))
 
--- "static law", "concurrency law", "goal": constraint. "Code 29 is refused in A7 and A9"
+-- "Code 29 is refused in A7 and A9": whether a law of the scope may ask for occurrences
 abbrev pub asks : Scope → Bool
 asks static = false
 asks concurrency = true
 asks goal = false
 
+-- "static law: constraint", "concurrency law: constraint", "goal: constraint"
 unfoldable pub mustIn : Scope → Counts → List ℕ → Option Law
 mustIn s n p = conIn (context n (asks s)) p (λ c. last (must s c))
 

@@ -16,7 +16,7 @@ use Rattle.bmap.specs.Judge.{Verdict, accepted, broken, Judged, judge}
 
 -- ---- numbers as text
 
--- the decimal digits of a number; so many are left
+-- the decimal digits of a number, so many at most: a number has fewer digits than its successor counts
 unfoldable pub digitsOf : ℕ → ℕ → List ℕ
 digitsOf zero n = []
 digitsOf (suc left) n =
@@ -59,7 +59,7 @@ refusedText n line = lineOf (text "REFUSED") (decimal n ∷ decimal line ∷ [])
 
 -- ---- the input
 
--- "the sheet begins at the first line starting "B1""
+-- "the sheet begins at the first line starting "B1"": the characters 66 and 49
 abbrev pub startsSheet : List ℕ → Bool
 startsSheet [] = false
 startsSheet (a ∷ []) = false

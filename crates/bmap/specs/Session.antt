@@ -54,7 +54,7 @@ abbrev pub orElse : {A : Type 0} → A → Answer A → A
 orElse a (refused n) = a
 orElse a (got b) = b
 
--- demand 3: "what an empty sheet becomes when the standing edits are done in order"
+-- what an empty sheet becomes when the standing edits are done in order
 unfoldable pub sheetOf : Model → List Names
 sheetOf m = orElse [] (replayed (m .agents) (m .standing) [])
 
@@ -62,7 +62,8 @@ sheetOf m = orElse [] (replayed (m .agents) (m .standing) [])
 abbrev pub opened : Domain → Model
 opened d = record { agents = d .agents; standing = []; undone = [] }
 
--- a newly accepted edit drops the undone ones: "Dropped edits give their log room back". 14: "200 edits stand"
+-- an edit is tried on the sheet as it stands, and the model keeps the edit: the sheet is always the replay. It drops the undone
+-- ones: "Dropped edits give their log room back". "Amending a step to itself is an edit". 14: "200 edits stand"
 unfoldable pub edit : Edit → Model → Answer Model
 edit e m =
     need (ltb (length (m .standing)) mostEdits) 14

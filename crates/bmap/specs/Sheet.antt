@@ -48,7 +48,7 @@ sheetOf agents sheet =
     need (eqb (length sheet % agents) 0) 8
     (need (leb (length sheet / agents) mostSteps) 9 (got (rows agents (length sheet / agents) sheet)))
 
--- "B1: one step of a sheet: a name or 0 (idle) per agent"
+-- B1, "one step of a sheet: a name or 0 (idle) per agent"
 abbrev pub stepLine : Names → List ℕ
 stepLine names = lineFor (record { kind = 0xB1; payload = names })
 

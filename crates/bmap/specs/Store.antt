@@ -88,7 +88,7 @@ startedOn s (refused n) = record { answer = refused n; place = record { store = 
 unfoldable pub start : List ℕ → Started
 start s = startedOn s (domainIn s)
 
--- "the frame given is the stored bytes themselves"; ""no more" with an empty part and stays"
+-- "the frame given is the stored bytes themselves"; an empty part is "no more", and the place stays
 pub record Next : Type 0 where
   pub part : List ℕ
   pub at : ℕ

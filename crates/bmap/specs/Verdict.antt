@@ -16,7 +16,7 @@ pub record Judgement : Type 0 where
   pub answer : Answer Verdict
   pub levels : List ℤ
 
--- "receives the states reached, fluent by fluent"; "writers, judge and verdict touch nothing" where they refuse
+-- "receives the states reached, fluent by fluent", state after state; "writers, judge and verdict touch nothing" where they refuse
 abbrev pub judgement : List ℤ → Answer Judged → Judgement
 judgement levels (refused n) = record { answer = refused n; levels = levels }
 judgement levels (got j) = record { answer = got (j .verdict); levels = over (flat (j .states)) levels }

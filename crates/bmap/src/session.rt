@@ -1,4 +1,5 @@
 // The editing session's bytes, as a terminal program keeps them.
+use crate::Counts;
 use crate::Sheet;
 
 #[repr(C)]
@@ -13,7 +14,7 @@ pub struct Session {
 impl Session {
     pub const EDITS: usize = 200;
     // An edit's kind, its step's number and a name for each of the most agents.
-    pub const EDIT: usize = 18;
+    pub const EDIT: usize = Counts::AGENTS + 2;
 
     pub const LOG: usize = Session::EDITS * Session::EDIT;
 }

@@ -1,15 +1,15 @@
 -- What the promises of the contracts fix: two bytes and their value say the same, and an answer is the only one that keeps its promise.
 use mathlib.Core.Path.{_≡_, refl, ap, _∙_}
 use mathlib.Core.Bool.{Bool, true, false}
-use Prim.Native.Nat.{ℕ, _+_, _-_, _*_, _/_, _%_, _<_, _≤_}
+use Prim.Native.Nat.{ℕ, _-_, _%_, _<_}
 use native.Mathlib.Nat.{div-add-mod'}
 use native.Mathlib.Omega.{arith}
 use lib.Dec.{ltb}
 use lib.IntN.{ℤ, pos, negsuc}
 use lib.Signed.{mag}
-use borrow.Author.Tests.{ltb-true, ltb-false, lt-ltb, le-ltb}
+use borrow.Author.Tests.{lt-ltb, le-ltb}
 use Rattle.bmap.specs.Plain.{if-else}
-use Rattle.bmap.specs.Number.{Valued, value, no-value, with2, bounded, operate, join, word, signed, signedWord, bits, bytesOf, Bytes}
+use Rattle.bmap.specs.Number.{value, no-value, with2, bounded, operate, join, word, signed, signedWord, bits, bytesOf}
 use Rattle.bmap.specs.declared.Operation.the-variants.{Sum, Quotient, Remainder}
 use Rattle.bmap.specs.declared.Junction.the-variants.{Or}
 use Rattle.number.specs.declared.Value.{Value}

@@ -25,13 +25,18 @@ pub enum Truth {
     NoTruth,
 }
 
+impl Value {
+    pub const MOST: i64 = 1_000_000_000;
+    pub const LEAST: i64 = -Value::MOST;
+}
+
 // "any result outside −1,000,000,000 to 1,000,000,000 gives no value". What is inside fits 32 bits, so what one
 // operator makes of two numbers fits the 64 bits in which it is made.
 fn kept(z: i64) -> Value
     ensures { λ r. ⌜ valuedOf r ≡ bounded z ⌝ }
 {
-    if -1_000_000_000 <= z {
-        if z <= 1_000_000_000 {
+    if Value::LEAST <= z {
+        if z <= Value::MOST {
             return Value::Number(z as i32);
         }
     }

@@ -5,7 +5,8 @@ ghost use mathlib.Core.Path.{_≡_};
 ghost use lib.IntN.{pos};
 ghost use lib.ListN.{length, getD};
 ghost use Rattle.bmap.specs.Plain.{text};
-ghost use Rattle.bmap.specs.Program.{decimal, decimalZ, spaced, lineOf};
+ghost use Rattle.bmap.specs.Sheet.{rows};
+ghost use Rattle.bmap.specs.Program.{decimal, decimalZ, spaced, lineOf, stateLines, refusedText};
 ghost use Rattle.answer.specs.Put.{Put};
 
 // Bytes as they are.
@@ -99,4 +100,52 @@ pub fn put_state(out: &mut [u8], at: usize, k: usize, levels: &[i16]) -> usize
     let end = put_levels(out, numbered, levels);
     out[end] = 10;
     end + 1
+}
+
+// One line for each of the first states of a levels buffer.
+pub fn put_states(out: &mut [u8], levels: &[i16], width: usize, count: usize) -> usize
+    requires { ⌜ (width ≤ 32) × (count ≤ 65) × (count * width ≤ length (now levels)) × (232 * count ≤ length (now out)) ⌝ }
+    ensures { λ r. ⌜ Put (now (out .entry)) 0 (stateLines 0 (rows width count (now (levels .entry)))) r (now (out .exit)) ⌝ }
+    ensures { λ r. ⌜ r ≤ 232 * count ⌝ }
+{
+    let mut place: usize = 0;
+    let mut from: usize = 0;
+    let mut k: usize = 0;
+    while k < count {
+        let to = from + width;
+        place = put_state(out, place, k, &levels[from..to]);
+        from = to;
+        k += 1;
+    }
+    place
+}
+
+pub fn put_accepted(out: &mut [u8], at: usize) -> usize
+    requires { ⌜ at + 9 ≤ length (now out) ⌝ }
+    ensures { λ r. ⌜ Put (now (out .entry)) at (lineOf (text "ACCEPTED") []) r (now (out .exit)) ⌝ }
+{
+    put_text(out, at, b"ACCEPTED\n")
+}
+
+pub fn put_broken(out: &mut [u8], at: usize, kind: usize, step: usize, number: usize) -> usize
+    requires { ⌜ (at + 25 ≤ length (now out)) × (kind < 100000) × (step < 100000) × (number < 100000) ⌝ }
+    ensures { λ r. ⌜ Put (now (out .entry)) at (lineOf (text "BROKEN") (decimal kind ∷ decimal step ∷ decimal number ∷ [])) r (now (out .exit)) ⌝ }
+{
+    let word = put_text(out, at, b"BROKEN");
+    let one = put_number(out, word, kind);
+    let two = put_number(out, one, step);
+    let three = put_number(out, two, number);
+    out[three] = 10;
+    three + 1
+}
+
+pub fn put_refused(out: &mut [u8], refusal: usize, line: usize) -> usize
+    requires { ⌜ (20 ≤ length (now out)) × (refusal < 100000) × (line < 100000) ⌝ }
+    ensures { λ r. ⌜ Put (now (out .entry)) 0 (refusedText refusal line) r (now (out .exit)) ⌝ }
+{
+    let word = put_text(out, 0, b"REFUSED");
+    let one = put_number(out, word, refusal);
+    let two = put_number(out, one, line);
+    out[two] = 10;
+    two + 1
 }

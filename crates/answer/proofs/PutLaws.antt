@@ -5,11 +5,11 @@ use mathlib.Core.Bool.{Bool, true, false}
 use mathlib.Core.List.{List, [], _∷_, _++_}
 use native.Mathlib.Omega.{arith}
 use native.Mathlib.Numerals.{add-one}
-use native.Mathlib.Nat.{div-lt-iff-lt-mul, pow-suc, add-assoc, add-zero, add-suc, suc-add}
+use native.Mathlib.Nat.{div-lt-iff-lt-mul, pow-suc, add-assoc, zero-mul, suc-mul, zero-add, add-comm, le-trans, le-antisymm, mul-le-mul-right, add-zero, add-suc, suc-add}
 use native.Mathlib.Decide.{decLt}
 use lib.Dec.{ltb}
-use lib.ListN.{length, set, take, getD, length-append, length-set}
-use lib.Seq.{sets, length-sets, take-suc, take-all}
+use lib.ListN.{length, set, take, drop, getD, length-append, length-set, length-take}
+use lib.Seq.{sets, length-sets, take-suc, take-all, drop-drop}
 use borrow.Author.Tests.{lt-ltb, le-ltb}
 use mathlib.Core.List.{map, map-append, append-nil, append-assoc}
 use lib.IntN.{ℤ, pos, negsuc}
@@ -20,7 +20,8 @@ use mir.Facts.{toZ-ofZ}
 use Rattle.number.proofs.Laws.{back}
 use Rattle.bmap.specs.Plain.{if-else, text}
 use Rattle.bmap.specs.Number.{bits, bytesOf}
-use Rattle.bmap.specs.Program.{digitsOf, decimal, decimalZ, spaced, lineOf}
+use Rattle.bmap.specs.Sheet.{rows}
+use Rattle.bmap.specs.Program.{digitsOf, decimal, decimalZ, spaced, lineOf, stateLines}
 use Rattle.answer.specs.Put.{Put}
 
 pub sets-append : (l : List ℕ) (i : ℕ) (a b : List ℕ) → sets l i (a ++ b) ≡ sets (sets l i a) (i + length a) b
@@ -144,11 +145,57 @@ module _ {buffer new : List ℕ} {at p : ℕ} (levels : List ℤ) {i : ℕ} wher
   pub levels-whole : length levels ≤ i → Put buffer at (spaced (map decimalZ (take i levels))) p new → Put buffer at (spaced (map decimalZ levels)) p new
   levels-whole g x = subst (λ l. Put buffer at (spaced (map decimalZ l)) p new) (take-all i levels g) x
 
+-- words in turn, each after a space
+pub words-more : {buffer one new : List ℕ} {at p q : ℕ} (a b : List (List ℕ)) → Put buffer at (spaced a) p one → Put one p (spaced b) q new → Put buffer at (spaced (a ++ b)) q new
+words-more a b x y = rw (spaced-append a b) (put-then x y)
+
+-- a line: its word, its words and LF
+pub put-line : {buffer one two : List ℕ} {at p q : ℕ} (word : List ℕ) (words : List (List ℕ))
+    → Put buffer at word p one → Put one p (spaced words) q two → Put buffer at (lineOf word words) (q + 1) (set two q 10)
+put-line {two = two} {q = q} word words x y = put-then (put-then x y) (put-byte two q 10)
+
 -- "S", a number, the levels and LF
 pub put-state-line : {buffer two three : List ℕ} {at p q : ℕ} (k : ℕ) (levels : List ℤ)
     → Put (set buffer at 83) (at + 1) (spaced (decimal k ∷ [])) p two → Put two p (spaced (map decimalZ levels)) q three
     → Put buffer at (lineOf (text "S") (decimal k ∷ map decimalZ levels)) (q + 1) (set three q 10)
 unfolding text
-put-state-line {buffer} {three = three} {at} {q = q} k levels x y =
-    let words : Put (set buffer at 83) (at + 1) (spaced (decimal k ∷ map decimalZ levels)) q three = rw (spaced-append (decimal k ∷ []) (map decimalZ levels)) (put-then x y) in
-    put-then (put-byte buffer at 83) (put-then words (put-byte three q 10))
+put-state-line {buffer} {at = at} k levels x y =
+    put-line (text "S") (decimal k ∷ map decimalZ levels) (put-byte buffer at 83) (words-more (decimal k ∷ []) (map decimalZ levels) x y)
+
+-- ---- states in turn
+
+rows-more : (w n : ℕ) (l : List ℤ) → rows w (suc n) l ≡ rows w n l ++ (take w (drop (n * w) l) ∷ [])
+unfolding rows
+rows-more w zero l = rw (zero-mul w)
+rows-more w (suc n) l = ap (λ r. take w l ∷ r) (rows-more w n (drop w l) ∙ ap (λ r. rows w n (drop w l) ++ (take w r ∷ [])) (drop-drop (n * w) w l ∙ ap (λ k. drop k l) (add-comm w (n * w) ∙ sym (suc-mul n w))))
+
+length-rows : (w n : ℕ) (l : List ℤ) → length (rows w n l) ≡ n
+unfolding rows
+length-rows w zero l = refl
+length-rows w (suc n) l = ap suc (length-rows w n (drop w l))
+
+lines-append : (k : ℕ) (a : List (List ℤ)) (s : List ℤ) → stateLines k (a ++ (s ∷ [])) ≡ stateLines k a ++ lineOf (text "S") (decimal (k + length a) ∷ map decimalZ s)
+unfolding stateLines
+lines-append k [] s = rw (add-zero k) (append-nil _)
+lines-append k (x ∷ a) s = ap (λ r. lineOf (text "S") (decimal k ∷ map decimalZ x) ++ r) (lines-append (suc k) a s ∙ ap (λ m. stateLines (suc k) a ++ lineOf (text "S") (decimal m ∷ map decimalZ s)) (suc-add k (length a) ∙ sym (add-suc k (length a)))) ∙ sym (append-assoc (lineOf (text "S") (decimal k ∷ map decimalZ x)) (stateLines (suc k) a) _)
+
+module _ {buffer one new : List ℕ} {p q : ℕ} (w : ℕ) (levels : List ℤ) (k : ℕ) {from : ℕ} where
+  pub states-more : from ≡ k * w → Put buffer 0 (stateLines 0 (rows w k levels)) p one → Put one p (lineOf (text "S") (decimal k ∷ map decimalZ (take (from + w - from) (drop from levels)))) q new
+      → Put buffer 0 (stateLines 0 (rows w (k + 1) levels)) q new
+  states-more e x y =
+      let whole : from + w - from ≡ w = omega arith in
+      let line : Put one p (lineOf (text "S") (decimal (0 + length (rows w k levels)) ∷ map decimalZ (take w (drop (k * w) levels)))) q new = rw (length-rows w k levels, zero-add k, ← e) (subst (λ m. Put one p (lineOf (text "S") (decimal k ∷ map decimalZ (take m (drop from levels)))) q new) whole y) in
+      rw (add-one k, rows-more w k levels, lines-append 0 (rows w k levels) (take w (drop (k * w) levels))) (put-then x line)
+
+-- the first states lie within the levels
+pub within : (w k n : ℕ) {from m : ℕ} → from ≡ k * w → k < n → n * w ≤ m → from + w ≤ m
+within w k n e h g = le-trans (subst (λ x. x + w ≤ n * w) (sym e) (subst (λ x. x ≤ n * w) (suc-mul k w) (mul-le-mul-right w h))) g
+
+pub next-from : (w k : ℕ) {from : ℕ} → from ≡ k * w → from + w ≡ (k + 1) * w
+next-from w k e = ap (λ x. x + w) e ∙ sym (suc-mul k w) ∙ ap (λ x. x * w) (sym (add-one k))
+
+pub part-short : (from w : ℕ) (l : List ℤ) → length (take (from + w - from) (drop from l)) ≤ w
+part-short from w l = simp length-take (omega arith)
+
+pub states-whole : {buffer new : List ℕ} {p : ℕ} (w : ℕ) (levels : List ℤ) (k count : ℕ) → k ≤ count → count ≤ k → Put buffer 0 (stateLines 0 (rows w k levels)) p new → Put buffer 0 (stateLines 0 (rows w count levels)) p new
+states-whole {buffer} {new} {p} w levels k count h g x = subst (λ n. Put buffer 0 (stateLines 0 (rows w n levels)) p new) (le-antisymm h g) x

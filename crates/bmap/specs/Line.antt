@@ -16,17 +16,17 @@ pub record Line : Type 0 where
 abbrev pub lineFeed : ℕ
 lineFeed = 10
 
-abbrev ended : Line
-ended = record { digits = []; ended = true }
+abbrev pub emptyLine : Line
+emptyLine = record { digits = []; ended = true }
 
 -- a character before the first of the lines, where there is one
-abbrev before : ℕ → List Line → List Line
+abbrev pub before : ℕ → List Line → List Line
 before c [] = record { digits = c ∷ []; ended = false } ∷ []
 before c (l ∷ lines) = record { digits = c ∷ l .digits; ended = l .ended } ∷ lines
 
 unfoldable pub linesOf : List ℕ → List Line
 linesOf [] = []
-linesOf (c ∷ rest) = if-else (eqb c lineFeed) (ended ∷ linesOf rest) (before c (linesOf rest))
+linesOf (c ∷ rest) = if-else (eqb c lineFeed) (emptyLine ∷ linesOf rest) (before c (linesOf rest))
 
 -- "digits 0-9 A-F"
 unfoldable pub digit : ℕ → Answer ℕ

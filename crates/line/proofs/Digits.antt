@@ -10,35 +10,39 @@ use mathlib.Core.List.{List, [], _∷_, _++_, append-nil, append-assoc}
 use lib.Dec.{T, eqb, leb, ltb, eqb→eq}
 use lib.ListN.{length, getD, take, drop, set, replicate, drop-of-length-le, length-drop, length-append, length-set, take-append-drop}
 use lib.Seq.{drop-cons, length-take-le, take-suc-set, drop-set-lt, drop-drop}
-use borrow.Author.Tests.{leb-true, ltb-true, ltb-false, le-leb, lt-leb, lt-ltb, le-ltb}
-use Rattle.bmap.specs.Plain.{both, if-else, numbers}
+use borrow.Author.Tests.{ne-eqb, leb-true, ltb-true, ltb-false, le-leb, lt-leb, lt-ltb, le-ltb}
+use Rattle.bmap.specs.Plain.{both, either, if-else, any}
 use Rattle.bmap.specs.Refusal.{Answer, got, refused, then}
 use Rattle.bmap.specs.Line.{digit, digitFor}
 use Rattle.bmap.specs.Buffer.{over}
 use Rattle.line.specs.Read.{worth, pair, pairOf, andThen, spelt}
 use Rattle.line.proofs.Table.{at}
 
--- ---- the two tables
+-- ---- what is no digit
 
-abbrev pub values : List ℕ
-values = replicate 48 256 ++ (numbers 0 10 ++ (replicate 7 256 ++ (numbers 10 6 ++ replicate 185 256)))
+-- the digits, from the last
+abbrev pub characters : List ℕ
+characters = 70 ∷ 69 ∷ 68 ∷ 67 ∷ 66 ∷ 65 ∷ 57 ∷ 56 ∷ 55 ∷ 54 ∷ 53 ∷ 52 ∷ 51 ∷ 50 ∷ 49 ∷ 48 ∷ []
 
-value-right : ℕ → ℕ → Bool
-value-right c x = eqb x (worth (digit c))
+-- c is none of the numbers, as the last arm of a `match` has it
+abbrev pub Apart : ℕ → List ℕ → Type 0
+Apart c [] = Unit {0}
+Apart c (k ∷ l) = Apart c l × (c ≡ k → ⊥)
 
-pub value-at : (c : ℕ) → c < 256 → getD values c 0 ≡ worth (digit c)
-unfolding numbers value-right digit
-value-at c h = eqb→eq (getD values c 0) (worth (digit c)) (at value-right values tt c h)
+apart-none : (c : ℕ) (l : List ℕ) → Apart c l → any (eqb c) l ≡ false
+unfolding any
+apart-none c [] a = refl
+apart-none c (k ∷ l) a = simp (ne-eqb c k (a .1)) (apart-none c l (a .0))
 
-abbrev pub digits : List ℕ
-digits = numbers 48 10 ++ numbers 65 6
+listed : ℕ → ℕ → Bool
+listed c x = either (any (eqb c) characters) (eqb (worth (digit c)) 256)
 
-digit-right : ℕ → ℕ → Bool
-digit-right d x = eqb x (digitFor d)
-
-pub digit-at : (d : ℕ) → d < 16 → getD digits d 0 ≡ digitFor d
-unfolding numbers digit-right digitFor
-digit-at d h = eqb→eq (getD digits d 0) (digitFor d) (at digit-right digits tt d h)
+pub no-digit : (c : ℕ) → c < 256 → Apart c characters → worth (digit c) ≡ 256
+unfolding listed any digit
+no-digit c h a =
+    let t : T (either (any (eqb c) characters) (eqb (worth (digit c)) 256)) = at listed (replicate 256 0) tt c h in
+    let u : T (eqb (worth (digit c)) 256) = rw (apart-none c characters a) at t in
+    eqb→eq (worth (digit c)) 256 u
 
 -- ---- a digit
 

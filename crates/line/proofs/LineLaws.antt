@@ -297,11 +297,11 @@ module _ (s : List ℕ) (n count more : ℕ) (h : Begins s n count) (full : fram
 
 -- ---- what a line that decodes says
 
-need-got : {A : Type 0} (b : Bool) (n : ℕ) (y : Answer A) (a : A) → need b n y ≡ got a → (b ≡ true) × (y ≡ got a)
+pub need-got : {A : Type 0} (b : Bool) (n : ℕ) (y : Answer A) (a : A) → need b n y ≡ got a → (b ≡ true) × (y ≡ got a)
 need-got true n y a e = (refl, e)
 need-got false n y a e = absurd (let z : _≡_ {A = ℕ} 0 1 = cc in omega arith)
 
-then-got-inv : {A B : Type 0} (y : Answer A) (f : A → Answer B) (b : B) → then y f ≡ got b → (a : A) × (y ≡ got a) × (f a ≡ got b)
+pub then-got-inv : {A B : Type 0} (y : Answer A) (f : A → Answer B) (b : B) → then y f ≡ got b → (a : A) × (y ≡ got a) × (f a ≡ got b)
 then-got-inv (got a) f b e = (a, refl, e)
 then-got-inv (refused n) f b e = absurd (let z : _≡_ {A = ℕ} 0 1 = cc in omega arith)
 
@@ -435,6 +435,11 @@ text-line (c ∷ s) l ls f e d =
       text-first (c ∷ s) ke ∙ ap (λ (x : List ℕ). x ++ (lineFeed ∷ after (c ∷ s))) kf ∙ sym (append-assoc (hex (stored f)) (lineFeed ∷ []) (after (c ∷ s))),
       sym ht,
     )
+
+-- a text without lines is empty
+pub no-lines : (s : List ℕ) → linesOf s ≡ [] → s ≡ []
+no-lines [] e = refl
+no-lines (c ∷ s) e = absurd (let h = lines-first c s in let z : _≡_ {A = ℕ} 0 1 = cc in omega arith)
 
 -- ---- for callers of `read_line`
 

@@ -61,6 +61,9 @@ module _ (kind : ℕ) (p out : List ℕ) where
   unfolding lineWritten
   put-all h k = simp (le-leb (length p) mostPayload h, length-line kind p, le-leb (2 * length p + 5) (length out) k) (refl, refl)
 
+  pub put-in-room : length p ≤ mostPayload → 2 * length p + 5 ≤ length out → lineWritten kind p out .buffer ≡ over (lineFor (record { kind = kind; payload = p })) out
+  put-in-room h k = sym (put-all h k .1)
+
   -- the head's digits, the payload's digits after them, and the LF
   line-laid : (a b : List ℕ) → 2 * length p + 5 ≤ length out → a ≡ over (hex (kind ∷ length p ∷ [])) out → b ≡ over (hex p) (take (length a - 4) (drop 4 a))
       → set (take 4 a ++ (b ++ drop (length a - 4) (drop 4 a))) (2 * length p + 5 - 1) 10 ≡ over (lineFor (record { kind = kind; payload = p })) out

@@ -1,30 +1,8 @@
 // Digits: the value of a character, and the character of a value.
 ghost use mathlib.Core.Path.{_≡_};
-ghost use Prim.Native.Nat.{_/_, _%_};
+ghost use Prim.Native.Nat.{_/_, _%_, _<_};
 ghost use Rattle.bmap.specs.Line.{digit, digitFor};
 ghost use Rattle.line.specs.Read.{pairOf, worth};
-
-// The value of each character, 256 for those that are no digit: so a pair is above 255 where one of its two is none.
-const VALUES: [u16; 256] = [
-    256, 256, 256, 256, 256, 256, 256, 256, 256, 256, 256, 256, 256, 256, 256, 256,
-    256, 256, 256, 256, 256, 256, 256, 256, 256, 256, 256, 256, 256, 256, 256, 256,
-    256, 256, 256, 256, 256, 256, 256, 256, 256, 256, 256, 256, 256, 256, 256, 256,
-    0, 1, 2, 3, 4, 5, 6, 7, 8, 9, 256, 256, 256, 256, 256, 256,
-    256, 10, 11, 12, 13, 14, 15, 256, 256, 256, 256, 256, 256, 256, 256, 256,
-    256, 256, 256, 256, 256, 256, 256, 256, 256, 256, 256, 256, 256, 256, 256, 256,
-    256, 256, 256, 256, 256, 256, 256, 256, 256, 256, 256, 256, 256, 256, 256, 256,
-    256, 256, 256, 256, 256, 256, 256, 256, 256, 256, 256, 256, 256, 256, 256, 256,
-    256, 256, 256, 256, 256, 256, 256, 256, 256, 256, 256, 256, 256, 256, 256, 256,
-    256, 256, 256, 256, 256, 256, 256, 256, 256, 256, 256, 256, 256, 256, 256, 256,
-    256, 256, 256, 256, 256, 256, 256, 256, 256, 256, 256, 256, 256, 256, 256, 256,
-    256, 256, 256, 256, 256, 256, 256, 256, 256, 256, 256, 256, 256, 256, 256, 256,
-    256, 256, 256, 256, 256, 256, 256, 256, 256, 256, 256, 256, 256, 256, 256, 256,
-    256, 256, 256, 256, 256, 256, 256, 256, 256, 256, 256, 256, 256, 256, 256, 256,
-    256, 256, 256, 256, 256, 256, 256, 256, 256, 256, 256, 256, 256, 256, 256, 256,
-    256, 256, 256, 256, 256, 256, 256, 256, 256, 256, 256, 256, 256, 256, 256, 256,
-];
-
-const DIGITS: [u8; 16] = [48, 49, 50, 51, 52, 53, 54, 55, 56, 57, 65, 66, 67, 68, 69, 70];
 
 // The byte that two digits spell; above 255 where one is no digit.
 pub fn pair(high: u8, low: u8) -> u16
@@ -33,21 +11,51 @@ pub fn pair(high: u8, low: u8) -> u16
     value(high) * 16 + value(low)
 }
 
+// The value of a digit, 256 for what is none. A `match` on single numbers is compiled to a table that only is read; a constant
+// array would be copied at each use.
 fn value(c: u8) -> u16
     ensures { λ r. ⌜ r ≡ worth (digit c) ⌝ }
 {
-    VALUES[c as usize]
+    match c {
+        48 => 0,
+        49 => 1,
+        50 => 2,
+        51 => 3,
+        52 => 4,
+        53 => 5,
+        54 => 6,
+        55 => 7,
+        56 => 8,
+        57 => 9,
+        65 => 10,
+        66 => 11,
+        67 => 12,
+        68 => 13,
+        69 => 14,
+        70 => 15,
+        _ => 256,
+    }
 }
 
 // The two digits of a byte.
 pub fn high_digit(b: u8) -> u8
     ensures { λ r. ⌜ r ≡ digitFor (b / 16) ⌝ }
 {
-    DIGITS[(b / 16) as usize]
+    digit_for(b / 16)
 }
 
 pub fn low_digit(b: u8) -> u8
     ensures { λ r. ⌜ r ≡ digitFor (b % 16) ⌝ }
 {
-    DIGITS[(b % 16) as usize]
+    digit_for(b % 16)
+}
+
+fn digit_for(value: u8) -> u8
+    requires { ⌜ value < 16 ⌝ }
+    ensures { λ r. ⌜ r ≡ digitFor value ⌝ }
+{
+    if value < 10 {
+        return value + 48;
+    }
+    value + 55
 }

@@ -36,11 +36,11 @@ pub fn put_digits(out: &mut [u8], at: usize, n: usize) -> usize
     last + 1
 }
 
-// A space, and the decimal digits of a number below 100,000.
+// A space, and the decimal digits of a number.
 pub fn put_number(out: &mut [u8], at: usize, n: usize) -> usize
-    requires { ⌜ (at + 6 ≤ length (now out)) × (n < 100000) ⌝ }
+    requires { ⌜ at + 21 ≤ length (now out) ⌝ }
     ensures { λ r. ⌜ Put (now (out .entry)) at (spaced (decimal n ∷ [])) r (now (out .exit)) ⌝ }
-    ensures { λ r. ⌜ r ≤ at + 6 ⌝ }
+    ensures { λ r. ⌜ r ≤ at + 21 ⌝ }
 {
     out[at] = 32;
     put_digits(out, at + 1, n)
@@ -54,10 +54,10 @@ pub fn put_level(out: &mut [u8], at: usize, level: i16) -> usize
 {
     let two = number::bytes_of(level);
     let bits = wide(two.high) * 256 + wide(two.low);
-    if bits < 32_768 {
-        return put_number(out, at, bits);
-    }
     out[at] = 32;
+    if bits < 32_768 {
+        return put_digits(out, at + 1, bits);
+    }
     out[at + 1] = 45;
     put_digits(out, at + 2, 65_536 - bits)
 }
@@ -91,9 +91,9 @@ pub fn put_levels(out: &mut [u8], at: usize, levels: &[i16]) -> usize
 
 // "S", the number of a state and its levels.
 pub fn put_state(out: &mut [u8], at: usize, k: usize, levels: &[i16]) -> usize
-    requires { ⌜ (at + 8 + 7 * length (now levels) ≤ length (now out)) × (k < 100000) ⌝ }
+    requires { ⌜ at + 24 + 7 * length (now levels) ≤ length (now out) ⌝ }
     ensures { λ r. ⌜ Put (now (out .entry)) at (lineOf (text "S") (decimal k ∷ map decimalZ (now (levels .entry)))) r (now (out .exit)) ⌝ }
-    ensures { λ r. ⌜ r ≤ at + (8 + 7 * length (now (levels .entry))) ⌝ }
+    ensures { λ r. ⌜ r ≤ at + (24 + 7 * length (now (levels .entry))) ⌝ }
 {
     out[at] = 83;
     let numbered = put_number(out, at + 1, k);
@@ -104,9 +104,9 @@ pub fn put_state(out: &mut [u8], at: usize, k: usize, levels: &[i16]) -> usize
 
 // One line for each of the first states of a levels buffer.
 pub fn put_states(out: &mut [u8], levels: &[i16], width: usize, count: usize) -> usize
-    requires { ⌜ (width ≤ 32) × (count ≤ 65) × (count * width ≤ length (now levels)) × (232 * count ≤ length (now out)) ⌝ }
+    requires { ⌜ (width ≤ 32) × (count ≤ 65) × (count * width ≤ length (now levels)) × (248 * count ≤ length (now out)) ⌝ }
     ensures { λ r. ⌜ Put (now (out .entry)) 0 (stateLines 0 (rows width count (now (levels .entry)))) r (now (out .exit)) ⌝ }
-    ensures { λ r. ⌜ r ≤ 232 * count ⌝ }
+    ensures { λ r. ⌜ r ≤ 248 * count ⌝ }
 {
     let mut place: usize = 0;
     let mut from: usize = 0;
@@ -128,7 +128,7 @@ pub fn put_accepted(out: &mut [u8], at: usize) -> usize
 }
 
 pub fn put_broken(out: &mut [u8], at: usize, kind: usize, step: usize, number: usize) -> usize
-    requires { ⌜ (at + 25 ≤ length (now out)) × (kind < 100000) × (step < 100000) × (number < 100000) ⌝ }
+    requires { ⌜ at + 70 ≤ length (now out) ⌝ }
     ensures { λ r. ⌜ Put (now (out .entry)) at (lineOf (text "BROKEN") (decimal kind ∷ decimal step ∷ decimal number ∷ [])) r (now (out .exit)) ⌝ }
 {
     let word = put_text(out, at, b"BROKEN");
@@ -140,7 +140,7 @@ pub fn put_broken(out: &mut [u8], at: usize, kind: usize, step: usize, number: u
 }
 
 pub fn put_refused(out: &mut [u8], refusal: usize, line: usize) -> usize
-    requires { ⌜ (20 ≤ length (now out)) × (refusal < 100000) × (line < 100000) ⌝ }
+    requires { ⌜ 50 ≤ length (now out) ⌝ }
     ensures { λ r. ⌜ Put (now (out .entry)) 0 (refusedText refusal line) r (now (out .exit)) ⌝ }
 {
     let word = put_text(out, 0, b"REFUSED");

@@ -13,13 +13,13 @@ add-put-digits : tie.Need-add-put-digits
 add-put-digits c = search needs
 
 put-digits-requires : tie.Need-put-digits-requires
-put-digits-requires c κs = simp length-set (omega (arith, length-below 4 _ (c .before .before .pre .1)))
+put-digits-requires c κs = simp length-set (omega (arith, length-below 19 (c .before .before .args .n) (omega arith)))
 
 same-length : tie.Need-same-length
 same-length c = put-length (c .before .before .put-digits .ensures) ∙ simp length-set
 
 returns : tie.Need-returns
-returns c = (put-space _ (c .before .before .put-digits .ensures), omega (arith, c .before .before .put-digits .ensures .place, length-below 4 _ (c .before .before .before .before .before .pre .1)))
+returns c = (put-space _ (c .before .before .put-digits .ensures), omega (arith, c .before .before .put-digits .ensures .place, length-below 19 (c .before .before .before .before .before .args .n) (omega arith)))
 
 pub put-number-spec : {M : Type 1} → statement M
 put-number-spec =

@@ -13,7 +13,7 @@ add-put-number : tie.Need-add-put-number
 add-put-number c = search needs
 
 put-number-requires : tie.Need-put-number-requires
-put-number-requires c κs = (simp length-set (omega arith), c .before .before .pre .1)
+put-number-requires c κs = simp length-set (omega arith)
 
 put-levels-requires : tie.Need-put-levels-requires
 put-levels-requires c κs = omega (arith, simp length-set at (put-length (c .before .before .before .put-number .ensures .0)))

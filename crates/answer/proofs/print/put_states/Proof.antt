@@ -13,7 +13,7 @@ use Rattle.answer.proofs.print.put_states.Tie as tie
 
 abbrev Inv-loop : tie.InvT-loop
 Inv-loop out₀ levels width count place₀ from₀ k₀ out place from k =
-    (k ≤ count) × (from ≡ k * width) × (place ≤ 232 * k) × Put out₀ 0 (stateLines 0 (rows width k levels)) place out
+    (k ≤ count) × (from ≡ k * width) × (place ≤ 248 * k) × Put out₀ 0 (stateLines 0 (rows width k levels)) place out
 
 abbrev μ-loop : tie.MeasureT-loop
 μ-loop out₀ levels width count place₀ from₀ k₀ out place from k = count - k

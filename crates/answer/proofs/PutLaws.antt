@@ -112,8 +112,8 @@ module _ (z : ℤ) {a b high low : ℕ} (f : SFits w16 z) (x : a ≡ high) (y : 
       below (negsuc k) n q g h = ap (λ m. 45 ∷ decimal m) (omega arith)
 
   module _ {buffer new : List ℕ} {at p : ℕ} where
-    pub put-above : a * 256 + b < 32_768 → Put buffer at (spaced (decimal (a * 256 + b) ∷ [])) p new → Put buffer at (spaced (decimalZ z ∷ [])) p new
-    put-above h put = subst (λ w. Put buffer at (spaced (w ∷ [])) p new) (level-above h) put
+    pub put-above : a * 256 + b < 32_768 → Put (set buffer at 32) (at + 1) (decimal (a * 256 + b)) p new → Put buffer at (spaced (decimalZ z ∷ [])) p new
+    put-above h put = put-space (decimalZ z) (subst (λ w. Put (set buffer at 32) (at + 1) w p new) (level-above h) put)
 
     pub put-below : 32_768 ≤ a * 256 + b → Put (set (set buffer at 32) (at + 1) 45) (at + 2) (decimal (65_536 - (a * 256 + b))) p new → Put buffer at (spaced (decimalZ z ∷ [])) p new
     put-below h put = put-space (decimalZ z) (subst (λ w. Put (set buffer at 32) (at + 1) w p new) (level-below h) (put-then (put-byte (set buffer at 32) (at + 1) 45) (rw (add-assoc at 1 1) put)))

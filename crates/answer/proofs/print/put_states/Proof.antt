@@ -39,7 +39,7 @@ part-put-state-end c = within _ _ _ (c .before .before .loop .inv .1) (c .before
 
 put-state-requires : tie.Need-put-state-requires Inv-loop μ-loop
 put-state-requires c κs =
-    (omega (arith, part-short (c .before .before .before .loop .from) (c .before .before .before .before .before .args .width) (c .before .before .before .before .before .args .levels .now), put-length (c .before .before .before .loop .inv .3)), omega arith)
+    omega (arith, part-short (c .before .before .before .loop .from) (c .before .before .before .before .before .args .width) (c .before .before .before .before .before .args .levels .now), put-length (c .before .before .before .loop .inv .3))
 
 add-k : tie.Need-add-k Inv-loop μ-loop
 add-k c = omega arith

@@ -1,0 +1,151 @@
+// Numbers and lines as text, written from a place of a buffer on; each function returns the place after what it wrote.
+ghost use Prim.Native.Nat.{_+_, _*_, _≤_, _<_};
+ghost use mathlib.Core.List.{map, _∷_, []};
+ghost use mathlib.Core.Path.{_≡_};
+ghost use lib.IntN.{pos};
+ghost use lib.ListN.{length, getD};
+ghost use Rattle.bmap.specs.Plain.{text};
+ghost use Rattle.bmap.specs.Sheet.{rows};
+ghost use Rattle.bmap.specs.Program.{decimal, decimalZ, spaced, lineOf, stateLines, refusedText};
+ghost use Rattle.answer.specs.Put.{Put};
+
+// Bytes as they are.
+pub fn put_text(out: &mut [u8], at: usize, word: &[u8]) -> usize
+    requires { ⌜ at + length (now word) ≤ length (now out) ⌝ }
+    ensures { λ r. ⌜ Put (now (out .entry)) at (now (word .entry)) r (now (out .exit)) ⌝ }
+{
+    let mut i: usize = 0;
+    while i < word.len() {
+        out[at + i] = word[i];
+        i += 1;
+    }
+    at + i
+}
+
+// The decimal digits of n.
+pub fn put_digits(out: &mut [u8], at: usize, n: usize) -> usize
+    requires { ⌜ at + length (decimal n) ≤ length (now out) ⌝ }
+    ensures { λ r. ⌜ Put (now (out .entry)) at (decimal n) r (now (out .exit)) ⌝ }
+{
+    if n < 10 {
+        out[at] = 48 + (n % 10) as u8;
+        return at + 1;
+    }
+    let last = put_digits(out, at, n / 10);
+    out[last] = 48 + (n % 10) as u8;
+    last + 1
+}
+
+// A space, and the decimal digits of a number.
+pub fn put_number(out: &mut [u8], at: usize, n: usize) -> usize
+    requires { ⌜ at + 21 ≤ length (now out) ⌝ }
+    ensures { λ r. ⌜ Put (now (out .entry)) at (spaced (decimal n ∷ [])) r (now (out .exit)) ⌝ }
+    ensures { λ r. ⌜ r ≤ at + 21 ⌝ }
+{
+    out[at] = 32;
+    put_digits(out, at + 1, n)
+}
+
+// A space, and a level with its sign: two's complement bits from 32,768 on stand for what is missing to 65,536.
+pub fn put_level(out: &mut [u8], at: usize, level: i16) -> usize
+    requires { ⌜ at + 7 ≤ length (now out) ⌝ }
+    ensures { λ r. ⌜ Put (now (out .entry)) at (spaced (decimalZ level ∷ [])) r (now (out .exit)) ⌝ }
+    ensures { λ r. ⌜ r ≤ at + 7 ⌝ }
+{
+    let two = number::bytes_of(level);
+    let bits = wide(two.high) * 256 + wide(two.low);
+    out[at] = 32;
+    if bits < 32_768 {
+        return put_digits(out, at + 1, bits);
+    }
+    out[at + 1] = 45;
+    put_digits(out, at + 2, 65_536 - bits)
+}
+
+fn wide(x: u8) -> usize
+    ensures { λ r. ⌜ r ≡ x ⌝ }
+{
+    x as usize
+}
+
+fn level(levels: &[i16], i: usize) -> i16
+    ensures { λ r. ⌜ r ≡ getD (now (levels .entry)) i (pos 0) ⌝ }
+{
+    if i < levels.len() { levels[i] } else { 0 }
+}
+
+// Levels, each after a space.
+pub fn put_levels(out: &mut [u8], at: usize, levels: &[i16]) -> usize
+    requires { ⌜ at + 7 * length (now levels) ≤ length (now out) ⌝ }
+    ensures { λ r. ⌜ Put (now (out .entry)) at (spaced (map decimalZ (now (levels .entry)))) r (now (out .exit)) ⌝ }
+    ensures { λ r. ⌜ r ≤ at + 7 * length (now (levels .entry)) ⌝ }
+{
+    let mut place = at;
+    let mut i: usize = 0;
+    while i < levels.len() {
+        place = put_level(out, place, level(levels, i));
+        i += 1;
+    }
+    place
+}
+
+// "S", the number of a state and its levels.
+pub fn put_state(out: &mut [u8], at: usize, k: usize, levels: &[i16]) -> usize
+    requires { ⌜ at + 24 + 7 * length (now levels) ≤ length (now out) ⌝ }
+    ensures { λ r. ⌜ Put (now (out .entry)) at (lineOf (text "S") (decimal k ∷ map decimalZ (now (levels .entry)))) r (now (out .exit)) ⌝ }
+    ensures { λ r. ⌜ r ≤ at + (24 + 7 * length (now (levels .entry))) ⌝ }
+{
+    out[at] = 83;
+    let numbered = put_number(out, at + 1, k);
+    let end = put_levels(out, numbered, levels);
+    out[end] = 10;
+    end + 1
+}
+
+// One line for each of the first states of a levels buffer.
+pub fn put_states(out: &mut [u8], levels: &[i16], width: usize, count: usize) -> usize
+    requires { ⌜ (width ≤ 32) × (count ≤ 65) × (count * width ≤ length (now levels)) × (248 * count ≤ length (now out)) ⌝ }
+    ensures { λ r. ⌜ Put (now (out .entry)) 0 (stateLines 0 (rows width count (now (levels .entry)))) r (now (out .exit)) ⌝ }
+    ensures { λ r. ⌜ r ≤ 248 * count ⌝ }
+{
+    let mut place: usize = 0;
+    let mut from: usize = 0;
+    let mut k: usize = 0;
+    while k < count {
+        let to = from + width;
+        place = put_state(out, place, k, &levels[from..to]);
+        from = to;
+        k += 1;
+    }
+    place
+}
+
+pub fn put_accepted(out: &mut [u8], at: usize) -> usize
+    requires { ⌜ at + 9 ≤ length (now out) ⌝ }
+    ensures { λ r. ⌜ Put (now (out .entry)) at (lineOf (text "ACCEPTED") []) r (now (out .exit)) ⌝ }
+{
+    put_text(out, at, b"ACCEPTED\n")
+}
+
+pub fn put_broken(out: &mut [u8], at: usize, kind: usize, step: usize, number: usize) -> usize
+    requires { ⌜ at + 70 ≤ length (now out) ⌝ }
+    ensures { λ r. ⌜ Put (now (out .entry)) at (lineOf (text "BROKEN") (decimal kind ∷ decimal step ∷ decimal number ∷ [])) r (now (out .exit)) ⌝ }
+{
+    let word = put_text(out, at, b"BROKEN");
+    let one = put_number(out, word, kind);
+    let two = put_number(out, one, step);
+    let three = put_number(out, two, number);
+    out[three] = 10;
+    three + 1
+}
+
+pub fn put_refused(out: &mut [u8], refusal: usize, line: usize) -> usize
+    requires { ⌜ 50 ≤ length (now out) ⌝ }
+    ensures { λ r. ⌜ Put (now (out .entry)) 0 (refusedText refusal line) r (now (out .exit)) ⌝ }
+{
+    let word = put_text(out, 0, b"REFUSED");
+    let one = put_number(out, word, refusal);
+    let two = put_number(out, one, line);
+    out[two] = 10;
+    two + 1
+}

@@ -4,6 +4,7 @@ use bmap::Counts;
 ghost use mathlib.Core.Path.{_≡_};
 ghost use Prim.Native.Nat.{_<_};
 ghost use lib.Signed.{leZ};
+ghost use Rattle.bmap.specs.Limits.{mostPayload};
 ghost use Rattle.bmap.specs.Payload.{byte, wordAt, valueAt, maskFits, agentsFit, fluentFits, knowledgeFits, entryFits, itemIn};
 ghost use Rattle.domain.specs.Check.{isSome};
 
@@ -15,14 +16,14 @@ pub(crate) fn byte_at(p: &[u8], i: usize) -> u8
 
 // Two bytes, high byte first.
 pub(crate) fn word_at(p: &[u8], i: usize) -> u16
-    requires { ⌜ i < 120 ⌝ }
+    requires { ⌜ i < mostPayload ⌝ }
     ensures { λ r. ⌜ r ≡ wordAt (now (p .entry)) i ⌝ }
 {
     byte_at(p, i) as u16 * 256 + byte_at(p, i + 1) as u16
 }
 
 pub(crate) fn value_at(p: &[u8], i: usize) -> i16
-    requires { ⌜ i < 120 ⌝ }
+    requires { ⌜ i < mostPayload ⌝ }
     ensures { λ r. ⌜ r ≡ valueAt (now (p .entry)) i ⌝ }
 {
     number::signed_word(byte_at(p, i), byte_at(p, i + 1))

@@ -365,3 +365,19 @@ store-again s out buffer d b e h r =
 -- into a buffer as long as the store, they are the same bytes
 pub same-store : (s out buffer : List ℕ) (a : Again s out buffer) → length buffer ≡ length s → readDomain (take (a .characters) (writeDomain s out .buffer)) buffer .buffer ≡ s
 same-store s out buffer a e = ap (λ (f : Filled). f .buffer) (a .reads) ∙ ap (λ (n : ℕ). padded n (take (a .used) s)) e ∙ sym (a .whole)
+
+-- ---- THE STORE THAT THE READER LEAVES HOLDS THE DOMAIN THAT IT READ
+
+pub record Kept (text store : List ℕ) : Type 0 where
+  pub domain : Domain
+  pub reads : reading text ≡ read domain
+  pub holds : domainIn (readDomain text store .buffer) ≡ got domain
+
+pub kept : (text store : List ℕ) (n : ℕ) → readDomain text store .answer ≡ read n → Kept text store
+kept text store n e =
+    let g = was-got text store n e in
+    record {
+      domain = g .domain;
+      reads = ap taken (g .are) ∙ g .reads;
+      holds = ap domainIn (g .left) ∙ filled-domain (g .frames) (length store - length (flat (map stored (g .frames)))) (g .domain) (g .fine) (g .reads);
+    }

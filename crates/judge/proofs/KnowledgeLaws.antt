@@ -18,7 +18,8 @@ use Rattle.bmap.specs.Code.{Parsed, parseC}
 use Rattle.bmap.specs.Domain.{Domain, Knows, Entry, Law, executable, effect, must, has, knows, knownTo, readable, entryAt}
 use Rattle.bmap.specs.Payload.{context}
 use Rattle.bmap.specs.Accept.{countsOf}
-use Rattle.law.specs.Names.{bit, namesOnly}
+use Rattle.law.specs.Mask.{bit}
+use Rattle.law.specs.Names.{namesOnly}
 use Rattle.judge.specs.Masks.{unionFrom, maskFrom}
 use Rattle.judge.specs.Told.{Says, Knowing, ownerOf}
 use Rattle.judge.proofs.MaskLaws.{mask-bit, union-bit, any-same, any-map, shares, cut-bit}

@@ -18,7 +18,7 @@ use Rattle.bmap.specs.Domain.{Domain, Names, Law, executable, effect, must, ent
 use Rattle.bmap.specs.Payload.{context, asks}
 use Rattle.bmap.specs.Accept.{countsOf}
 use Rattle.bmap.specs.Judge.{Setting, setsIf, sets}
-use Rattle.law.specs.Names.{bit}
+use Rattle.law.specs.Mask.{bit}
 use Rattle.law.specs.Evaluate.{historyOf, Meant, malformed, gives, valueAt, truthAt, evaluated, judged}
 use Rattle.law.specs.declared.eval.Evaluated.{Evaluated}
 use Rattle.law.specs.declared.eval.Evaluated.the-variants as value-as

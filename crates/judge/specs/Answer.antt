@@ -1,11 +1,16 @@
 -- The paper's number and values of each answer.
 use Prim.Native.Nat.{ℕ}
-use Rattle.bmap.specs.Refusal.{Answer, got, refused, numberOf}
+use lib.Dec.{leb}
+use lib.ListN.{length}
+use Rattle.bmap.specs.Limits.{levelsSize}
+use Rattle.bmap.specs.Refusal.{Answer, got, refused, need, then, numberOf}
+use Rattle.bmap.specs.Store.{domainIn}
+use Rattle.bmap.specs.Sheet.{sheetOf}
 use mathlib.Core.List.{List}
 use mathlib.Core.Option.{Option, none, some}
 use lib.IntN.{ℤ}
 use Rattle.bmap.specs.Number.{Valued, value, no-value}
-use Rattle.bmap.specs.Judge.{Pass, pass, Checked, fine, fault, Setting, accepted, broken}
+use Rattle.bmap.specs.Judge.{judge, Pass, pass, Checked, fine, fault, Setting, accepted, broken}
 use Rattle.bmap.specs.Judge as paper
 use Rattle.judge.specs.declared.verdict.Fault.{Fault}
 use Rattle.judge.specs.declared.verdict.Fault.the-variants.{Misplaced, Barred, Concurrency, Conflict, Range, Static, NoValue, Goal}
@@ -46,3 +51,17 @@ abbrev pub wantsOf : Wants → Valued (Option Setting)
 wantsOf Blank = no-value
 wantsOf Leaves = value none
 wantsOf (Sets f z) = value (some (record { fluent = f; level = z }))
+
+-- ---- how many states the levels buffer receives
+
+abbrev pub statesIn : Answer paper.Judged → ℕ
+statesIn (refused n) = 0
+statesIn (got j) = length (j .states)
+
+-- those of `judgeSheet`: none where it refuses
+unfoldable pub statesWritten : List ℕ → List ℕ → List ℤ → ℕ
+statesWritten store sheet levels =
+    statesIn
+    (need (leb levelsSize (length levels)) 10
+    (then (domainIn store) (λ d.
+    then (sheetOf (d .agents) sheet) (λ steps. got (judge d steps)))))

@@ -9,7 +9,7 @@ ghost use Rattle.bmap.specs.Sheet.{rows, sheetOf};
 ghost use Rattle.bmap.specs.Judge.{judge};
 ghost use Rattle.bmap.specs.Verdict.{judgement, judgeSheet};
 ghost use Rattle.index.specs.Index.{domainOf, Sound};
-ghost use Rattle.judge.specs.Answer.{answerOf};
+ghost use Rattle.judge.specs.Answer.{answerOf, statesIn, statesWritten};
 ghost use Rattle.judge.specs.Prepared.{judgedOf};
 
 use crate::knowledge::all_knowers;
@@ -46,37 +46,68 @@ fn judge_steps(store: &[u8], index: Index, sheet: &[u8], n: usize, levels: &mut 
     run_sheet(store, &laws, &owners, runs, &start, &lowest, &highest, counts.fluents, &names, &crews, counts.entries, counts.agents, sheet, n, levels)
 }
 
+// A judgement, and how many states the levels buffer received.
+pub struct Counted {
+    pub judgement: Judgement,
+    pub states: usize,
+}
+
 // By an index: "8, 9", then the states go to the caller's buffer once.
-fn judge_by(store: &[u8], index: Index, sheet: &[u8], levels: &mut [i16]) -> Judgement
+fn judge_by(store: &[u8], index: Index, sheet: &[u8], levels: &mut [i16]) -> Counted
     requires { ⌜ Sound (now store) index × (levelsSize ≤ length (now levels)) ⌝ }
-    ensures { λ r. ⌜ record { answer = answerOf r; levels = now (levels .exit) }
-        ≡ judgement (now (levels .entry)) (then (sheetOf (index .counts .agents) (now (sheet .entry))) (λ steps. got (judge (domainOf (now (store .entry)) index) steps))) ⌝ }
+    ensures { λ r. ⌜ (record { answer = answerOf (r .judgement); levels = now (levels .exit) }
+        ≡ judgement (now (levels .entry)) (then (sheetOf (index .counts .agents) (now (sheet .entry))) (λ steps. got (judge (domainOf (now (store .entry)) index) steps))))
+        × (r .states ≡ statesIn (then (sheetOf (index .counts .agents) (now (sheet .entry))) (λ steps. got (judge (domainOf (now (store .entry)) index) steps)))) ⌝ }
 {
     let agents = index.counts.agents;
     if sheet.len() % agents != 0 {
-        return Judgement::Refused(Refusal::NotWhole);
+        return Counted {
+            judgement: Judgement::Refused(Refusal::NotWhole),
+            states: 0,
+        };
     }
     let n = sheet.len() / agents;
     if Sheet::STEPS < n {
-        return Judgement::Refused(Refusal::TooLong);
+        return Counted {
+            judgement: Judgement::Refused(Refusal::TooLong),
+            states: 0,
+        };
     }
     let mut history = [0i16; LEVELS];
     let ran = judge_steps(store, index, sheet, n, &mut history);
     copy_states(&history, ran.reached, index.counts.fluents, levels);
     let verdict = ran.verdict;
-    Judgement::Judged(verdict)
+    Counted {
+        judgement: Judgement::Judged(verdict),
+        states: ran.reached,
+    }
 }
 
 // "Judge: 10, 15, 8, 9": the verdict, and the states reached in the levels buffer; a refusal touches nothing.
 pub fn judge(store: &[u8], sheet: &[u8], levels: &mut [i16]) -> Judgement
     ensures { λ r. ⌜ record { answer = answerOf r; levels = now (levels .exit) } ≡ judgeSheet (now (store .entry)) (now (sheet .entry)) (now (levels .entry)) ⌝ }
 {
+    let counted = judge_counted(store, sheet, levels);
+    counted.judgement
+}
+
+// The same, with the number of states written: kind 7 at step n leaves n or n + 1 of them.
+pub fn judge_counted(store: &[u8], sheet: &[u8], levels: &mut [i16]) -> Counted
+    ensures { λ r. ⌜ (record { answer = answerOf (r .judgement); levels = now (levels .exit) } ≡ judgeSheet (now (store .entry)) (now (sheet .entry)) (now (levels .entry)))
+        × (r .states ≡ statesWritten (now (store .entry)) (now (sheet .entry)) (now (levels .entry))) ⌝ }
+{
     if levels.len() < LEVELS {
-        return Judgement::Refused(Refusal::NoRoom);
+        return Counted {
+            judgement: Judgement::Refused(Refusal::NoRoom),
+            states: 0,
+        };
     }
     let found = index_of(store);
     if !found.ok {
-        return Judgement::Refused(Refusal::NotDomain);
+        return Counted {
+            judgement: Judgement::Refused(Refusal::NotDomain),
+            states: 0,
+        };
     }
     let index = found.index;
     judge_by(store, index, sheet, levels)

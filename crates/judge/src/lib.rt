@@ -11,7 +11,9 @@ mod states;
 mod steps;
 mod verdict;
 
+pub use judgement::Counted;
 pub use judgement::judge;
+pub use judgement::judge_counted;
 pub use verdict::Fault;
 pub use verdict::Judgement;
 pub use verdict::Verdict;

@@ -17,7 +17,7 @@ use Rattle.bmap.specs.Line.{Line, Frame, linesOf, decode, lineFor}
 use Rattle.bmap.specs.Domain.{Names}
 use Rattle.bmap.specs.Accept.{Reading, read, refusedAt, atLine}
 use Rattle.bmap.specs.Buffer.{Filled, Written, over, padded, written}
-use Rattle.bmap.specs.Sheet.{stepOf, stepsFrom, stepsIn, readSheet, rows, stepLine, writeSheet}
+use Rattle.bmap.specs.Sheet.{stepOf, stepsFrom, stepsIn, readSheet, rows, sheetOf, stepLine, writeSheet}
 use Rattle.bmap.specs.Theorems.{SheetLinesReturn, SheetReturns}
 use Rattle.line.proofs.Lists.{Bytes, bytes-are, bytes-take, bytes-drop}
 use Rattle.line.proofs.Answers.{need-got, then-got-inv}
@@ -208,3 +208,44 @@ sheet-returns agents sheet text buffer n bytes e size =
     = back agents steps sheet [] (known-agents agents (w .allowed) .1) l (bytes-are sheet bytes) (omega (arith, w .few)) in
     let s : stepsIn agents lines ≡ read (rows agents steps sheet) = simp (w .allowed) o in
     rw t (names-left agents lines buffer (rows agents steps sheet) s size ∙ rw (length-rows agents steps sheet, flat-rows agents steps sheet l) refl)
+
+-- ---- THE NAMES THAT THE READER LEAVES ARE THE SHEET THAT IT READ
+
+pub record Kept (agents : ℕ) (text buffer : List ℕ) (n : ℕ) : Type 0 where
+  pub steps : List Names
+  pub goes : outcome agents text ≡ read steps
+  pub sheet : sheetOf agents (take (n * agents) (readSheet agents text buffer .buffer)) ≡ got steps
+
+refused-left : (agents : ℕ) (text buffer : List ℕ) (m l : ℕ) → stepsIn agents text ≡ refusedAt m l → sheetSize ≤ length buffer
+    → readSheet agents text buffer ≡ record { answer = refusedAt m l; buffer = padded (length buffer) [] }
+unfolding readSheet
+refused-left agents text buffer m l e h = simp (le-leb sheetSize (length buffer) h, e)
+
+-- rows, one after the other, are their steps
+rows-sheet : (agents : ℕ) (steps : List Names) → agentsAllowed agents ≡ true → Rows agents steps → length steps ≤ mostSteps → sheetOf agents (flat steps) ≡ got steps
+unfolding sheetOf
+rows-sheet agents steps a r h =
+    let l : length (flat steps) ≡ length steps * agents = length-flat agents r in
+    let n : length (flat steps) / agents ≡ length steps = ap (λ (x : ℕ). x / agents) l ∙ mul-div-cancel (length steps) (known-agents agents a .0) in
+    let m : length (flat steps) % agents ≡ 0 = ap (λ (x : ℕ). x % agents) l ∙ mul-mod-left (length steps) agents in
+    simp (m, n, le-leb (length steps) mostSteps h, rows-flat agents r)
+
+pub kept : (agents : ℕ) (text buffer : List ℕ) (n : ℕ) → sheetSize ≤ length buffer → readSheet agents text buffer .answer ≡ read n → Kept agents text buffer n
+kept agents text buffer n h e = by (stepsIn agents text) refl
+  where
+    by : (r : Reading (List Names)) → stepsIn agents text ≡ r → Kept agents text buffer n
+    by (refusedAt m l) r = absurd (let z : _≡_ {A = ℕ} 0 1 = cc (ap (λ (f : Filled). f .answer) (refused-left agents text buffer m l r h)) in omega arith)
+    by (read steps) r =
+        let x = stepped agents text steps r in
+        let t = there agents (linesOf text) text [] steps refl (x .1) in
+        let all : Rows agents steps = rw (t .all) (t .rows) in
+        let left = names-left agents text buffer steps r h in
+        let count : length steps ≡ n = cc (ap (λ (f : Filled). f .answer) left) in
+        let names : take (n * agents) (readSheet agents text buffer .buffer) ≡ flat steps
+        = ap (λ (f : Filled). take (n * agents) (f .buffer)) left
+        ∙ take-at (flat steps) (replicate (length buffer - length (flat steps)) 0) (n * agents) (length-flat agents all ∙ ap (λ (k : ℕ). k * agents) count) in
+        record {
+          steps = steps;
+          goes = x .1;
+          sheet = ap (sheetOf agents) names ∙ rows-sheet agents steps (x .0) all (t .few (omega arith));
+        }

@@ -11,6 +11,7 @@ use Prim.Native.Nat.{_/_}
 use Rattle.bmap.specs.Limits.{levelsSize}
 use Rattle.index.specs.Index.{domainOf}
 use Rattle.judge.specs.Prepared.{judgedOf}
+use Rattle.judge.proofs.StateLaws.{states-length}
 use Rattle.judge.proofs.CallLaws.{whole, by-uneven, by-long, by-steps}
 use Rattle.judge.proofs.judgement.judge_by.Statement.{statement}
 use Rattle.judge.proofs.judgement.judge_by.Tie as tie
@@ -44,7 +45,7 @@ same-length c = search needs
 
 returns-3 : tie.Need-returns-3
 returns-3 c = let s = c .before .before .before .before .before .before .before .before .before .before .before .args in by-steps (domainOf (s .store .now) (s .index)) (s .index .counts .agents) (s .sheet .now) (s .levels .now)
-    (judgedOf (s .index .counts .fluents) (c .before .before .before .before .before .judge-steps .result) (c .before .before .before .before .before .judge-steps .last .1 .1 .1 .1 .0)) (c .before .copy-states .last .1 .1 .1 .0) (c .before .before .before .before .before .before .before .before .if1 .left) (c .before .before .before .before .before .before .before .if2 .left) (c .before .before .before .before .before .judge-steps .ensures .1) (c .before .copy-states .ensures)
+    (judgedOf (s .index .counts .fluents) (c .before .before .before .before .before .judge-steps .result) (c .before .before .before .before .before .judge-steps .last .1 .1 .1 .1 .0)) (c .before .copy-states .last .1 .1 .1 .0) (c .before .before .before .before .before .judge-steps .result .reached) (sym (states-length _ _ _)) (c .before .before .before .before .before .before .before .before .if1 .left) (c .before .before .before .before .before .before .before .if2 .left) (c .before .before .before .before .before .judge-steps .ensures .1) (c .before .copy-states .ensures)
 
 pub judge-by-spec : {M : Type 1} → statement M
 judge-by-spec =

@@ -51,6 +51,7 @@ fn land(
 {
     let mut fluents = [0u8; Counts::LAWS];
     let mut values = [0i32; Counts::LAWS];
+    let next = j + 1;
     let effect = runs.effect;
     match settle(
         store,
@@ -80,7 +81,7 @@ fn land(
                 Fault::Static,
                 levels,
                 occurred,
-                j + 1,
+                next,
             )
         }
     }
@@ -291,6 +292,8 @@ pub fn run_sheet(
     let Verdict::Accepted = verdict else {
         return ran;
     };
+    // "After the last step n each A9 law in order is read at position n."
+    let last = n;
     let goal = runs.goal;
     if let Check::Failed(fault, number) = check_laws(
         store,
@@ -301,7 +304,7 @@ pub fn run_sheet(
         Fault::Goal,
         levels,
         &occurred,
-        n,
+        last,
     ) {
         return Ran {
             verdict: Verdict::Broken {

@@ -19,6 +19,9 @@ use Rattle.judge.proofs.StepLaws.{seen-states, seen-all, landed-clash, 
 use Rattle.judge.proofs.steps.land.Statement.{statement}
 use Rattle.judge.proofs.steps.land.Tie as tie
 
+add-next : tie.Need-add-next
+add-next c = search needs
+
 settle-requires : tie.Need-settle-requires
 settle-requires c κs = search needs
 
@@ -52,9 +55,6 @@ returns c = let s = c .before .before .before .before .before .before .before .b
 
 enum-told : tie.Need-enum-told
 enum-told c = search needs
-
-add-check-laws : tie.Need-add-check-laws
-add-check-laws c = omega (arith, c .before .before .before .before .before .before .before .before .before .before .before .before .before .before .before .before .before .before .before .before .before .before .before .pre .0 .0)
 
 check-laws-requires : tie.Need-check-laws-requires
 check-laws-requires c κs = search needs
@@ -90,6 +90,7 @@ pub land-spec : {M : Type 1} → statement M
 land-spec =
     tie.close
     (tie.spec
+    add-next
     settle-requires
     enum-known-fault
     enum-known-m
@@ -99,7 +100,6 @@ land-spec =
     same-length
     returns
     enum-told
-    add-check-laws
     check-laws-requires
     same-length-2
     returns-2

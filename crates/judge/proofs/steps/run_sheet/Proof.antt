@@ -89,8 +89,8 @@ check-laws-requires-2 c κs = search needs
 enum-known-fault-2 : tie.Need-enum-known-fault-2
 enum-known-fault-2 c = search needs
 
-add-t45 : tie.Need-add-t45
-add-t45 c = omega (arith, c .before .before .before .before .before .before .before .before .before .before .before .before .before .before .before .before .before .before .before .before .before .before .before .before .before .before .before .before .before .pre .0 .0)
+add-t46 : tie.Need-add-t46
+add-t46 c = omega (arith, c .before .before .before .before .before .before .before .before .before .before .before .before .before .before .before .before .before .before .before .before .before .before .before .before .before .before .before .before .before .pre .0 .0)
 
 same-length-3 : tie.Need-same-length-3
 same-length-3 c = search needs
@@ -148,7 +148,7 @@ run-sheet-spec =
     slice-aggregate-check-laws-2
     check-laws-requires-2
     enum-known-fault-2
-    add-t45
+    add-t46
     same-length-3
     returns-3
     enum-told-4

@@ -120,13 +120,13 @@ first s h =
         digits = refl;
       }
       | no e ↦
-        let all : feedIn s ≡ length s = omega (arith, feed-most s) in
-        record {
-          line = record { digits = s; ended = false };
-          others = [];
-          lines = open-line s h all;
-          digits = sym (take-all (feedIn s) s (omega arith));
-        }
+          let all : feedIn s ≡ length s = omega (arith, feed-most s) in
+          record {
+            line = record { digits = s; ended = false };
+            others = [];
+            lines = open-line s h all;
+            digits = sym (take-all (feedIn s) s (omega arith));
+          }
     ]
 
 -- a line that does not start the sheet is the domain's

@@ -73,9 +73,6 @@ digits-one buffer at n h = rw (decimal-small n h) (put-byte buffer at (48 + n % 
 pub digits-more : {buffer mid : List ℕ} {at p : ℕ} (n : ℕ) → 10 ≤ n → Put buffer at (decimal (n / 10)) p mid → Put buffer at (decimal n) (p + 1) (set mid p (48 + n % 10))
 digits-more {mid = mid} {p = p} n h x = rw (decimal-large n h) (put-then x (put-byte mid p (48 + n % 10)))
 
-
-
-
 -- a number below a power of ten has at most so many digits
 pub length-below : (k n : ℕ) → n < 10 ^ suc k → length (decimal n) ≤ suc k
 length-below zero n h = omega (arith, length-small n h)
@@ -139,7 +136,7 @@ spaced-append (w ∷ a) b = ap (λ l. text " " ++ w ++ l) (spaced-append a b) �
 
 module _ {buffer new : List ℕ} {at p : ℕ} (levels : List ℤ) {i : ℕ} where
   pub levels-next : {q : ℕ} {newer : List ℕ} {z : ℤ} → SFits w16 z → z ≡ getD levels i (pos 0) → i < length levels → Put buffer at (spaced (map decimalZ (take i levels))) p new → Put new p (spaced (decimalZ (back w16 z) ∷ [])) q newer
-    → Put buffer at (spaced (map decimalZ (take (i + 1) levels))) q newer
+      → Put buffer at (spaced (map decimalZ (take (i + 1) levels))) q newer
   levels-next {q} {newer} f e h x y = rw (add-one i, take-suc levels i (pos 0) h, map-append decimalZ, spaced-append) (put-then x (subst (λ z. Put new p (spaced (decimalZ z ∷ [])) q newer) (toZ-ofZ f ∙ e) y))
 
   pub levels-whole : length levels ≤ i → Put buffer at (spaced (map decimalZ (take i levels))) p new → Put buffer at (spaced (map decimalZ levels)) p new

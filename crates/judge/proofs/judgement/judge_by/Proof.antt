@@ -37,7 +37,7 @@ slice-aggregate-copy-states : tie.Need-slice-aggregate-copy-states
 slice-aggregate-copy-states c = search needs
 
 copy-states-requires : tie.Need-copy-states-requires
-copy-states-requires c κs = (c .before .before .before .judge-steps .ensures .0 .0, (c .before .before .before .before .before .before .before .before .before .pre .0 .fluents, (c .before .before .before .judge-steps .ensures .0 .1, c .before .before .before .before .before .before .before .before .before .pre .1)))
+copy-states-requires c κs = (omega (arith, c .before .before .before .judge-steps .ensures .0 .0), (c .before .before .before .before .before .before .before .before .before .pre .0 .fluents, (c .before .before .before .judge-steps .ensures .0 .1, c .before .before .before .before .before .before .before .before .before .pre .1)))
 
 same-length : tie.Need-same-length
 same-length c = search needs

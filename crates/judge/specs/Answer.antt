@@ -1,11 +1,9 @@
 -- The paper's number and values of each answer.
 use Prim.Native.Nat.{ℕ}
 use Rattle.bmap.specs.Refusal.{Answer, got, refused, numberOf}
-use mathlib.Core.List.{List}
 use mathlib.Core.Option.{Option, none, some}
-use lib.IntN.{ℤ}
 use Rattle.bmap.specs.Number.{Valued, value, no-value}
-use Rattle.bmap.specs.Judge.{Pass, pass, Checked, fine, fault, Setting, accepted, broken}
+use Rattle.bmap.specs.Judge.{Pass, pass, fault, Setting, accepted, broken}
 use Rattle.bmap.specs.Judge as paper
 use Rattle.judge.specs.declared.verdict.Fault.{Fault}
 use Rattle.judge.specs.declared.verdict.Fault.the-variants.{Misplaced, Barred, Concurrency, Conflict, Range, Static, NoValue, Goal}

@@ -1,14 +1,8 @@
-use Prim.Native.Nat.{ℕ, zero, suc, _+_, _-_, _*_, _≤_, _<_}
-use mathlib.Core.Path.{_≡_, refl, sym, ap, _∙_}
-use mathlib.Core.Logic.{_⊎_, inl, inr, ⊎-elim}
-use mathlib.Core.List.{List, [], _∷_, _++_}
-use mathlib.Core.Bool.{Bool, true, false}
+use Prim.Native.Nat.{_-_}
+use mathlib.Core.Path.{refl}
 use native.Mathlib.Omega.{arith}
 use borrow.Author.Needs.{needs}
-use lib.IntN.{ℤ, pos}
-use lib.ListN.{length, getD, take, drop, set}
-use Prim.Native.Nat.{_/_}
-use Rattle.bmap.specs.Limits.{levelsSize}
+use lib.ListN.{length}
 use Rattle.index.specs.Index.{domainOf}
 use Rattle.judge.specs.Prepared.{judgedOf}
 use Rattle.judge.proofs.CallLaws.{whole, by-uneven, by-long, by-steps}

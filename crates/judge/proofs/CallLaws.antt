@@ -1,23 +1,21 @@
 -- The judgement as a call: its refusals in their order, and what it leaves in the levels buffer. Assumes nothing.
-use Prim.Native.Nat.{ℕ, zero, suc, _+_, _*_, _/_, _%_, _≤_, _<_}
-use mathlib.Core.Path.{_≡_, refl, sym, ap, _∙_}
+use Prim.Native.Nat.{ℕ, _+_, _*_, _/_, _%_, _≤_, _<_}
+use mathlib.Core.Path.{_≡_, refl}
 use mathlib.Core.List.{List}
-use mathlib.Core.Bool.{Bool, true, false}
 use native.Mathlib.Omega.{arith}
 use native.Mathlib.Nat.{div-add-mod'}
-use lib.Dec.{eqb, leb}
 use lib.IntN.{ℤ}
 use lib.ListN.{length}
 use borrow.Author.Tests.{eq-eqb, ne-eqb, le-leb, lt-leb}
 use Rattle.bmap.specs.Plain.{flat}
 use Rattle.bmap.specs.Limits.{mostSteps, levelsSize}
-use Rattle.bmap.specs.Refusal.{Answer, got, refused, need, then}
-use Rattle.bmap.specs.Domain.{Domain, Names}
+use Rattle.bmap.specs.Refusal.{got, refused, then}
+use Rattle.bmap.specs.Domain.{Domain}
 use Rattle.bmap.specs.Buffer.{over}
 use Rattle.bmap.specs.Store.{domainIn}
 use Rattle.bmap.specs.Sheet.{rows, sheetOf}
 use Rattle.bmap.specs.Judge.{Judged, judge}
-use Rattle.bmap.specs.Verdict.{Judgement, judgement, judgeSheet}
+use Rattle.bmap.specs.Verdict.{judgement, judgeSheet}
 use Rattle.judge.specs.Answer.{statesIn, statesWritten}
 use Rattle.index.specs.declared.Index.{Index}
 use Rattle.index.specs.Index.{domainOf}

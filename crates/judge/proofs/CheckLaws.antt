@@ -1,5 +1,5 @@
 -- The checks of a step, turn by turn. Assumes nothing.
-use Prim.Native.Nat.{ℕ, zero, suc, _+_, _-_, _≤_, _<_}
+use Prim.Native.Nat.{ℕ, suc, _-_, _≤_, _<_}
 use mathlib.Core.Path.{_≡_, refl, sym, ap, _∙_, subst}
 use mathlib.Core.List.{List, [], _∷_}
 use mathlib.Core.Bool.{Bool, true, false}
@@ -8,15 +8,14 @@ use native.Mathlib.Decide.{decLt}
 use lib.Dec.{eqb}
 use lib.ListN.{length, getD, drop}
 use borrow.Author.Tests.{eq-eqb, ne-eqb, eqb-true}
-use Rattle.bmap.specs.Plain.{either, both, if-else, any}
+use Rattle.bmap.specs.Plain.{either, if-else, any}
 use Rattle.bmap.specs.Number.{Valued, value, no-value}
 use Rattle.bmap.specs.Tree.{Con, always}
 use Rattle.bmap.specs.Meaning.{History, evalC}
 use Rattle.bmap.specs.Domain.{Domain, Names, Entry, Law, executable, effect, must, Scope, static, concurrency, goal, has, entryAt, occursIn, readable}
-use Rattle.bmap.specs.Payload.{asks}
 use Rattle.bmap.specs.Accept.{countsOf}
-use Rattle.bmap.specs.Judge.{Pass, pass, fault, unless, next, reads, placed, carries, sameScope, holds, permits, permitted, mayOccur}
-use Rattle.judge.specs.Told.{Belonging, Occurring, Says, Lawful, Within, Owned, ownerOf, lawNumber, frameOf, conOf, placeOf, asksOf, scopeKind}
+use Rattle.bmap.specs.Judge.{pass, fault, unless, next, reads, placed, carries, sameScope, holds, permits, permitted, mayOccur}
+use Rattle.judge.specs.Told.{Belonging, Says, Lawful, Within, ownerOf, lawNumber, frameOf, conOf, placeOf, asksOf, scopeKind}
 use Rattle.judge.proofs.LoopLaws.{starts, rests}
 use Rattle.judge.proofs.ByteLaws.{Spelt, spelt}
 

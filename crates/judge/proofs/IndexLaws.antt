@@ -1,21 +1,19 @@
 -- The domain of a sound index, as the judge's functions take it for granted. Assumes nothing.
-use Prim.Native.Nat.{ℕ, zero, suc, _+_, _≤_, _<_}
+use Prim.Native.Nat.{ℕ, _≤_, _<_}
 use mathlib.Core.Path.{_≡_, refl, sym, ap, _∙_, subst}
 use mathlib.Core.List.{List, [], _∷_, map}
-use mathlib.Core.Option.{Option, none, some}
-use mathlib.Core.Bool.{Bool}
-use native.Mathlib.Omega.{arith}
+use mathlib.Core.Option.{some}
 use lib.Dec.{eqb}
-use lib.IntN.{ℤ, pos}
+use lib.IntN.{pos}
 use lib.ListN.{length, getD, take, drop}
 use Rattle.bmap.specs.Plain.{numbers}
-use Rattle.bmap.specs.Domain.{Domain, Fluent, Knows, Entry, Law, entryAt, has, knows}
+use Rattle.bmap.specs.Domain.{Fluent, Entry, has}
 use Rattle.bmap.specs.Payload.{lawIn}
 use Rattle.bmap.specs.Accept.{countsOf}
 use Rattle.bmap.specs.Judge.{startOf}
 use Rattle.bmap.specs.declared.limits.Counts.{Counts}
 use Rattle.index.specs.declared.Index.{Index}
-use Rattle.index.specs.Index.{frameBytes, fluentAt, knowledgeAt, entryOf, lawBytes, lawOf, lawAt, domainOf, Sound}
+use Rattle.index.specs.Index.{fluentAt, knowledgeAt, entryOf, lawBytes, lawOf, lawAt, domainOf, Sound}
 use Rattle.judge.specs.Masks.{unionFrom}
 use Rattle.judge.specs.Landing.{Ranged}
 use Rattle.judge.specs.Told.{Says, Lawful, Knowing, lawNumber, frameOf}

@@ -1,19 +1,16 @@
 -- The judgement of a whole sheet. Assumes nothing.
-use Prim.Native.Nat.{ℕ, zero, suc, _+_, _-_, _*_, _≤_, _<_}
-use mathlib.Core.Path.{_≡_, refl, sym, ap, _∙_, subst}
+use Prim.Native.Nat.{ℕ, zero, suc, _+_, _-_, _≤_}
+use mathlib.Core.Path.{_≡_, refl, sym, ap, _∙_}
 use mathlib.Core.List.{List, [], _∷_, _++_, map}
-use native.Mathlib.Numerals.{add-one}
 use native.Mathlib.Omega.{arith}
-use lib.IntN.{ℤ, pos}
+use lib.IntN.{ℤ}
 use lib.ListN.{length, getD, take, drop}
-use lib.Seq.{paste, take-append-le, take-take, take-suc, take-at, length-take-le}
+use lib.Seq.{paste, take-suc, take-at, length-take-le}
 use Rattle.bmap.specs.Plain.{numbers}
-use Rattle.bmap.specs.Limits.{mostFluents}
 use Rattle.bmap.specs.Domain.{Domain, Names, State, static, goal}
-use Rattle.bmap.specs.Judge.{Pass, pass, fault, Verdict, accepted, broken, Judged, history, allHold, carried, startOf, judge, ran, goalsAfter}
-use Rattle.judge.specs.States.{stateAt, statesOf}
-use Rattle.judge.proofs.LoopLaws.{map-at}
-use Rattle.judge.proofs.StateLaws.{states-one, map-snoc}
+use Rattle.bmap.specs.Judge.{pass, fault, Verdict, accepted, broken, Judged, history, allHold, carried, startOf, judge, ran, goalsAfter}
+use Rattle.judge.specs.States.{stateAt}
+use Rattle.judge.proofs.StateLaws.{map-snoc}
 
 module _ (d : Domain) (sheet : List Names) where
   pub judge-start : {kind n : ℕ} → allHold static 6 d (history d sheet (startOf d ∷ [])) 0 ≡ fault kind n → record { states = []; verdict = broken kind 0 n } ≡ judge d sheet

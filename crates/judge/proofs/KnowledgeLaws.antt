@@ -1,21 +1,21 @@
 -- Who knows what, and who may read which law. Assumes nothing.
-use Prim.Native.Nat.{ℕ, zero, suc, _+_, _-_, _%_, _^_, _≤_, _<_}
+use Prim.Native.Nat.{ℕ, _+_, _-_, _%_, _^_, _<_}
 use mathlib.Core.Path.{_≡_, refl, sym, ap, _∙_, subst}
-use mathlib.Core.List.{List, [], _∷_, map}
-use mathlib.Core.Option.{Option, none, some}
-use mathlib.Core.Bool.{Bool, true, false, not}
+use mathlib.Core.List.{List, map}
+use mathlib.Core.Option.{Option, some}
+use mathlib.Core.Bool.{Bool, true, not}
 use native.Mathlib.Omega.{arith}
 use native.Mathlib.Nat.{mod-lt}
 use lib.Bits.{bitAnd}
 use lib.Dec.{eqb}
 use lib.ListN.{length, getD, drop}
-use lib.Seq.{drop-drop, getD-drop}
+use lib.Seq.{getD-drop}
 use lib.Pow.{pow-pos}
-use Rattle.bmap.specs.Plain.{both, if-else, all, any, numbers}
+use Rattle.bmap.specs.Plain.{both, if-else, any, numbers}
 use Rattle.bmap.specs.Limits.{mostDepth}
-use Rattle.bmap.specs.Tree.{Con, namedC, allowedC}
+use Rattle.bmap.specs.Tree.{Con, allowedC}
 use Rattle.bmap.specs.Code.{Parsed, parseC}
-use Rattle.bmap.specs.Domain.{Domain, Knows, Entry, Law, executable, effect, must, has, knows, knownTo, readable, entryAt}
+use Rattle.bmap.specs.Domain.{Domain, Knows, Law, executable, effect, must, has, knows, knownTo, readable, entryAt}
 use Rattle.bmap.specs.Payload.{context}
 use Rattle.bmap.specs.Accept.{countsOf}
 use Rattle.law.specs.Mask.{bit}

@@ -1,34 +1,33 @@
 -- The new state, level by level, and check 5. Assumes nothing.
-use Prim.Native.Nat.{ℕ, zero, suc, _+_, _-_, _*_, _≤_, _<_}
-use mathlib.Core.Path.{_≡_, refl, sym, ap, _∙_, subst}
-use mathlib.Core.List.{List, [], _∷_, map}
+use Prim.Native.Nat.{ℕ, _+_, _-_, _*_, _≤_, _<_}
+use mathlib.Core.Path.{_≡_, refl, sym, ap, _∙_}
+use mathlib.Core.List.{List, map}
 use mathlib.Core.Bool.{Bool, true, false}
 use native.Mathlib.Numerals.{add-one}
 use native.Mathlib.Omega.{arith}
 use native.Mathlib.Decide.{decLt}
 use lib.Dec.{eqb}
 use lib.IntN.{ℤ, pos}
-use lib.ListN.{length, getD, take, drop, set, length-set}
+use lib.ListN.{length, getD, set}
 use lib.Seq.{getD-set-same, getD-set-other}
 use lib.Signed.{mag, leZ}
 use mir.Syntax.{w16, w32}
 use mir.Val.{toZ, ofZ}
-use borrow.Author.Tests.{eq-eqb, ne-eqb, eqb-true, eqb-false}
+use borrow.Author.Tests.{eqb-true, eqb-false}
 use Rattle.bmap.specs.Plain.{both, if-else, numbers}
 use Rattle.bmap.specs.Limits.{mostFluents}
 use Rattle.bmap.specs.Domain.{Domain, Fluent, State}
-use Rattle.bmap.specs.Judge.{Pass, pass, Checked, fine, fault, unless, next, each, inRange, Setting, levelAfter, stateAfter}
+use Rattle.bmap.specs.Judge.{pass, fine, fault, unless, each, inRange, Setting, levelAfter, stateAfter}
 use Rattle.judge.specs.Answer.{kindOf}
 use Rattle.judge.specs.States.{stateAt, leaving}
-use Rattle.judge.specs.Settings.{setting, settingsOf}
+use Rattle.judge.specs.Settings.{settingsOf}
 use Rattle.judge.specs.Landing.{fitOf, Ranged, Laid, ranged}
 use Rattle.judge.specs.declared.landing.Fit.{Fit}
 use Rattle.judge.specs.declared.landing.Fit.the-variants.{Out, In}
-use Rattle.judge.specs.declared.verdict.Check.{Check}
 use Rattle.judge.specs.declared.verdict.Check.the-variants.{Passed, Failed}
 use Rattle.judge.specs.declared.verdict.Fault.{Fault}
 use Rattle.judge.proofs.SignedLaws.{back, back16}
-use Rattle.judge.proofs.LoopLaws.{map-at, map-length}
+use Rattle.judge.proofs.LoopLaws.{map-at}
 use Rattle.judge.proofs.StateLaws.{level-of}
 
 -- ---- a list that is filled from the front

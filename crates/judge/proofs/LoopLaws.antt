@@ -2,15 +2,15 @@
 -- stands as R, what it gives of the elements from place i on. Assumes nothing.
 use Prim.Native.Nat.{ℕ, zero, suc, _+_, _-_, _≤_, _<_}
 use mathlib.Core.Path.{_≡_, refl, sym, ap, _∙_}
-use mathlib.Core.List.{List, [], _∷_, _++_, map}
+use mathlib.Core.List.{List, [], _∷_, map}
 use mathlib.Core.Bool.{Bool, true, false}
 use native.Mathlib.Numerals.{add-one}
 use native.Mathlib.Omega.{arith}
 use native.Mathlib.Decide.{decLt}
-use lib.ListN.{length, getD, take, drop, drop-of-length-le}
+use lib.ListN.{length, getD, drop, drop-of-length-le}
 use lib.Seq.{drop-cons}
-use Rattle.bmap.specs.Plain.{either, both, all, any, numbers}
-use Rattle.bmap.specs.Judge.{Pass, pass, Checked, fine, fault, eachFrom}
+use Rattle.bmap.specs.Plain.{both, all, numbers}
+use Rattle.bmap.specs.Judge.{Pass, pass, fault, eachFrom}
 
 module _ {A Y : Type 0} (R : ℕ → List A → Y) (l : List A) (d : A) where
   module _ (i : ℕ) where

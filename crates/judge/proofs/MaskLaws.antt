@@ -1,20 +1,20 @@
 -- Masks, bit by bit. Assumes nothing.
 use Prim.Native.Nat.{ℕ, zero, suc, _+_, _-_, _*_, _/_, _%_, _^_, _≤_, _<_, min, max}
 use mathlib.Core.Path.{_≡_, refl, sym, ap, _∙_}
-use mathlib.Core.List.{List, [], _∷_, map}
+use mathlib.Core.List.{List, map}
 use mathlib.Core.Bool.{Bool, true, false, not}
 use native.Mathlib.Numerals.{add-one}
 use native.Mathlib.Omega.{arith}
 use lib.Bits.{bitAnd, bitOr, or-shr, or-step, and-step, and-zero-l}
 use lib.Dec.{eqb}
-use lib.ListN.{length, getD}
+use lib.ListN.{getD}
 use lib.Arith.{lt-one}
 use lib.Pow.{pow-add, pow-mono, shr-shr, shr-lt, shr-le, field, mod-mod-pow, shl-exact, pow-pos}
 use native.Mathlib.Nat.{mod-le}
 use borrow.Author.Tests.{eq-eqb, ne-eqb}
-use Rattle.bmap.specs.Plain.{either, both, implies, if-else, all, any, numbers}
-use Rattle.bmap.specs.Domain.{Names, Entry, has, follows}
-use Rattle.judge.specs.Masks.{flagOf, maskFrom, unionFrom, joins, joinsAt, actingOf}
+use Rattle.bmap.specs.Plain.{either, both, if-else, any, numbers}
+use Rattle.bmap.specs.Domain.{Names, has, follows}
+use Rattle.judge.specs.Masks.{flagOf, maskFrom, unionFrom}
 
 -- ---- one entry
 

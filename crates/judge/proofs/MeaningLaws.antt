@@ -1,15 +1,15 @@
 -- A tree reads nothing of a history but what it names: the present and past levels of its fluents, the present and past
 -- occurrences of its entries. Assumes nothing.
-use Prim.Native.Nat.{ℕ, zero, suc, _+_, _-_, _≤_, _<_}
+use Prim.Native.Nat.{ℕ, _+_, _-_, _≤_, _<_}
 use mathlib.Core.Path.{_≡_, refl, sym, ap, _∙_}
 use mathlib.Core.List.{List, [], _∷_, _++_}
 use mathlib.Core.Bool.{Bool, true, false, not}
 use native.Mathlib.Omega.{arith}
 use lib.Dec.{leb, ltb}
 use lib.IntN.{ℤ}
-use borrow.Author.Tests.{ltb-true, leb-true, leb-false}
+use borrow.Author.Tests.{ltb-true, leb-true}
 use Rattle.bmap.specs.Plain.{both, all}
-use Rattle.bmap.specs.Number.{Valued, value, no-value, with1, with2, operate, change, compare, join, flag}
+use Rattle.bmap.specs.Number.{Valued, value, with1, with2, operate, change, compare, join, flag}
 use Rattle.bmap.specs.Tree.{Expr, Con, constant, fluent, two, one, reified, compared, joined, negated, occurs, always, namedE, namedC, allowedE, allowedC}
 use Rattle.bmap.specs.Meaning.{History, evalE, evalC}
 use Rattle.bmap.specs.Limits.{mostLag}

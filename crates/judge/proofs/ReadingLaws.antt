@@ -1,23 +1,23 @@
 -- What a law's bytes give, as the evaluator answers. Assumes nothing.
-use Prim.Native.Nat.{ℕ, zero, suc, _+_, _-_, _≤_, _<_}
+use Prim.Native.Nat.{ℕ, _+_, _-_, _≤_, _<_}
 use mathlib.Core.Path.{_≡_, refl, sym, ap, _∙_, subst}
-use mathlib.Core.List.{List, [], _∷_}
-use mathlib.Core.Option.{Option, none, some}
-use mathlib.Core.Bool.{Bool, true, false}
+use mathlib.Core.List.{List}
+use mathlib.Core.Option.{none, some}
+use mathlib.Core.Bool.{Bool, true}
 use native.Mathlib.Omega.{arith}
-use lib.IntN.{ℤ, pos}
+use lib.IntN.{ℤ}
 use lib.ListN.{length, getD, drop, drop-of-length-le}
 use lib.Seq.{drop-drop, getD-drop}
 use Rattle.bmap.specs.Plain.{if-else}
 use Rattle.bmap.specs.Limits.{mostDepth}
 use Rattle.bmap.specs.Number.{Valued, value, no-value, with1}
 use Rattle.bmap.specs.Tree.{Expr, Con, allowedE, allowedC}
-use Rattle.bmap.specs.Code.{Parsed, parseE, parseC}
+use Rattle.bmap.specs.Code.{parseE, parseC}
 use Rattle.bmap.specs.Meaning.{History, evalE, evalC}
-use Rattle.bmap.specs.Domain.{Domain, Names, Law, executable, effect, must, entryAt, occursIn, has}
-use Rattle.bmap.specs.Payload.{context, asks}
+use Rattle.bmap.specs.Domain.{Domain, Names, Law, executable, effect, must, has}
+use Rattle.bmap.specs.Payload.{context}
 use Rattle.bmap.specs.Accept.{countsOf}
-use Rattle.bmap.specs.Judge.{Setting, setsIf, sets}
+use Rattle.bmap.specs.Judge.{setsIf, sets}
 use Rattle.law.specs.Mask.{bit}
 use Rattle.law.specs.Evaluate.{historyOf, Meant, malformed, gives, valueAt, truthAt, evaluated, judged}
 use Rattle.law.specs.declared.eval.Evaluated.{Evaluated}
@@ -34,7 +34,7 @@ use lib.Signed.{mag}
 use Rattle.judge.proofs.SignedLaws.{back}
 use Rattle.judge.specs.Told.{Says, Seen, Occurring, conOf, placeOf, asksOf}
 use Rattle.judge.specs.Settings.{setting, settingFrom}
-use Rattle.judge.proofs.ByteLaws.{Constrained, Expressed, Effective, Spelt}
+use Rattle.judge.proofs.ByteLaws.{Constrained}
 use Rattle.judge.proofs.MeaningLaws.{same-value, same-truth}
 use Rattle.judge.proofs.CheckLaws.{says, not-effect}
 

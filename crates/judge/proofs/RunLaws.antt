@@ -1,23 +1,22 @@
 -- The run over the steps of a sheet. Assumes nothing.
 use Prim.Native.Nat.{ℕ, zero, suc, _+_, _-_, _*_, _≤_, _<_}
-use mathlib.Core.Path.{_≡_, refl, sym, ap, _∙_, subst}
-use mathlib.Core.List.{List, [], _∷_, _++_, map}
+use mathlib.Core.Path.{_≡_, refl, sym, ap, _∙_}
+use mathlib.Core.List.{List, [], _∷_, _++_}
 use mathlib.Core.Bool.{Bool, true, false}
 use native.Mathlib.Numerals.{add-one}
 use native.Mathlib.Omega.{arith}
-use native.Mathlib.Decide.{decLe, decLt}
+use native.Mathlib.Decide.{decLe}
 use native.Mathlib.Nat.{suc-mul}
 use lib.Dec.{eqb}
-use lib.IntN.{ℤ, pos}
 use lib.ListN.{length, getD, take, drop, set, length-drop}
 use lib.Seq.{getD-drop, drop-drop, take-all, getD-set-same, getD-set-other}
 use borrow.Author.Tests.{eq-eqb, eqb-true}
 use Rattle.bmap.specs.Plain.{both, implies, all, any, numbers}
 use Rattle.bmap.specs.Domain.{Domain, Names, State, Entry, has, follows, occursIn, entryAt}
 use Rattle.bmap.specs.Sheet.{rows}
-use Rattle.bmap.specs.Judge.{Checked, fine, fault, Judged, broken, accepted, carries, step, carried}
+use Rattle.bmap.specs.Judge.{broken, accepted, carries, step, carried}
 use Rattle.judge.specs.Answer.{kindOf}
-use Rattle.judge.specs.Masks.{joins, joinsAt, maskFrom, unionFrom, actingOf}
+use Rattle.judge.specs.Masks.{joins, joinsAt, maskFrom, unionFrom}
 use Rattle.judge.specs.States.{leaving}
 use Rattle.judge.specs.Told.{Occurring, Belonging, Acted}
 use Rattle.judge.specs.Prepared.{Entered}

@@ -6,7 +6,6 @@ use mathlib.Core.Option.{some, none}
 use mathlib.Core.Bool.{Bool, true, false}
 use native.Mathlib.Numerals.{add-one}
 use native.Mathlib.Omega.{arith}
-use lib.Dec.{eqb}
 use lib.IntN.{ℤ, pos}
 use lib.ListN.{length, getD, drop, set}
 use lib.Seq.{getD-set-same, getD-set-other}
@@ -14,7 +13,7 @@ use lib.Signed.{mag}
 use mir.Syntax.{w32}
 use mir.Val.{toZ, ofZ}
 use borrow.Author.Tests.{eq-eqb, ne-eqb}
-use Rattle.bmap.specs.Plain.{all, if-else}
+use Rattle.bmap.specs.Plain.{all}
 use Rattle.bmap.specs.Number.{value, no-value, same}
 use Rattle.bmap.specs.Meaning.{History}
 use Rattle.bmap.specs.Domain.{Domain, Names, Law, executable, effect, must}
@@ -22,7 +21,7 @@ use Rattle.bmap.specs.Judge.{fine, fault, Setting, agrees, sets, settled}
 use Rattle.judge.specs.Told.{Says}
 use Rattle.judge.specs.Settings.{setting, settingsOf}
 use Rattle.judge.proofs.SignedLaws.{back}
-use Rattle.judge.proofs.LoopLaws.{stops, ends}
+use Rattle.judge.proofs.LoopLaws.{stops}
 use Rattle.judge.proofs.CheckLaws.{noLaw, says}
 
 -- ---- the earlier settings of a fluent

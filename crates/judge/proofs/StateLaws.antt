@@ -6,14 +6,13 @@ use native.Mathlib.Numerals.{add-one}
 use native.Mathlib.Omega.{arith}
 use native.Mathlib.Decide.{decLt}
 use lib.IntN.{ℤ, pos}
-use lib.ListN.{length, getD, take, drop, set, length-take, length-drop, length-append, List·getD-append}
+use lib.ListN.{length, getD, take, drop, set, length-drop, length-append, List·getD-append}
 use lib.Seq.{getD-append-seam, getD-take, getD-drop, take-take, take-suc-set, drop-set-add, length-take-le, paste, paste-suc, take-append-seam, drop-append-add, drop-drop}
 use Rattle.bmap.specs.Plain.{flat, numbers}
 use Rattle.bmap.specs.Limits.{mostFluents}
 use Rattle.bmap.specs.Domain.{State}
 use Rattle.bmap.specs.Buffer.{over}
 use Rattle.judge.specs.States.{stateAt, statesOf}
-use Rattle.judge.proofs.LoopLaws.{map-length}
 
 -- ---- numbers copied one by one
 

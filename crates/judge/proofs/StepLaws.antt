@@ -1,25 +1,24 @@
 -- A step, joined from its checks. Assumes nothing.
-use Prim.Native.Nat.{ℕ, zero, suc, _+_, _-_, _*_, _≤_, _<_}
+use Prim.Native.Nat.{ℕ, suc, _+_, _-_, _*_, _≤_, _<_}
 use mathlib.Core.Path.{_≡_, refl, sym, ap, _∙_, subst}
 use mathlib.Core.List.{List, [], _∷_, _++_}
-use mathlib.Core.Bool.{Bool, true, false}
+use mathlib.Core.Bool.{true, false}
 use native.Mathlib.Numerals.{add-one}
 use native.Mathlib.Omega.{arith}
 use lib.IntN.{ℤ, pos}
-use lib.ListN.{length, getD, take, drop}
+use lib.ListN.{length, getD}
 use Rattle.bmap.specs.Limits.{mostFluents}
-use Rattle.bmap.specs.Meaning.{History}
 use Rattle.bmap.specs.Domain.{Domain, Names, State, static, concurrency}
 use Rattle.bmap.specs.Judge.{Checked, fine, fault, Pass, pass, next, each, inRange, Setting, settled, stateAfter, history, allHold, placed, mayOccur, step}
 use Rattle.judge.specs.Answer.{passOf, kindOf}
-use Rattle.judge.specs.States.{stateAt, statesOf, leaving}
+use Rattle.judge.specs.States.{statesOf, leaving}
 use Rattle.judge.specs.Landing.{ranged}
 use Rattle.judge.specs.Told.{Seen, Acted}
 use Rattle.judge.specs.Prepared.{landed}
 use Rattle.judge.specs.declared.verdict.Check.{Check}
 use Rattle.judge.specs.declared.verdict.Check.the-variants.{Passed, Failed}
 use Rattle.judge.specs.declared.verdict.Fault.{Fault}
-use Rattle.judge.proofs.StateLaws.{states-at, states-more, level-in}
+use Rattle.judge.proofs.StateLaws.{level-in}
 
 -- ---- the history that the laws read
 

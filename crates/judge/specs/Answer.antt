@@ -7,10 +7,10 @@ use Rattle.bmap.specs.Refusal.{Answer, got, refused, need, then, numberOf}
 use Rattle.bmap.specs.Store.{domainIn}
 use Rattle.bmap.specs.Sheet.{sheetOf}
 use mathlib.Core.List.{List}
-use mathlib.Core.Option.{Option, none, some}
 use lib.IntN.{ℤ}
+use mathlib.Core.Option.{Option, none, some}
 use Rattle.bmap.specs.Number.{Valued, value, no-value}
-use Rattle.bmap.specs.Judge.{judge, Pass, pass, Checked, fine, fault, Setting, accepted, broken}
+use Rattle.bmap.specs.Judge.{judge, Pass, pass, fault, Setting, accepted, broken}
 use Rattle.bmap.specs.Judge as paper
 use Rattle.judge.specs.declared.verdict.Fault.{Fault}
 use Rattle.judge.specs.declared.verdict.Fault.the-variants.{Misplaced, Barred, Concurrency, Conflict, Range, Static, NoValue, Goal}

@@ -6,7 +6,7 @@ use lib.IntN.{ℤ, pos}
 use lib.ListN.{length, getD}
 use lib.Signed.{leZ}
 use Rattle.bmap.specs.Plain.{both, if-else}
-use Rattle.bmap.specs.Domain.{Domain, Fluent, State}
+use Rattle.bmap.specs.Domain.{Domain, State}
 use Rattle.bmap.specs.Judge.{Checked, fine, next, each, inRange, Setting, levelAfter}
 use Rattle.judge.specs.declared.landing.Fit.{Fit}
 use Rattle.judge.specs.declared.landing.Fit.the-variants.{Out, In}

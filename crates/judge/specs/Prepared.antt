@@ -1,12 +1,11 @@
 -- What is found once for a judgement, and what a judgement leaves.
-use Prim.Native.Nat.{ℕ, suc, _≤_}
+use Prim.Native.Nat.{ℕ, suc}
 use mathlib.Core.Path.{_≡_}
 use mathlib.Core.List.{List, [], _∷_, _++_, map}
 use lib.IntN.{ℤ}
 use lib.ListN.{length, getD}
 use Rattle.bmap.specs.Plain.{numbers}
-use Rattle.bmap.specs.Meaning.{History}
-use Rattle.bmap.specs.Domain.{Domain, Names, State, Entry, static}
+use Rattle.bmap.specs.Domain.{Domain, Names, State, static}
 use Rattle.bmap.specs.Judge.{Checked, fine, next, each, inRange, settled, stateAfter, history, allHold, Judged}
 use Rattle.judge.specs.Answer.{verdictOf}
 use Rattle.judge.specs.States.{statesOf}

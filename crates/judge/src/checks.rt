@@ -13,7 +13,6 @@ ghost use Rattle.judge.specs.Answer.{passOf, kindOf};
 ghost use Rattle.judge.specs.Told.{Belonging, Occurring, Says, Lawful, Owned, Within, Seen, lawNumber, scopeKind};
 use crate::acting::has_agent;
 use crate::acting::has_entry;
-use crate::reading::EXECUTABLE;
 use crate::reading::byte;
 use crate::reading::constraint_of;
 use crate::verdict::Check;

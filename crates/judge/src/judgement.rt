@@ -1,6 +1,5 @@
 // The judgement of a sheet against a store.
 ghost use mathlib.Core.Path.{_≡_};
-ghost use mathlib.Core.List.{List};
 ghost use Prim.Native.Nat.{_+_, _*_, _≤_};
 ghost use lib.ListN.{length};
 ghost use Rattle.bmap.specs.Limits.{mostSteps, levelsSize};

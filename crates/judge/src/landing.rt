@@ -6,7 +6,7 @@ ghost use lib.IntN.{pos};
 ghost use lib.ListN.{length, getD, set};
 ghost use Rattle.bmap.specs.Limits.{mostFluents, mostSteps, mostLaws, levelsSize};
 ghost use Rattle.bmap.specs.Domain.{Domain, State};
-ghost use Rattle.bmap.specs.Judge.{Setting, levelAfter, stateAfter};
+ghost use Rattle.bmap.specs.Judge.{Setting, stateAfter};
 ghost use Rattle.judge.specs.States.{stateAt, leaving, Kept};
 ghost use Rattle.judge.specs.Settings.{settingsOf};
 ghost use Rattle.judge.specs.Landing.{Ranged, Laid, ranged, fitOf};

@@ -51,6 +51,8 @@ fn land(
 {
     let mut fluents = [0u8; Counts::LAWS];
     let mut values = [0i32; Counts::LAWS];
+    // "Effects are settled by values before the step": the present is state j, and the static laws are read on the next.
+    let present = j;
     let next = j + 1;
     let effect = runs.effect;
     match settle(
@@ -61,7 +63,7 @@ fn land(
         entries,
         levels,
         occurred,
-        j,
+        present,
         &mut fluents,
         &mut values,
     ) {

@@ -1,15 +1,9 @@
-use Prim.Native.Nat.{ℕ, zero, suc, _+_, _-_, _*_, _≤_, _<_}
-use mathlib.Core.Path.{_≡_, refl, sym, ap, _∙_}
-use mathlib.Core.Logic.{_⊎_, inl, inr, ⊎-elim}
-use mathlib.Core.List.{List, [], _∷_, _++_}
-use mathlib.Core.Bool.{Bool, true, false}
+use Prim.Native.Nat.{ℕ, _-_, _≤_}
+use mathlib.Core.Path.{_≡_, refl, ap, _∙_}
 use native.Mathlib.Omega.{arith}
 use borrow.Author.Needs.{needs}
-use lib.IntN.{ℤ, pos}
-use lib.ListN.{length, getD, take, drop, set}
-use Rattle.judge.specs.Masks.{joinsAt, maskFrom, unionFrom, actingOf}
+use Rattle.judge.specs.Masks.{joinsAt, maskFrom, unionFrom}
 use Rattle.judge.proofs.MaskLaws.{mask-none, mask-more, mask-whole, mask-small, union-none, union-more, union-whole}
-use Rattle.judge.specs.declared.acting.Acting.{Acting}
 use Rattle.judge.proofs.acting.who_acts.Statement.{statement}
 use Rattle.judge.proofs.acting.who_acts.Tie as tie
 

@@ -1,18 +1,15 @@
-use Prim.Native.Nat.{ℕ, zero, suc, _+_, _-_, _*_, _≤_, _<_}
-use mathlib.Core.Path.{_≡_, refl, sym, ap, _∙_}
-use mathlib.Core.Logic.{_⊎_, inl, inr, ⊎-elim}
-use mathlib.Core.List.{List, [], _∷_, _++_}
-use mathlib.Core.Bool.{Bool, true, false}
+use Prim.Native.Nat.{ℕ, _-_}
+use mathlib.Core.Path.{_≡_, sym, ap, _∙_}
+use mathlib.Core.Bool.{true}
 use native.Mathlib.Omega.{arith}
 use borrow.Author.Needs.{needs}
-use lib.IntN.{ℤ, pos}
-use lib.ListN.{length, getD, take, drop, set}
-use Rattle.bmap.specs.Domain.{Domain, Law}
+use lib.ListN.{drop}
+use Rattle.bmap.specs.Domain.{Domain}
 use Rattle.bmap.specs.Meaning.{History}
 use Rattle.bmap.specs.Number.{value}
 use Rattle.bmap.specs.Judge.{permitted}
 use Rattle.number.specs.Answer.{truthOf}
-use Rattle.judge.specs.Told.{Lawful, Within, Owned, Seen, lawNumber}
+use Rattle.judge.specs.Told.{Lawful, Within, Owned, Seen}
 use Rattle.judge.proofs.LoopLaws.{stops, on}
 use Rattle.judge.proofs.CheckLaws.{noLaw, run-starts, run-ends, run-law, permits-none, permitted-on, permitted-true, permitted-blank, permitted-none}
 use Rattle.judge.proofs.checks.check_entry.Statement.{statement}

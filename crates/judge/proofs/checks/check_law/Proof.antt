@@ -1,17 +1,10 @@
-use Prim.Native.Nat.{ℕ, zero, suc, _+_, _-_, _*_, _≤_, _<_}
-use mathlib.Core.Path.{_≡_, refl, sym, ap, _∙_}
-use mathlib.Core.Logic.{_⊎_, inl, inr, ⊎-elim}
-use mathlib.Core.List.{List, [], _∷_, _++_}
-use mathlib.Core.Bool.{Bool, true, false}
-use native.Mathlib.Omega.{arith}
+use Prim.Native.Nat.{_-_}
+use mathlib.Core.Path.{sym, ap, _∙_}
+use mathlib.Core.Bool.{Bool}
 use borrow.Author.Needs.{needs}
-use lib.IntN.{ℤ, pos}
-use lib.ListN.{length, getD, take, drop, set}
 use mathlib.Core.Path.{subst}
 use Rattle.bmap.specs.Number.{Valued, value}
-use Rattle.bmap.specs.Domain.{Law}
 use Rattle.bmap.specs.Judge.{next, reads, unless}
-use Rattle.bmap.specs.Payload.{asks}
 use Rattle.number.specs.Answer.{truthOf}
 use Rattle.judge.specs.Answer.{kindOf}
 use Rattle.judge.specs.Told.{Seen, asksOf, placeOf}

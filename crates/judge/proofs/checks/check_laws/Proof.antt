@@ -1,13 +1,8 @@
-use Prim.Native.Nat.{ℕ, zero, suc, _+_, _-_, _*_, _≤_, _<_}
-use mathlib.Core.Path.{_≡_, refl, sym, ap, _∙_}
-use mathlib.Core.Logic.{_⊎_, inl, inr, ⊎-elim}
-use mathlib.Core.List.{List, [], _∷_, _++_}
-use mathlib.Core.Bool.{Bool, true, false}
-use native.Mathlib.Omega.{arith}
+use Prim.Native.Nat.{ℕ, _-_}
+use mathlib.Core.Path.{_≡_, sym, ap, _∙_}
 use borrow.Author.Needs.{needs}
-use lib.IntN.{ℤ, pos}
-use lib.ListN.{length, getD, take, drop, set}
-use Rattle.bmap.specs.Domain.{Domain, Law, Scope}
+use lib.ListN.{drop}
+use Rattle.bmap.specs.Domain.{Domain, Scope}
 use Rattle.bmap.specs.Meaning.{History}
 use Rattle.bmap.specs.Judge.{eachFrom, holds}
 use Rattle.bmap.specs.Payload.{asks}

@@ -1,14 +1,10 @@
-use Prim.Native.Nat.{ℕ, zero, suc, _+_, _-_, _*_, _≤_, _<_}
-use mathlib.Core.Path.{_≡_, refl, sym, ap, _∙_}
-use mathlib.Core.Logic.{_⊎_, inl, inr, ⊎-elim}
-use mathlib.Core.List.{List, [], _∷_, _++_}
-use mathlib.Core.Bool.{Bool, true, false}
+use Prim.Native.Nat.{_-_}
+use mathlib.Core.Path.{sym, _∙_}
+use mathlib.Core.Bool.{Bool}
 use native.Mathlib.Omega.{arith}
 use borrow.Author.Needs.{needs}
-use lib.IntN.{ℤ, pos}
-use lib.ListN.{length, getD, take, drop, set}
 use mathlib.Core.Path.{subst}
-use Rattle.judge.specs.Told.{lawNumber, Seen, asksOf}
+use Rattle.judge.specs.Told.{lawNumber, Seen}
 use Rattle.judge.proofs.CheckLaws.{permits-other, permits-mine, owned-place, said}
 use Rattle.judge.proofs.checks.try_law.Statement.{statement}
 use Rattle.judge.proofs.checks.try_law.Tie as tie

@@ -1,12 +1,12 @@
-use Prim.Native.Nat.{ℕ, zero, suc, _+_, _-_, _*_, _≤_, _<_}
+use Prim.Native.Nat.{ℕ, _-_, _≤_, _<_}
 use mathlib.Core.Path.{_≡_, refl, sym, ap, _∙_}
 use mathlib.Core.Logic.{_⊎_, inl, inr, ⊎-elim}
-use mathlib.Core.List.{List, [], _∷_, _++_}
-use mathlib.Core.Bool.{Bool, true, false}
+use mathlib.Core.List.{List, [], _∷_}
+use mathlib.Core.Bool.{true}
 use native.Mathlib.Omega.{arith}
 use borrow.Author.Needs.{needs}
 use lib.IntN.{ℤ, pos}
-use lib.ListN.{length, getD, take, drop, set}
+use lib.ListN.{length, getD, drop}
 use lib.ListN as list
 use mathlib.Core.Option.{some}
 use mir.Syntax.{w32}
@@ -15,7 +15,7 @@ use borrow.Author.Tests.{not-false, not-true}
 use Rattle.bmap.specs.Plain.{all}
 use Rattle.bmap.specs.Limits.{mostLaws}
 use Rattle.bmap.specs.Number.{value}
-use Rattle.bmap.specs.Domain.{Domain, Names, Law}
+use Rattle.bmap.specs.Domain.{Domain, Names}
 use Rattle.bmap.specs.Meaning.{History}
 use Rattle.bmap.specs.Judge.{Checked, fine, fault, Setting, agrees, settled}
 use Rattle.judge.specs.Answer.{wantsOf}

@@ -1,14 +1,8 @@
-use Prim.Native.Nat.{ℕ, zero, suc, _+_, _-_, _*_, _≤_, _<_}
-use mathlib.Core.Path.{_≡_, refl, sym, ap, _∙_}
-use mathlib.Core.Logic.{_⊎_, inl, inr, ⊎-elim}
-use mathlib.Core.List.{List, [], _∷_, _++_}
-use mathlib.Core.Bool.{Bool, true, false}
+use Prim.Native.Nat.{_-_}
+use mathlib.Core.Path.{refl}
 use native.Mathlib.Omega.{arith}
 use borrow.Author.Needs.{needs}
-use lib.IntN.{ℤ, pos}
-use lib.ListN.{length, getD, take, drop, set}
-use Prim.Native.Nat.{_/_}
-use Rattle.bmap.specs.Limits.{levelsSize}
+use lib.ListN.{length}
 use Rattle.index.specs.Index.{domainOf}
 use Rattle.judge.specs.Prepared.{judgedOf}
 use Rattle.judge.proofs.StateLaws.{states-length}
@@ -38,7 +32,7 @@ slice-aggregate-copy-states : tie.Need-slice-aggregate-copy-states
 slice-aggregate-copy-states c = search needs
 
 copy-states-requires : tie.Need-copy-states-requires
-copy-states-requires c κs = (c .before .before .before .judge-steps .ensures .0 .0, (c .before .before .before .before .before .before .before .before .before .pre .0 .fluents, (c .before .before .before .judge-steps .ensures .0 .1, c .before .before .before .before .before .before .before .before .before .pre .1)))
+copy-states-requires c κs = (omega (arith, c .before .before .before .judge-steps .ensures .0 .0), (c .before .before .before .before .before .before .before .before .before .pre .0 .fluents, (c .before .before .before .judge-steps .ensures .0 .1, c .before .before .before .before .before .before .before .before .before .pre .1)))
 
 same-length : tie.Need-same-length
 same-length c = search needs

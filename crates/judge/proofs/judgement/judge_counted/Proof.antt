@@ -1,20 +1,11 @@
-use Prim.Native.Nat.{ℕ, zero, suc, _+_, _-_, _*_, _≤_, _<_}
-use mathlib.Core.Path.{_≡_, refl, sym, ap, _∙_}
-use mathlib.Core.Logic.{_⊎_, inl, inr, ⊎-elim}
-use mathlib.Core.List.{List, [], _∷_, _++_}
-use mathlib.Core.Bool.{Bool, true, false}
-use native.Mathlib.Omega.{arith}
+use Prim.Native.Nat.{_-_}
+use mathlib.Core.Path.{_≡_, sym, ap, _∙_}
 use borrow.Author.Needs.{needs}
-use lib.IntN.{ℤ, pos}
-use lib.ListN.{length, getD, take, drop, set}
 use mathlib.Core.Path.{subst}
 use borrow.Author.Tests.{not-false, not-true}
-use Rattle.bmap.specs.Limits.{levelsSize}
 use Rattle.bmap.specs.Refusal.{got}
 use Rattle.bmap.specs.Store.{domainIn}
 use Rattle.index.specs.Index.{domainOf, Sound}
-use Rattle.index.specs.declared.Index.{Index}
-use Rattle.domain.specs.Found.{foundIn}
 use Rattle.domain.specs.declared.found.Found.{Found}
 use Rattle.domain.proofs.Accepted.{found-ok, found-none}
 use Rattle.judge.proofs.CallLaws.{call-short, call-none, call-judged}

@@ -1,14 +1,8 @@
-use Prim.Native.Nat.{ℕ, zero, suc, _+_, _-_, _*_, _≤_, _<_}
-use mathlib.Core.Path.{_≡_, refl, sym, ap, _∙_}
-use mathlib.Core.Logic.{_⊎_, inl, inr, ⊎-elim}
-use mathlib.Core.List.{List, [], _∷_, _++_}
-use mathlib.Core.Bool.{Bool, true, false}
+use Prim.Native.Nat.{_-_}
+use mathlib.Core.Path.{_≡_, sym}
 use native.Mathlib.Omega.{arith}
 use borrow.Author.Needs.{needs}
-use lib.IntN.{ℤ, pos}
-use lib.ListN.{length, getD, take, drop, set}
-use lib.ListN as list
-use borrow.Author.Needs.{length-unmapped}
+use lib.ListN.{length}
 use Rattle.index.specs.declared.Index.{Index}
 use Rattle.index.specs.Index.{domainOf}
 use Rattle.judge.proofs.IndexLaws.{index-lawful, index-ranged, index-entered, index-entries, index-agents, index-started, index-knowing}

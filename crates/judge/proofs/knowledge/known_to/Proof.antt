@@ -1,13 +1,7 @@
-use Prim.Native.Nat.{ℕ, zero, suc, _+_, _-_, _*_, _≤_, _<_}
-use mathlib.Core.Path.{_≡_, refl, sym, ap, _∙_}
-use mathlib.Core.Logic.{_⊎_, inl, inr, ⊎-elim}
-use mathlib.Core.List.{List, [], _∷_, _++_}
-use mathlib.Core.Bool.{Bool, true, false}
+use Prim.Native.Nat.{_-_, _≤_}
+use mathlib.Core.Path.{_≡_, _∙_}
 use native.Mathlib.Omega.{arith}
 use borrow.Author.Needs.{needs}
-use lib.IntN.{ℤ, pos}
-use lib.ListN.{length, getD, take, drop, set}
-use lib.Dec.{eqb}
 use Rattle.judge.specs.Masks.{maskFrom}
 use Rattle.judge.proofs.MaskLaws.{mask-none, mask-more, mask-whole, mask-small}
 use Rattle.judge.proofs.KnowledgeLaws.{shared}

@@ -1,16 +1,11 @@
-use Prim.Native.Nat.{ℕ, zero, suc, _+_, _-_, _*_, _≤_, _<_}
-use mathlib.Core.Path.{_≡_, refl, sym, ap, _∙_}
-use mathlib.Core.Logic.{_⊎_, inl, inr, ⊎-elim}
-use mathlib.Core.List.{List, [], _∷_, _++_}
-use mathlib.Core.Bool.{Bool, true, false}
-use native.Mathlib.Omega.{arith}
-use borrow.Author.Needs.{needs}
-use lib.IntN.{ℤ, pos}
-use lib.ListN.{length, getD, take, drop, set}
+use Prim.Native.Nat.{_-_, _<_}
+use mathlib.Core.Path.{_≡_, ap, _∙_}
+use mathlib.Core.Bool.{true}
+use lib.IntN.{ℤ}
 use lib.Signed.{mag, leZ}
 use mir.Syntax.{w16}
 use mir.Val.{toZ, ofZ}
-use Rattle.judge.specs.declared.landing.Fit.the-variants.{Out, In}
+use Rattle.judge.specs.declared.landing.Fit.the-variants.{In}
 use Rattle.judge.proofs.SignedLaws.{back, back16, widened, widened-back, between}
 use Rattle.judge.proofs.LandingLaws.{fit-in, fit-above, fit-below}
 use Rattle.judge.proofs.landing.fitted.Statement.{statement}

@@ -1,15 +1,12 @@
-use Prim.Native.Nat.{ℕ, zero, suc, _+_, _-_, _*_, _≤_, _<_}
-use mathlib.Core.Path.{_≡_, refl, sym, ap, _∙_}
-use mathlib.Core.Logic.{_⊎_, inl, inr, ⊎-elim}
-use mathlib.Core.List.{List, [], _∷_, _++_}
-use mathlib.Core.Bool.{Bool, true, false}
+use Prim.Native.Nat.{ℕ, _+_, _-_, _*_, _≤_, _<_}
+use mathlib.Core.Path.{_≡_}
 use native.Mathlib.Omega.{arith}
 use borrow.Author.Needs.{needs}
-use lib.IntN.{ℤ, pos}
-use lib.ListN.{length, getD, take, drop, set}
+use lib.IntN.{pos}
+use lib.ListN.{length, getD}
 use Rattle.bmap.specs.Limits.{mostFluents}
 use Rattle.judge.proofs.LandingLaws.{filled-more}
-use Rattle.judge.proofs.SignedLaws.{back, back16, widened, widened-back}
+use Rattle.judge.proofs.SignedLaws.{widened, widened-back}
 use lib.ListN.{length-set}
 use Rattle.judge.proofs.landing.old_levels.Statement.{statement}
 use Rattle.judge.proofs.landing.old_levels.Tie as tie

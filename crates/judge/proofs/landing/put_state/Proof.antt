@@ -1,23 +1,20 @@
-use Prim.Native.Nat.{ℕ, zero, suc, _+_, _-_, _*_, _≤_, _<_}
-use mathlib.Core.Path.{_≡_, refl, sym, ap, _∙_}
-use mathlib.Core.Logic.{_⊎_, inl, inr, ⊎-elim}
-use mathlib.Core.List.{List, [], _∷_, _++_}
-use mathlib.Core.Bool.{Bool, true, false}
+use Prim.Native.Nat.{_+_, _-_, _*_, _≤_}
+use mathlib.Core.Path.{_≡_, refl, sym, _∙_}
+use mathlib.Core.List.{List}
 use native.Mathlib.Omega.{arith}
 use borrow.Author.Needs.{needs}
-use lib.IntN.{ℤ, pos}
-use lib.ListN.{length, getD, take, drop, set}
-use lib.Signed.{leZ}
+use lib.IntN.{pos}
+use lib.ListN.{length, getD, take, drop}
 use lib.ListN.{length-set}
 use lib.Seq.{take-set-le}
-use Rattle.bmap.specs.Plain.{both, numbers}
+use Rattle.bmap.specs.Plain.{numbers}
 use Rattle.bmap.specs.Limits.{mostFluents, levelsSize}
 use Rattle.bmap.specs.Domain.{Domain, State}
-use Rattle.bmap.specs.Judge.{eachFrom, inRange, Setting, stateAfter, unless}
+use Rattle.bmap.specs.Judge.{eachFrom, inRange, Setting, stateAfter}
 use mathlib.Core.List.{map}
 use Rattle.judge.specs.States.{stateAt}
 use Rattle.judge.specs.Landing.{Ranged, Laid}
-use Rattle.judge.proofs.SignedLaws.{back, back16}
+use Rattle.judge.proofs.SignedLaws.{back16}
 use Rattle.judge.proofs.LoopLaws.{ends, stops, on, each-on, each-stop, each-none}
 use Rattle.judge.proofs.StateLaws.{row-none, row-more, row-whole}
 use Rattle.judge.proofs.LandingLaws.{noFluent, levelThen, range-is, ranged-fine, ranged-fault, fit-told, unfit-told}

@@ -1,12 +1,8 @@
-use Prim.Native.Nat.{ℕ, zero, suc, _+_, _-_, _*_, _≤_, _<_}
-use mathlib.Core.Path.{_≡_, refl, sym, ap, _∙_}
-use mathlib.Core.Logic.{_⊎_, inl, inr, ⊎-elim}
-use mathlib.Core.List.{List, [], _∷_, _++_}
-use mathlib.Core.Bool.{Bool, true, false}
-use native.Mathlib.Omega.{arith}
+use Prim.Native.Nat.{ℕ, _+_, _-_}
+use mathlib.Core.Path.{sym, ap, _∙_}
+use mathlib.Core.Bool.{Bool}
 use borrow.Author.Needs.{needs}
-use lib.IntN.{ℤ, pos}
-use lib.ListN.{length, getD, take, drop, set}
+use lib.ListN.{getD}
 use borrow.Author.Tests.{not-false, not-true}
 use Rattle.bmap.specs.Number.{Valued, value}
 use Rattle.bmap.specs.Judge.{setsIf}
@@ -14,7 +10,7 @@ use Rattle.number.specs.Answer.{truthOf}
 use Rattle.judge.specs.Settings.{settingFrom}
 use Rattle.law.specs.Evaluate.{valueAt}
 use Rattle.bmap.specs.Limits.{mostDepth}
-use Rattle.bmap.specs.Meaning.{evalE, evalC}
+use Rattle.bmap.specs.Meaning.{evalE}
 use Rattle.judge.proofs.SettingLaws.{sets-none}
 use Rattle.judge.proofs.ReadingLaws.{effect-told, sets-if, effect-truth, effect-value, judged-given, judged-malformed}
 use Rattle.bmap.specs.Domain.{has}

@@ -1,17 +1,11 @@
-use Prim.Native.Nat.{ℕ, zero, suc, _+_, _-_, _*_, _≤_, _<_}
-use mathlib.Core.Path.{_≡_, refl, sym, ap, _∙_}
-use mathlib.Core.Logic.{_⊎_, inl, inr, ⊎-elim}
-use mathlib.Core.List.{List, [], _∷_, _++_}
-use mathlib.Core.Bool.{Bool, true, false}
+use Prim.Native.Nat.{_+_, _-_, _≤_}
+use mathlib.Core.Path.{_≡_, refl}
 use native.Mathlib.Omega.{arith}
 use borrow.Author.Needs.{needs}
-use lib.IntN.{ℤ, pos}
-use lib.ListN.{length, getD, take, drop, set}
-use lib.ListN as list
+use lib.IntN.{pos}
+use lib.ListN.{length, getD, drop}
 use lib.Seq.{paste, paste-zero}
 use Rattle.judge.proofs.StateLaws.{copy-more}
-use mir.Syntax.{w16}
-use mir.Val.{toZ, ofZ}
 use Rattle.judge.proofs.SignedLaws.{back16}
 use lib.ListN.{length-set}
 use Rattle.judge.proofs.states.copy_levels.Statement.{statement}

@@ -1,18 +1,13 @@
-use Prim.Native.Nat.{ℕ, zero, suc, _+_, _-_, _*_, _≤_, _<_}
-use mathlib.Core.Path.{_≡_, refl, sym, ap, _∙_}
-use mathlib.Core.Logic.{_⊎_, inl, inr, ⊎-elim}
-use mathlib.Core.List.{List, [], _∷_, _++_}
-use mathlib.Core.Bool.{Bool, true, false}
+use Prim.Native.Nat.{_+_, _-_, _≤_}
+use mathlib.Core.Path.{refl, sym, ap, _∙_}
 use native.Mathlib.Omega.{arith}
 use borrow.Author.Needs.{needs}
-use lib.IntN.{ℤ, pos}
-use lib.ListN.{length, getD, take, drop, set}
 use mathlib.Core.Path.{subst}
 use Rattle.bmap.specs.Limits.{mostLaws}
 use Rattle.bmap.specs.Domain.{static}
 use Rattle.bmap.specs.Judge.{history}
 use Rattle.judge.specs.States.{stateAt, statesOf}
-use Rattle.judge.specs.Settings.{settledOf, settingsOf, countOf}
+use Rattle.judge.specs.Settings.{settledOf, countOf}
 use Rattle.judge.specs.declared.effects.Settled.{Settled}
 use Rattle.judge.proofs.StateLaws.{states-at, states-more}
 use Rattle.judge.proofs.StepLaws.{seen-states, seen-all, landed-clash, landed-fault, landed-fine}

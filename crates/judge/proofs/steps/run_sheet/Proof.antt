@@ -1,26 +1,14 @@
-use Prim.Native.Nat.{ℕ, zero, suc, _+_, _-_, _*_, _≤_, _<_}
-use mathlib.Core.Path.{_≡_, refl, sym, ap, _∙_}
-use mathlib.Core.Logic.{_⊎_, inl, inr, ⊎-elim}
-use mathlib.Core.List.{List, [], _∷_, _++_}
-use mathlib.Core.Bool.{Bool, true, false}
+use Prim.Native.Nat.{ℕ, _+_, _-_}
+use mathlib.Core.Path.{refl, sym, ap, _∙_}
+use mathlib.Core.List.{List, [], _∷_}
 use native.Mathlib.Omega.{arith}
 use borrow.Author.Needs.{needs}
-use lib.IntN.{ℤ, pos}
-use lib.ListN.{length, getD, take, drop, set}
-use mathlib.Core.Path.{subst}
-use lib.ListN.{length-set}
-use Rattle.bmap.specs.Limits.{levelsSize, mostSteps}
-use Rattle.bmap.specs.Domain.{Domain, Names, State, static, goal}
+use Rattle.bmap.specs.Domain.{State, static, goal}
 use Rattle.bmap.specs.Sheet.{rows}
-use Rattle.bmap.specs.Judge.{history, startOf, carried, Judged}
-use Rattle.bmap.specs.Judge as paper
+use Rattle.bmap.specs.Judge.{history, startOf, carried}
 use Rattle.judge.specs.Answer.{passOf, verdictOf}
-use Rattle.judge.specs.States.{stateAt, statesOf}
-use Rattle.judge.specs.Told.{Seen}
-use Rattle.judge.specs.Prepared.{Prepared, judgedOf}
-use Rattle.judge.specs.declared.verdict.Verdict.{Verdict}
+use Rattle.judge.specs.States.{statesOf}
 use Rattle.judge.proofs.StateLaws.{states-one}
-use Rattle.judge.proofs.StepLaws.{seen-states}
 use Rattle.judge.proofs.RunLaws.{rows-length}
 use Rattle.judge.proofs.JudgeLaws.{start-copied, judge-start, judge-broken, judge-goal, judge-accepted}
 use Rattle.judge.proofs.StepLaws.{seen-at}

@@ -1,19 +1,15 @@
-use Prim.Native.Nat.{ℕ, zero, suc, _+_, _-_, _*_, _≤_, _<_}
+use Prim.Native.Nat.{ℕ, _+_, _-_, _*_, _≤_}
 use mathlib.Core.Path.{_≡_, refl, sym, ap, _∙_}
-use mathlib.Core.Logic.{_⊎_, inl, inr, ⊎-elim}
-use mathlib.Core.List.{List, [], _∷_, _++_}
-use mathlib.Core.Bool.{Bool, true, false}
+use mathlib.Core.List.{List}
 use native.Mathlib.Omega.{arith}
 use borrow.Author.Needs.{needs}
-use lib.IntN.{ℤ, pos}
-use lib.ListN.{length, getD, take, drop, set}
+use lib.ListN.{length, take, drop}
 use lib.ListN.{length-set, length-take}
 use lib.Seq.{length-take-le}
 use Rattle.bmap.specs.Limits.{levelsSize, mostSteps}
 use Rattle.bmap.specs.Domain.{Domain, Names}
 use Rattle.bmap.specs.Sheet.{rows}
 use Rattle.bmap.specs.Judge.{carried}
-use Rattle.judge.specs.Masks.{joinsAt, maskFrom, unionFrom}
 use Rattle.judge.specs.States.{stateAt, statesOf}
 use Rattle.judge.specs.Told.{Acted}
 use Rattle.judge.specs.Prepared.{Prepared, Entered}
@@ -21,7 +17,6 @@ use Rattle.judge.specs.declared.acting.Acting.{Acting}
 use Rattle.judge.proofs.StateLaws.{states-kept, states-more}
 use Rattle.judge.proofs.RunLaws.{occurring-is, belonging-is, acted-more, row-names, row-on, row-there, row-left, carried-end, carried-stop, carried-on}
 use Rattle.judge.proofs.RunLaws.{rows-start, left-start}
-use Rattle.judge.specs.Answer.{verdictOf}
 use Rattle.judge.proofs.RunLaws.{rest-is}
 use Rattle.bmap.specs.Judge.{accepted}
 use Rattle.judge.proofs.steps.run_steps.Statement.{statement}

@@ -1,9 +1,9 @@
 -- `session::judging::verdict` meets its contract.
 -- Assumes nothing.
-use mathlib.Core.Path.{_≡_, sym, _∙_}
+use mathlib.Core.Path.{sym, _∙_}
 use native.Mathlib.Omega.{arith}
 use borrow.Author.Tests.{not-true, not-false}
-use Rattle.session.proofs.OpeningLaws.{found-domain, found-none}
+use Rattle.session.proofs.OpeningLaws.{found-domain, found-refused}
 use Rattle.session.proofs.VerdictLaws.{bytes-length, bytes-room, bytes-within, verdict-17, verdict-10, verdict-15, verdict-16, verdict-judged}
 use borrow.Author.Needs.{needs}
 use Rattle.session.proofs.judging.verdict.Statement.{statement}
@@ -31,7 +31,7 @@ returns-3 c =
     let x = c .before .before .before .before .before .before .before .args in
     let h = sym (c .before .before .before .before .before .is-open .ensures) ∙ not-false (c .before .before .before .before .before .is-open .result) (c .before .before .before .before .if1 .left) in
     let found = c .before .before .index-of in
-    verdict-15 (x .s) (x .store .now) (x .levels .now) h (c .before .before .before .if2 .left) (found-none (x .store .now) (found .result) (found .ensures) (not-true (found .result .ok) (c .if3 .taken)))
+    verdict-15 (x .s) (x .store .now) (x .levels .now) h (c .before .before .before .if2 .left) (found-refused (x .store .now) (found .result) (found .ensures) (not-true (found .result .ok) (c .if3 .taken)))
 
 returns-4 : tie.Need-returns-4
 returns-4 c =

@@ -42,7 +42,7 @@ fn feed_from(input: &[u8], at: usize) -> usize
     i
 }
 
-pub fn sheet_place(input: &[u8]) -> Cut
+pub(crate) fn sheet_place(input: &[u8]) -> Cut
     ensures { λ r. ⌜ CutIn (now (input .entry)) (r .at) (r .lines) ⌝ }
 {
     let mut at: usize = 0;

@@ -10,7 +10,7 @@ ghost use Rattle.bmap.specs.Program.{decimal, decimalZ, spaced, lineOf, stateLi
 ghost use Rattle.answer.specs.Put.{Put};
 
 // Bytes as they are.
-pub fn put_text(out: &mut [u8], at: usize, word: &[u8]) -> usize
+pub(crate) fn put_text(out: &mut [u8], at: usize, word: &[u8]) -> usize
     requires { ⌜ at + length (now word) ≤ length (now out) ⌝ }
     ensures { λ r. ⌜ Put (now (out .entry)) at (now (word .entry)) r (now (out .exit)) ⌝ }
 {
@@ -23,7 +23,7 @@ pub fn put_text(out: &mut [u8], at: usize, word: &[u8]) -> usize
 }
 
 // The decimal digits of n.
-pub fn put_digits(out: &mut [u8], at: usize, n: usize) -> usize
+pub(crate) fn put_digits(out: &mut [u8], at: usize, n: usize) -> usize
     requires { ⌜ at + length (decimal n) ≤ length (now out) ⌝ }
     ensures { λ r. ⌜ Put (now (out .entry)) at (decimal n) r (now (out .exit)) ⌝ }
 {
@@ -37,7 +37,7 @@ pub fn put_digits(out: &mut [u8], at: usize, n: usize) -> usize
 }
 
 // A space, and the decimal digits of a number.
-pub fn put_number(out: &mut [u8], at: usize, n: usize) -> usize
+pub(crate) fn put_number(out: &mut [u8], at: usize, n: usize) -> usize
     requires { ⌜ at + 21 ≤ length (now out) ⌝ }
     ensures { λ r. ⌜ Put (now (out .entry)) at (spaced (decimal n ∷ [])) r (now (out .exit)) ⌝ }
     ensures { λ r. ⌜ r ≤ at + 21 ⌝ }
@@ -47,7 +47,7 @@ pub fn put_number(out: &mut [u8], at: usize, n: usize) -> usize
 }
 
 // A space, and a level with its sign: two's complement bits from 32,768 on stand for what is missing to 65,536.
-pub fn put_level(out: &mut [u8], at: usize, level: i16) -> usize
+pub(crate) fn put_level(out: &mut [u8], at: usize, level: i16) -> usize
     requires { ⌜ at + 7 ≤ length (now out) ⌝ }
     ensures { λ r. ⌜ Put (now (out .entry)) at (spaced (decimalZ level ∷ [])) r (now (out .exit)) ⌝ }
     ensures { λ r. ⌜ r ≤ at + 7 ⌝ }
@@ -75,7 +75,7 @@ fn level(levels: &[i16], i: usize) -> i16
 }
 
 // Levels, each after a space.
-pub fn put_levels(out: &mut [u8], at: usize, levels: &[i16]) -> usize
+pub(crate) fn put_levels(out: &mut [u8], at: usize, levels: &[i16]) -> usize
     requires { ⌜ at + 7 * length (now levels) ≤ length (now out) ⌝ }
     ensures { λ r. ⌜ Put (now (out .entry)) at (spaced (map decimalZ (now (levels .entry)))) r (now (out .exit)) ⌝ }
     ensures { λ r. ⌜ r ≤ at + 7 * length (now (levels .entry)) ⌝ }
@@ -90,7 +90,7 @@ pub fn put_levels(out: &mut [u8], at: usize, levels: &[i16]) -> usize
 }
 
 // "S", the number of a state and its levels.
-pub fn put_state(out: &mut [u8], at: usize, k: usize, levels: &[i16]) -> usize
+pub(crate) fn put_state(out: &mut [u8], at: usize, k: usize, levels: &[i16]) -> usize
     requires { ⌜ at + 24 + 7 * length (now levels) ≤ length (now out) ⌝ }
     ensures { λ r. ⌜ Put (now (out .entry)) at (lineOf (text "S") (decimal k ∷ map decimalZ (now (levels .entry)))) r (now (out .exit)) ⌝ }
     ensures { λ r. ⌜ r ≤ at + (24 + 7 * length (now (levels .entry))) ⌝ }
@@ -103,7 +103,7 @@ pub fn put_state(out: &mut [u8], at: usize, k: usize, levels: &[i16]) -> usize
 }
 
 // One line for each of the first states of a levels buffer.
-pub fn put_states(out: &mut [u8], levels: &[i16], width: usize, count: usize) -> usize
+pub(crate) fn put_states(out: &mut [u8], levels: &[i16], width: usize, count: usize) -> usize
     requires { ⌜ (width ≤ 32) × (count ≤ 65) × (count * width ≤ length (now levels)) × (248 * count ≤ length (now out)) ⌝ }
     ensures { λ r. ⌜ Put (now (out .entry)) 0 (stateLines 0 (rows width count (now (levels .entry)))) r (now (out .exit)) ⌝ }
     ensures { λ r. ⌜ r ≤ 248 * count ⌝ }
@@ -120,14 +120,20 @@ pub fn put_states(out: &mut [u8], levels: &[i16], width: usize, count: usize) ->
     place
 }
 
-pub fn put_accepted(out: &mut [u8], at: usize) -> usize
+pub(crate) fn put_accepted(out: &mut [u8], at: usize) -> usize
     requires { ⌜ at + 9 ≤ length (now out) ⌝ }
     ensures { λ r. ⌜ Put (now (out .entry)) at (lineOf (text "ACCEPTED") []) r (now (out .exit)) ⌝ }
 {
     put_text(out, at, b"ACCEPTED\n")
 }
 
-pub fn put_broken(out: &mut [u8], at: usize, kind: usize, step: usize, number: usize) -> usize
+pub(crate) fn put_broken(
+    out: &mut [u8],
+    at: usize,
+    kind: usize,
+    step: usize,
+    number: usize,
+) -> usize
     requires { ⌜ at + 70 ≤ length (now out) ⌝ }
     ensures { λ r. ⌜ Put (now (out .entry)) at (lineOf (text "BROKEN") (decimal kind ∷ decimal step ∷ decimal number ∷ [])) r (now (out .exit)) ⌝ }
 {
@@ -139,7 +145,7 @@ pub fn put_broken(out: &mut [u8], at: usize, kind: usize, step: usize, number: u
     three + 1
 }
 
-pub fn put_refused(out: &mut [u8], refusal: usize, line: usize) -> usize
+pub(crate) fn put_refused(out: &mut [u8], refusal: usize, line: usize) -> usize
     requires { ⌜ 50 ≤ length (now out) ⌝ }
     ensures { λ r. ⌜ Put (now (out .entry)) 0 (refusedText refusal line) r (now (out .exit)) ⌝ }
 {

@@ -15,7 +15,7 @@ pub struct Acting {
 }
 
 // "Mask bit i stands for agent i."
-pub fn has_agent(mask: u16, a: usize) -> bool
+pub(crate) fn has_agent(mask: u16, a: usize) -> bool
     requires { ⌜ a < mostAgents ⌝ }
     ensures { λ r. ⌜ r ≡ has mask a ⌝ }
 {
@@ -23,7 +23,7 @@ pub fn has_agent(mask: u16, a: usize) -> bool
 }
 
 // A mask has no bit past the last entry's.
-pub fn has_entry(mask: u64, i: usize) -> bool
+pub(crate) fn has_entry(mask: u64, i: usize) -> bool
     ensures { λ r. ⌜ r ≡ has mask i ⌝ }
 {
     if i < Counts::ENTRIES {
@@ -34,7 +34,7 @@ pub fn has_entry(mask: u64, i: usize) -> bool
 }
 
 // The mask, moved up by one, with a new lowest bit.
-pub fn pushed(mask: u64, bit: bool) -> u64
+pub(crate) fn pushed(mask: u64, bit: bool) -> u64
     requires { ⌜ mask < 2 ^ 63 ⌝ }
     ensures { λ r. ⌜ r ≡ mask * 2 + flagOf bit ⌝ }
 {
@@ -42,7 +42,7 @@ pub fn pushed(mask: u64, bit: bool) -> u64
 }
 
 // The agents of both masks, if the second is to be taken in.
-pub fn taken_in(agents: u16, others: u16, all: bool) -> u16
+pub(crate) fn taken_in(agents: u16, others: u16, all: bool) -> u16
     ensures { λ r. ⌜ r ≡ if-else all (bitOr agents others) agents ⌝ }
 {
     if all { agents | others } else { agents }
@@ -66,7 +66,7 @@ fn all_name(names: &[u8], action: u8, crew: u16) -> bool
 }
 
 // The first n entries, from the last to the first, so that each takes the lowest bit.
-pub fn who_acts(names: &[u8], actions: &[u8], crews: &[u16], n: usize) -> Acting
+pub(crate) fn who_acts(names: &[u8], actions: &[u8], crews: &[u16], n: usize) -> Acting
     requires { ⌜ (length (now names) ≤ mostAgents) × ((n ≤ mostEntries) × ((n ≤ length (now actions)) × (n ≤ length (now crews)))) ⌝ }
     ensures { λ r. ⌜ r ≡ actingOf (now (names .entry)) (now (actions .entry)) (now (crews .entry)) n ⌝ }
 {

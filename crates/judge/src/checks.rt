@@ -22,7 +22,7 @@ use number::Truth;
 
 // 1: "each agent by number: it names an action but belongs to no occurring entry with that name". The mask has the agents
 // who belong to an occurring entry, whose action they all name.
-pub fn check_agents(names: &[u8], agents: u16) -> Check
+pub(crate) fn check_agents(names: &[u8], agents: u16) -> Check
     requires { ⌜ length (now names) ≤ mostAgents ⌝ }
     ensures { λ r. ⌜ ((d : Domain) → Belonging d (now (names .entry)) agents → passOf r ≡ each (placed d (now (names .entry))) (now (names .entry))) ⌝ }
 {
@@ -93,7 +93,7 @@ fn check_entry(
 }
 
 // 2: "each occurring entry by number".
-pub fn check_entries(
+pub(crate) fn check_entries(
     store: &[u8],
     laws: &[u16],
     owners: &[u8],
@@ -159,7 +159,7 @@ fn check_law(
 }
 
 // 3, 6 and the goals: each law of a kind in order.
-pub fn check_laws(
+pub(crate) fn check_laws(
     store: &[u8],
     laws: &[u16],
     from: usize,

@@ -24,7 +24,7 @@ pub enum Settled {
     Count(usize),
 }
 
-pub fn same_level(a: i32, b: i32) -> bool
+pub(crate) fn same_level(a: i32, b: i32) -> bool
     ensures { λ r. ⌜ r ≡ same a b ⌝ }
 {
     if a <= b {
@@ -35,7 +35,7 @@ pub fn same_level(a: i32, b: i32) -> bool
 
 // The settings go to the front of two arrays, the oldest first. "a value differing from an earlier one for the same fluent:
 // kind 4, the later law": the exit with a label carries that law.
-pub fn settle(
+pub(crate) fn settle(
     store: &[u8],
     laws: &[u16],
     from: usize,

@@ -39,7 +39,7 @@ fn put(new: &mut [i32; Counts::FLUENTS], f: u8, v: i32)
 }
 
 // "Fluents that no law set keep their value": the settings over the old levels, the oldest first.
-pub fn new_levels(
+pub(crate) fn new_levels(
     levels: &[i16],
     j: usize,
     w: usize,
@@ -76,7 +76,7 @@ fn fitted(lowest: i16, v: i32, highest: i16) -> Fit
 }
 
 // 5: "each fluent by number, new value outside its range"; what is inside is stored as state j + 1.
-pub fn put_state(
+pub(crate) fn put_state(
     lowest: &[i16],
     highest: &[i16],
     w: usize,

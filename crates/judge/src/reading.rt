@@ -20,24 +20,24 @@ use number::Truth;
 use number::Value;
 
 // The kinds of laws.
-pub const EXECUTABLE: u8 = 0xA5;
+pub(crate) const EXECUTABLE: u8 = 0xA5;
 
-pub const EFFECT: u8 = 0xA6;
+pub(crate) const EFFECT: u8 = 0xA6;
 
-pub const STATIC: u8 = 0xA7;
+pub(crate) const STATIC: u8 = 0xA7;
 
-pub const CONCURRENCY: u8 = 0xA8;
+pub(crate) const CONCURRENCY: u8 = 0xA8;
 
-pub const GOAL: u8 = 0xA9;
+pub(crate) const GOAL: u8 = 0xA9;
 
-pub fn byte(s: &[u8], i: usize) -> u8
+pub(crate) fn byte(s: &[u8], i: usize) -> u8
     ensures { λ r. ⌜ r ≡ getD (now (s .entry)) i 0 ⌝ }
 {
     if i < s.len() { s[i] } else { 0 }
 }
 
 // What the constraint of a law gives at position j. It stands after kind and count, and after the entry if there is one.
-pub fn constraint_of(frame: &[u8], at: usize, levels: &[i16], occurred: &[u64], j: usize) -> Truth
+pub(crate) fn constraint_of(frame: &[u8], at: usize, levels: &[i16], occurred: &[u64], j: usize) -> Truth
     ensures { λ r. ⌜ ((d : Domain) (h : History) (l : Law) → Says d (now (frame .entry)) l → at ≡ placeOf l → Seen (asksOf l) d h (now (levels .entry)) (now (occurred .entry)) j → truthOf r ≡ evalC (conOf l) h j) ⌝ }
 {
     match law::constraint_at(frame, at, levels, occurred, j) {
@@ -71,7 +71,7 @@ fn setting_at(frame: &[u8], at: usize, levels: &[i16], occurred: &[u64], j: usiz
 }
 
 // "each A6 law in order whose entry occurs: constraint, and if true, expression"
-pub fn wanted(frame: &[u8], entries: u64, levels: &[i16], occurred: &[u64], j: usize) -> Wants
+pub(crate) fn wanted(frame: &[u8], entries: u64, levels: &[i16], occurred: &[u64], j: usize) -> Wants
     ensures { λ r. ⌜ ((d : Domain) (h : History) (l : Law) (names : Names) → Says d (now (frame .entry)) l → Occurring d names entries → Seen true d h (now (levels .entry)) (now (occurred .entry)) j → wantsOf r ≡ sets d h j names l) ⌝ }
 {
     if byte(frame, 0) != EFFECT {
@@ -124,7 +124,7 @@ fn end_of(store: &[u8], laws: &[u16], n: usize, kind: u8) -> usize
     i
 }
 
-pub fn run_of(store: &[u8], laws: &[u16], n: usize, kind: u8) -> Run
+pub(crate) fn run_of(store: &[u8], laws: &[u16], n: usize, kind: u8) -> Run
     ensures { λ r. ⌜ Within (now (store .entry)) (now (laws .entry)) n kind (r .from) (r .to) ⌝ }
 {
     let from = first_of(store, laws, n, kind);
@@ -141,7 +141,7 @@ pub struct Runs {
     pub goal: Run,
 }
 
-pub fn all_runs(store: &[u8], laws: &[u16], n: usize) -> Runs
+pub(crate) fn all_runs(store: &[u8], laws: &[u16], n: usize) -> Runs
     ensures { λ r. ⌜ Ordered (now (store .entry)) (now (laws .entry)) n r ⌝ }
 {
     let executable = run_of(store, laws, n, EXECUTABLE);

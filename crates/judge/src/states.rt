@@ -11,7 +11,7 @@ ghost use Rattle.judge.specs.States.{statesOf};
 use bmap::Counts;
 
 // So many levels, from a place of one buffer to a place of another.
-pub fn copy_levels(source: &[i16], from: usize, w: usize, levels: &mut [i16], at: usize)
+pub(crate) fn copy_levels(source: &[i16], from: usize, w: usize, levels: &mut [i16], at: usize)
     requires { ⌜ (from + w ≤ length (now source)) × (at + w ≤ length (now levels)) ⌝ }
     ensures { λ _. ⌜ now (levels .exit) ≡ paste (now (levels .entry)) at (drop from (now (source .entry))) w ⌝ }
 {
@@ -23,7 +23,7 @@ pub fn copy_levels(source: &[i16], from: usize, w: usize, levels: &mut [i16], at
 }
 
 // "The levels buffer receives the states reached, fluent by fluent; numbers after them are untouched."
-pub fn copy_states(history: &[i16], n: usize, w: usize, levels: &mut [i16])
+pub(crate) fn copy_states(history: &[i16], n: usize, w: usize, levels: &mut [i16])
     requires { ⌜ (n ≤ mostSteps + 1) × ((w ≤ mostFluents) × ((length (now history) ≡ levelsSize) × (levelsSize ≤ length (now levels)))) ⌝ }
     ensures { λ _. ⌜ now (levels .exit) ≡ over (flat (statesOf w n (now (history .entry)))) (now (levels .entry)) ⌝ }
 {

@@ -227,7 +227,7 @@ fn run_steps(
 }
 
 // The static laws on state 0, the steps, the goals after the last.
-pub fn run_sheet(
+pub(crate) fn run_sheet(
     store: &[u8],
     laws: &[u16],
     owners: &[u8],

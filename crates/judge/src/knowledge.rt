@@ -41,7 +41,12 @@ fn knowers_of(known: &[u8], knowers: &[u16], n: usize, f: usize) -> u16
 }
 
 // For each fluent, the agents who know it.
-pub(crate) fn all_knowers(known: &[u8], knowers: &[u16], n: usize, w: usize) -> [u16; Counts::FLUENTS]
+pub(crate) fn all_knowers(
+    known: &[u8],
+    knowers: &[u16],
+    n: usize,
+    w: usize,
+) -> [u16; Counts::FLUENTS]
     requires { ⌜ (w ≤ mostFluents) × ((n ≤ length (now known)) × (n ≤ length (now knowers))) ⌝ }
     ensures { λ r. ⌜ (length r ≡ mostFluents) × ((f : ℕ) → f < w → getD r f 0 ≡ unionFrom (λ i. eqb (getD (now (known .entry)) i 0) f) (now (knowers .entry)) 0 n) ⌝ }
 {

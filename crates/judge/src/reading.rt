@@ -37,7 +37,13 @@ pub(crate) fn byte(s: &[u8], i: usize) -> u8
 }
 
 // What the constraint of a law gives at position j. It stands after kind and count, and after the entry if there is one.
-pub(crate) fn constraint_of(frame: &[u8], at: usize, levels: &[i16], occurred: &[u64], j: usize) -> Truth
+pub(crate) fn constraint_of(
+    frame: &[u8],
+    at: usize,
+    levels: &[i16],
+    occurred: &[u64],
+    j: usize,
+) -> Truth
     ensures { λ r. ⌜ ((d : Domain) (h : History) (l : Law) → Says d (now (frame .entry)) l → at ≡ placeOf l → Seen (asksOf l) d h (now (levels .entry)) (now (occurred .entry)) j → truthOf r ≡ evalC (conOf l) h j) ⌝ }
 {
     match law::constraint_at(frame, at, levels, occurred, j) {
@@ -71,7 +77,13 @@ fn setting_at(frame: &[u8], at: usize, levels: &[i16], occurred: &[u64], j: usiz
 }
 
 // "each A6 law in order whose entry occurs: constraint, and if true, expression"
-pub(crate) fn wanted(frame: &[u8], entries: u64, levels: &[i16], occurred: &[u64], j: usize) -> Wants
+pub(crate) fn wanted(
+    frame: &[u8],
+    entries: u64,
+    levels: &[i16],
+    occurred: &[u64],
+    j: usize,
+) -> Wants
     ensures { λ r. ⌜ ((d : Domain) (h : History) (l : Law) (names : Names) → Says d (now (frame .entry)) l → Occurring d names entries → Seen true d h (now (levels .entry)) (now (occurred .entry)) j → wantsOf r ≡ sets d h j names l) ⌝ }
 {
     if byte(frame, 0) != EFFECT {

@@ -14,3 +14,4 @@ pub mod RunLaws
 pub mod JudgeLaws
 pub mod IndexLaws
 pub mod CallLaws
+pub mod Theorems

@@ -20,15 +20,15 @@ use number::Truth;
 use number::Value;
 
 // The kinds of laws.
-pub const EXECUTABLE: u8 = 0xA5;
+pub(crate) const EXECUTABLE: u8 = 0xA5;
 
-pub const EFFECT: u8 = 0xA6;
+pub(crate) const EFFECT: u8 = 0xA6;
 
-pub const STATIC: u8 = 0xA7;
+pub(crate) const STATIC: u8 = 0xA7;
 
-pub const CONCURRENCY: u8 = 0xA8;
+pub(crate) const CONCURRENCY: u8 = 0xA8;
 
-pub const GOAL: u8 = 0xA9;
+pub(crate) const GOAL: u8 = 0xA9;
 
 pub(crate) fn byte(s: &[u8], i: usize) -> u8
     ensures { λ r. ⌜ r ≡ getD (now (s .entry)) i 0 ⌝ }

@@ -1,0 +1,73 @@
+-- A judgement is the only one that keeps its promise: two answers that the paper numbers alike are one.
+use Prim.Native.Nat.{ℕ, _-_}
+use mathlib.Core.Path.{_≡_, refl, sym, ap, _∙_}
+use mathlib.Core.List.{List, [], _∷_}
+use lib.ListN.{getD}
+use Rattle.bmap.specs.Refusal.{numberOf}
+use Rattle.bmap.specs.declared.refusal.Refusal.{Refusal}
+use Rattle.bmap.specs.declared.refusal.Refusal.the-variants.{BadLine, BadCount, BadKind, BadPayload, TooMany, Repeated, Incomplete, NotWhole, TooLong, NoRoom, NoStep, NothingStands, NothingUndone, LogFull, NotDomain, OtherAgents, NotSession, LongInput}
+use Rattle.judge.specs.Answer.{kindOf, verdictOf, answerOf}
+use Rattle.judge.specs.declared.verdict.Fault.{Fault}
+use Rattle.judge.specs.declared.verdict.Fault.the-variants.{Misplaced, Barred, Concurrency, Conflict, Range, Static, NoValue, Goal}
+use Rattle.judge.specs.declared.verdict.Verdict.{Verdict}
+use Rattle.judge.specs.declared.verdict.Verdict.the-variants.{Accepted, Broken}
+use Rattle.judge.specs.declared.verdict.Judgement.{Judgement}
+use Rattle.judge.specs.declared.verdict.Judgement.the-variants.{Refused, Judged}
+
+-- the refusals and the faults by their number
+refusals : List Refusal
+refusals =
+    BadLine ∷ BadCount ∷ BadKind ∷ BadPayload ∷ TooMany ∷ Repeated ∷ Incomplete ∷ NotWhole ∷ TooLong ∷ NoRoom ∷ NoStep ∷ NothingStands ∷ NothingUndone ∷ LogFull ∷ NotDomain ∷ OtherAgents ∷ NotSession ∷ LongInput ∷ []
+
+refusal-of : (r : Refusal) → getD refusals (numberOf r - 1) BadLine ≡ r
+unfolding refusals
+refusal-of BadLine = refl
+refusal-of BadCount = refl
+refusal-of BadKind = refl
+refusal-of BadPayload = refl
+refusal-of TooMany = refl
+refusal-of Repeated = refl
+refusal-of Incomplete = refl
+refusal-of NotWhole = refl
+refusal-of TooLong = refl
+refusal-of NoRoom = refl
+refusal-of NoStep = refl
+refusal-of NothingStands = refl
+refusal-of NothingUndone = refl
+refusal-of LogFull = refl
+refusal-of NotDomain = refl
+refusal-of OtherAgents = refl
+refusal-of NotSession = refl
+refusal-of LongInput = refl
+
+same-refusal : (a b : Refusal) → numberOf a ≡ numberOf b → a ≡ b
+same-refusal a b e = sym (refusal-of a) ∙ (ap (λ (n : ℕ). getD refusals (n - 1) BadLine) e ∙ refusal-of b)
+
+faults : List Fault
+faults = Misplaced ∷ Barred ∷ Concurrency ∷ Conflict ∷ Range ∷ Static ∷ NoValue ∷ Goal ∷ []
+
+fault-of : (f : Fault) → getD faults (kindOf f - 1) Misplaced ≡ f
+unfolding faults
+fault-of Misplaced = refl
+fault-of Barred = refl
+fault-of Concurrency = refl
+fault-of Conflict = refl
+fault-of Range = refl
+fault-of Static = refl
+fault-of NoValue = refl
+fault-of Goal = refl
+
+pub same-fault : (a b : Fault) → kindOf a ≡ kindOf b → a ≡ b
+same-fault a b e = sym (fault-of a) ∙ (ap (λ (n : ℕ). getD faults (n - 1) Misplaced) e ∙ fault-of b)
+
+pub same-verdict : (a b : Verdict) → verdictOf a ≡ verdictOf b → a ≡ b
+same-verdict Accepted Accepted e = refl
+same-verdict Accepted (Broken f k n) e = cc
+same-verdict (Broken f k n) Accepted e = cc
+same-verdict (Broken f k n) (Broken g j m) e = let q : kindOf f ≡ kindOf g = cc in cc (same-fault f g q)
+
+pub same-judgement : (a b : Judgement) → answerOf a ≡ answerOf b → a ≡ b
+same-judgement (Refused r) (Refused q) e = let n : numberOf r ≡ numberOf q = cc in ap Refused (same-refusal r q n)
+same-judgement (Refused r) (Judged v) e = cc
+same-judgement (Judged v) (Refused r) e = cc
+same-judgement (Judged v) (Judged w) e = let q : verdictOf v ≡ verdictOf w = cc in ap Judged (same-verdict v w q)

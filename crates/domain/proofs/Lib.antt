@@ -20,3 +20,4 @@ pub mod WriterLaws
 pub mod FramesLaws
 -- THERE AND BACK: lines to a store to lines, a store to lines to a store.
 pub mod RoundTrip
+pub mod Returns

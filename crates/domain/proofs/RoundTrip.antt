@@ -334,6 +334,7 @@ read-again text buffer fs d e k r =
 -- the bytes used, and what the two calls leave
 pub record Again (s out buffer : List ℕ) : Type 0 where
   pub used : ℕ
+  pub within : used ≤ length s
   pub whole : s ≡ padded (length s) (take used s)
   pub characters : ℕ
   pub writes : writeDomain s out .answer ≡ got characters
@@ -352,6 +353,7 @@ store-again s out buffer d b e h r =
     let w : writeDomain s out ≡ record { answer = got (length (textOf s)); buffer = over (textOf s) out } = written-again s out d e h in
     record {
       used = length bytes;
+      within = omega (arith, ap length (k .bytes), length-append bytes (replicate (k .zeros-after) 0));
       whole =
           k .bytes ∙ ap (λ (i : ℕ). bytes ++ replicate i 0) (sym long)
           ∙ ap (padded (length s)) (sym front);

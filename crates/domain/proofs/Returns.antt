@@ -35,9 +35,12 @@ domain-returns store text new n b e h = by (domainIn store) refl
     kept a =
         let same : a .characters ≡ n = cc (a .writes, e) in
         let bytes : List ℕ = take (a .used) store in
-        let size : length bytes ≡ a .used = length-take-le (a .used) store (a .within) in
-        (bytes, a .whole, ap (λ (k : ℕ). readDomain (take k (writeDomain store text .buffer)) new) (sym same) ∙ a .reads
-        ∙ ap (λ (k : ℕ). record { answer = read k; buffer = padded (length new) bytes }) (sym size))
+        let size : length bytes ≡ a .used = length-take-le (a .used) store (a .within) in (
+          bytes,
+          a .whole,
+          ap (λ (k : ℕ). readDomain (take k (writeDomain store text .buffer)) new) (sym same) ∙ a .reads
+              ∙ ap (λ (k : ℕ). record { answer = read k; buffer = padded (length new) bytes }) (sym size),
+        )
 
     room : (d : Domain) → domainIn store ≡ got d → (t : Bool) → leb (length (textOf store)) (length text) ≡ t → (bytes : List ℕ) × (store ≡ padded (length store) bytes)
         × (readDomain (take n (writeDomain store text .buffer)) new ≡ record { answer = read (length bytes); buffer = padded (length new) bytes })

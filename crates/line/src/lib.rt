@@ -1,0 +1,16 @@
+// Hex lines and frames: the line at the front of a text to its frame's bytes, a frame's line, the frame at a place of a store.
+// `domain` and `sheet` stand on it for their readers and writers.
+mod buffer;
+mod digit;
+mod frame;
+mod read;
+mod write;
+
+pub use buffer::zero_from;
+pub use frame::FrameAt;
+pub use frame::frame_at;
+pub use read::FRAME;
+pub use read::FirstLine;
+pub use read::read_line;
+pub use write::Written;
+pub use write::put_line;

@@ -1,0 +1,174 @@
+-- The lines of a sheet, one by one, to the names in the buffer.
+use Prim.Native.Nat.{ℕ, zero, suc, _+_, _-_, _*_, _≤_, _<_}
+use native.Mathlib.Numerals.{add-one}
+use native.Mathlib.Omega.{arith}
+use mathlib.Core.Path.{_≡_, refl, sym, ap, _∙_}
+use mathlib.Core.Bool.{Bool, true, false}
+use mathlib.Core.Option.{none, some}
+use mathlib.Core.List.{List, [], _∷_, _++_, map, append-nil, append-assoc}
+use lib.Dec.{eqb, leb, ltb}
+use lib.ListN.{length, getD, take, drop, set, length-drop, length-append, length-take}
+use lib.Seq.{drop-cons, take-suc, length-take-le, set-at, take-at, getD-drop, take-append-le, drop-append-le}
+use borrow.Author.Tests.{lt-ltb, le-ltb, le-leb, lt-leb, eq-eqb, ne-eqb}
+use Rattle.bmap.specs.Plain.{both, if-else, flat}
+use Rattle.bmap.specs.Limits.{mostSteps, mostPayload, sheetSize}
+use Rattle.bmap.specs.Refusal.{Answer, got, refused, need, then}
+use Rattle.bmap.specs.Line.{Line, Frame, linesOf, decode, stored}
+use Rattle.bmap.specs.Domain.{Names}
+use Rattle.bmap.specs.Accept.{Reading, read, refusedAt, atLine, afterwards}
+use Rattle.bmap.specs.Buffer.{over, padded, fill}
+use Rattle.bmap.specs.Sheet.{stepOf, stepsFrom, stepsIn, readSheet}
+use Rattle.line.specs.Read.{frameSize, lineRead, bytesRead}
+use Rattle.line.proofs.Lists.{part-to-end}
+use Rattle.line.proofs.LineLaws.{Takes, Refuses, line-nothing, line-refused, line-taken}
+use Rattle.sheet.specs.Step.{agentsAllowed, outcome, counted, namesIn, LineRefused, LineStep}
+
+-- ---- the names of a frame
+
+pub copy-more : (f d : List ℕ) (i : ℕ) → i + 2 < length f → i < length d
+    → set (take i (drop 2 f) ++ drop i d) i (getD f (i + 2) 0) ≡ take (i + 1) (drop 2 f) ++ drop (i + 1) d
+copy-more f d i h k =
+    let s = drop 2 f in
+    let ls : i < length s = rw (length-drop 2 f) (omega arith) in
+    let n : i + 2 ≡ 2 + i = omega arith in
+    rw (add-one i, drop-cons d i 0 k, take-suc s i 0 ls, append-assoc (take i s) (getD s i 0 ∷ []) (drop (suc i) d), getD-drop 2 f i 0, ← n)
+    (set-at (take i s) (getD d i 0) (drop (suc i) d) (getD f (i + 2) 0) i (length-take-le i s (omega arith)))
+
+pub copy-done : (f d : List ℕ) (i agents : ℕ) → i ≡ agents → agents + 2 ≤ length f → take i (drop 2 f) ++ drop i d ≡ over (take agents (drop 2 f)) d
+copy-done f d i agents e h = rw (e, length-take-le agents (drop 2 f) (rw (length-drop 2 f) (omega arith))) refl
+
+-- ---- a line
+
+module _ (agents steps : ℕ) (rest frame : List ℕ) where
+  pub next-end : none ≡ lineRead rest frame → linesOf rest ≡ []
+  unfolding linesOf
+  next-end e = ap linesOf (line-nothing rest frame e)
+
+  pub next-refused : (n : ℕ) → frameSize ≤ length frame → some (refused n) ≡ lineRead rest frame → LineRefused agents steps rest n
+  next-refused n h e =
+      let r = line-refused rest frame n h e in
+      record { line = r .line; others = r .rest; lines = r .lines; is = rw (r .decodes) refl }
+
+module _ (agents steps : ℕ) (rest frame exit : List ℕ) (n k : ℕ) (t : Takes rest frame exit n k) where
+  -- the frame's kind and its names, where the bytes were left
+  kind-is : getD exit 0 0 ≡ t .frame .kind
+  kind-is = ap (λ (x : List ℕ). getD x 0 0) (t .left)
+
+  names-are : take (length (t .frame .payload)) (drop 2 exit) ≡ t .frame .payload
+  names-are =
+      ap (λ (x : List ℕ). take (length (t .frame .payload)) (drop 2 x)) (t .left)
+      ∙ take-at (t .frame .payload) (drop (length (stored (t .frame))) frame) (length (t .frame .payload)) refl
+
+  line-is : (number : ℕ) → stepOf agents steps (t .frame) ≡ refused number → LineRefused agents steps rest number
+  line-is number e = record { line = t .line; others = linesOf (drop k rest); lines = t .lines; is = rw (t .decodes) e }
+
+  pub bad-kind : (getD exit 0 0 ≡ 0xB1 → ⊥) → LineRefused agents steps rest 3
+  unfolding stepOf
+  bad-kind h = line-is 3 (simp (ne-eqb (t .frame .kind) 0xB1 (λ e. h (kind-is ∙ e))))
+
+  pub too-long : getD exit 0 0 ≡ 0xB1 → mostSteps ≤ steps → LineRefused agents steps rest 9
+  unfolding stepOf
+  too-long e h = line-is 9 (simp (eq-eqb (t .frame .kind) 0xB1 (sym kind-is ∙ e), le-ltb steps mostSteps h))
+
+  pub not-whole : getD exit 0 0 ≡ 0xB1 → steps < mostSteps → (n ≡ agents + 2 → ⊥) → LineRefused agents steps rest 8
+  unfolding stepOf
+  not-whole e h w =
+      line-is 8
+      (simp (
+        eq-eqb (t .frame .kind) 0xB1 (sym kind-is ∙ e),
+        lt-ltb steps mostSteps h,
+        ne-eqb (length (t .frame .payload)) agents (λ z. w (omega (arith, t .size))),
+      ))
+
+  pub a-step : getD exit 0 0 ≡ 0xB1 → steps < mostSteps → n ≡ agents + 2 → LineStep agents steps rest exit k
+  unfolding stepOf
+  a-step e h w =
+      let l : length (t .frame .payload) ≡ agents = omega (arith, t .size) in
+      record {
+        line = t .line;
+        names = t .frame .payload;
+        lines = t .lines;
+        is = rw (t .decodes) (simp (eq-eqb (t .frame .kind) 0xB1 (sym kind-is ∙ e), lt-ltb steps mostSteps h, eq-eqb (length (t .frame .payload)) agents l));
+        stand = sym names-are ∙ ap (λ (x : ℕ). take x (drop 2 exit)) l;
+        count = l;
+        before = h;
+        some = omega (arith, t .characters);
+        within = t .within;
+      }
+
+-- ---- the lines in turn
+
+-- the steps so far: as many as were counted, their names at the front of the buffer, and what is left of the text goes on from them
+pub record Done (agents : ℕ) (text rest buffer : List ℕ) (steps used : ℕ) : Type 0 where
+  pub done : List Names
+  pub count : length done ≡ steps
+  pub names : flat done ≡ take used buffer
+  pub goes : outcome agents text ≡ stepsFrom agents done (map decode (linesOf rest))
+
+flat-snoc : (l : List Names) (x : Names) → flat (l ++ (x ∷ [])) ≡ flat l ++ x
+unfolding flat
+flat-snoc [] x = append-nil x
+flat-snoc (a ∷ l) x = rw (flat-snoc l x) (sym (append-assoc a (flat l) x))
+
+module _ (agents : ℕ) (text : List ℕ) where
+  pub done-start : (buffer : List ℕ) → Done agents text text buffer 0 0
+  unfolding flat
+  done-start buffer = record { done = []; count = refl; names = refl; goes = refl }
+
+  module _ (rest buffer : List ℕ) (steps used : ℕ) (d : Done agents text rest buffer steps used) where
+    pub done-end : linesOf rest ≡ [] → (read steps ≡ counted (outcome agents text)) × (take used buffer ≡ namesIn (outcome agents text))
+    unfolding stepsFrom
+    done-end e =
+        let o : outcome agents text ≡ read (d .done) = d .goes ∙ rw e refl in
+        rw (o, d .count) (refl, sym (d .names))
+
+    pub done-refused : (n : ℕ) → LineRefused agents steps rest n → (refusedAt n (steps + 1) ≡ counted (outcome agents text)) × (take 0 buffer ≡ namesIn (outcome agents text))
+    unfolding stepsFrom
+    done-refused n r =
+        let o : outcome agents text ≡ refusedAt n (suc (length (d .done))) = d .goes ∙ rw (r .lines, d .count, r .is) refl in
+        rw (o, d .count, add-one steps) (refl, refl)
+
+    pub done-more : (frame p : List ℕ) (k : ℕ) → LineStep agents steps rest frame k → used + agents ≤ length buffer
+        → p ≡ over (take agents (drop 2 frame)) (take (length buffer - used) (drop used buffer))
+        → Done agents text (take (length rest - k) (drop k rest)) (take used buffer ++ (p ++ drop (length buffer - used) (drop used buffer))) (steps + 1) (used + agents)
+    unfolding stepsFrom
+    done-more frame p k s h e =
+        let x = s .names in
+        let a = take used buffer in
+        let q = drop (length x) (take (length buffer - used) (drop used buffer)) in
+        let z = drop (length buffer - used) (drop used buffer) in
+        let la : length a ≡ used = length-take-le used buffer (omega arith) in
+        let ep : p ≡ x ++ q = e ∙ ap (λ (y : List ℕ). over y (take (length buffer - used) (drop used buffer))) (sym (s .stand)) in
+        let cut : take (used + agents) (a ++ (p ++ z)) ≡ a ++ x
+        = rw (ep, append-assoc x q z, ← append-assoc a x (q ++ z)) (take-at (a ++ x) (q ++ z) (used + agents) (length-append a x ∙ omega (arith, s .count))) in
+        record {
+          done = d .done ++ (x ∷ []);
+          count = length-append (d .done) (x ∷ []) ∙ omega (arith, d .count);
+          names = flat-snoc (d .done) x ∙ ap (λ (y : List ℕ). y ++ x) (d .names) ∙ sym cut;
+          goes = d .goes ∙ rw (s .lines, d .count, s .is, part-to-end rest k) refl;
+        }
+
+-- ---- the whole
+
+fill-is : (o : Reading (List Names)) (answer : Reading ℕ) (z : List ℕ) (size : ℕ) → answer ≡ counted o → z ≡ padded size (namesIn o)
+    → (answer ≡ fill size (afterwards o (λ steps. read (record { count = length steps; bytes = flat steps }))) .answer)
+    × (z ≡ fill size (afterwards o (λ steps. read (record { count = length steps; bytes = flat steps }))) .buffer)
+fill-is (read steps) answer z size p q = (p, q)
+fill-is (refusedAt n line) answer z size p q = (p, q)
+
+module _ (agents : ℕ) (text buffer : List ℕ) where
+  pub read-short : length buffer < sheetSize → (refusedAt 10 0 ≡ readSheet agents text buffer .answer) × (buffer ≡ readSheet agents text buffer .buffer)
+  unfolding readSheet
+  read-short h = simp (lt-leb sheetSize (length buffer) h) (refl, refl)
+
+  pub read-agents : (z : List ℕ) → sheetSize ≤ length buffer → agentsAllowed agents ≡ false → z ≡ padded (length buffer) (take 0 buffer)
+      → (refusedAt 4 0 ≡ readSheet agents text buffer .answer) × (z ≡ readSheet agents text buffer .buffer)
+  unfolding readSheet stepsIn
+  read-agents z h e ez = simp (le-leb sheetSize (length buffer) h, e) (refl, ez)
+
+  pub read-lines : (answer : Reading ℕ) (b z : List ℕ) (used : ℕ) → sheetSize ≤ length buffer → agentsAllowed agents ≡ true → length b ≡ length buffer
+      → answer ≡ counted (outcome agents text) → take used b ≡ namesIn (outcome agents text) → z ≡ padded (length b) (take used b)
+      → (answer ≡ readSheet agents text buffer .answer) × (z ≡ readSheet agents text buffer .buffer)
+  unfolding readSheet stepsIn
+  read-lines answer b z used h e lb ea en ez =
+      simp (le-leb sheetSize (length buffer) h, e) (fill-is (outcome agents text) answer z (length buffer) ea (ez ∙ rw (en, lb) refl))

@@ -1,0 +1,12 @@
+pub mod PayloadLaws
+pub mod LawLaws
+pub mod CheckLaws
+pub mod Rows
+pub mod Passed
+pub mod Stands
+pub mod Gate
+pub mod FoundLaws
+pub mod Held
+pub mod Accepted
+pub mod ReaderLaws
+pub mod WriterLaws

@@ -1,0 +1,31 @@
+-- What the domain reader answers.
+use Prim.Native.Nat.{ℕ}
+use mathlib.Core.Path.{_≡_}
+use mathlib.Core.List.{List, map}
+use lib.ListN.{length, take}
+use Rattle.bmap.specs.Plain.{flat}
+use Rattle.bmap.specs.Refusal.{numberOf}
+use Rattle.bmap.specs.Accept.{Reading, read, refusedAt, afterwards}
+use Rattle.bmap.specs.Store.{framesOf, storedOf, reading}
+use Rattle.domain.specs.declared.reader.ReadDomain.{ReadDomain}
+use Rattle.domain.specs.declared.reader.ReadDomain.the-variants.{Read, Refused}
+
+-- the bytes used, or the refusal's number and its line
+abbrev pub readingOf : ReadDomain → Reading ℕ
+readingOf (Read used) = read used
+readingOf (Refused r line) = refusedAt (numberOf r) line
+
+-- ---- within the reader
+
+-- the frames of a text, end to end
+unfoldable pub bytesIn : List ℕ → List ℕ
+bytesIn text = flat (map storedOf (framesOf text))
+
+-- how many bytes they are, where the text is read
+unfoldable pub usedIn : List ℕ → Reading ℕ
+usedIn text = afterwards (reading text) (λ d. read (length (bytesIn text)))
+
+-- where it is read, they stand at the front
+abbrev pub Front : List ℕ → Reading ℕ → List ℕ → Type 0
+Front bytes (read n) store = take n store ≡ bytes
+Front bytes (refusedAt m line) store = Unit {0}

@@ -1,0 +1,109 @@
+// What one frame that passed its check adds to the numbers found so far.
+use crate::payload::byte_at;
+use crate::payload::value_at;
+use crate::payload::word_at;
+use bmap::Counts;
+ghost use mathlib.Core.Bool.{true};
+ghost use mathlib.Core.Path.{_≡_};
+ghost use Prim.Native.Nat.{_<_};
+ghost use lib.Dec.{eqb, leb};
+ghost use lib.ListN.{set};
+ghost use Rattle.bmap.specs.Limits.{mostEntries};
+ghost use Rattle.bmap.specs.Plain.{if-else};
+ghost use Rattle.bmap.specs.Payload.{byte, wordAt, valueAt};
+ghost use Rattle.bmap.specs.Accept.{room};
+ghost use Rattle.domain.specs.Found.{counted};
+
+// One more of a kind; the payload begins with x.
+pub(crate) fn count_frame(n: Counts, kind: u8, x: u8) -> Counts
+    requires { ⌜ room n kind ≡ true ⌝ }
+    ensures { λ r. ⌜ r ≡ counted n kind x ⌝ }
+{
+    let mut r = n;
+    match kind {
+        0xA1 => {
+            r.agents = x as usize;
+        }
+        0xA2 => {
+            r.fluents = n.fluents + 1;
+        }
+        0xA3 => {
+            r.knowledge = n.knowledge + 1;
+        }
+        0xA4 => {
+            r.entries = n.entries + 1;
+        }
+        _ => {
+            if kind >= 0xA5 {
+                r.laws = n.laws + 1;
+            }
+        }
+    }
+    r
+}
+
+// A2: a fluent's range and its start value.
+pub(crate) fn note_fluent(
+    n: Counts,
+    kind: u8,
+    p: &[u8],
+    lowest: &mut [i16; Counts::FLUENTS],
+    highest: &mut [i16; Counts::FLUENTS],
+    start: &mut [i16; Counts::FLUENTS],
+)
+    requires { ⌜ room n kind ≡ true ⌝ }
+    ensures { λ _. ⌜ (now (lowest .exit) ≡ if-else (eqb kind 0xA2) (set (now (lowest .entry)) (n .fluents) (valueAt (now (p .entry)) 0)) (now (lowest .entry))) × (now (highest .exit) ≡ if-else (eqb kind 0xA2) (set (now (highest .entry)) (n .fluents) (valueAt (now (p .entry)) 2)) (now (highest .entry))) × (now (start .exit) ≡ if-else (eqb kind 0xA2) (set (now (start .entry)) (n .fluents) (valueAt (now (p .entry)) 4)) (now (start .entry))) ⌝ }
+{
+    if kind == 0xA2 {
+        let i = n.fluents;
+        lowest[i] = value_at(p, 0);
+        highest[i] = value_at(p, 2);
+        start[i] = value_at(p, 4);
+    }
+}
+
+// A3: a fluent, and who knows it.
+pub(crate) fn note_knowledge(n: Counts, kind: u8, p: &[u8], known: &mut [u8; Counts::KNOWLEDGE], knowers: &mut [u16; Counts::KNOWLEDGE])
+    requires { ⌜ room n kind ≡ true ⌝ }
+    ensures { λ _. ⌜ (now (known .exit) ≡ if-else (eqb kind 0xA3) (set (now (known .entry)) (n .knowledge) (byte (now (p .entry)) 0)) (now (known .entry))) × (now (knowers .exit) ≡ if-else (eqb kind 0xA3) (set (now (knowers .entry)) (n .knowledge) (wordAt (now (p .entry)) 1)) (now (knowers .entry))) ⌝ }
+{
+    if kind == 0xA3 {
+        let i = n.knowledge;
+        known[i] = byte_at(p, 0);
+        knowers[i] = word_at(p, 1);
+    }
+}
+
+// A4: an action's name, and its crew.
+pub(crate) fn note_entry(n: Counts, kind: u8, p: &[u8], names: &mut [u8; Counts::ENTRIES], crews: &mut [u16; Counts::ENTRIES])
+    requires { ⌜ room n kind ≡ true ⌝ }
+    ensures { λ _. ⌜ (now (names .exit) ≡ if-else (eqb kind 0xA4) (set (now (names .entry)) (n .entries) (byte (now (p .entry)) 0)) (now (names .entry))) × (now (crews .exit) ≡ if-else (eqb kind 0xA4) (set (now (crews .entry)) (n .entries) (wordAt (now (p .entry)) 1)) (now (crews .entry))) ⌝ }
+{
+    if kind == 0xA4 {
+        let i = n.entries;
+        names[i] = byte_at(p, 0);
+        crews[i] = word_at(p, 1);
+    }
+}
+
+// A5: its entry has an executability law.
+pub(crate) fn note_ready(kind: u8, p: &[u8], ready: &mut [u8; Counts::ENTRIES])
+    requires { ⌜ (kind ≡ 0xA5 → byte (now p) 0 < mostEntries) ⌝ }
+    ensures { λ _. ⌜ now (ready .exit) ≡ if-else (eqb kind 0xA5) (set (now (ready .entry)) (byte (now (p .entry)) 0) 1) (now (ready .entry)) ⌝ }
+{
+    if kind == 0xA5 {
+        let i = byte_at(p, 0) as usize;
+        ready[i] = 1;
+    }
+}
+
+// A5 to A9: the place of a law's frame.
+pub(crate) fn note_law(n: Counts, kind: u8, at: u16, laws: &mut [u16; Counts::LAWS])
+    requires { ⌜ room n kind ≡ true ⌝ }
+    ensures { λ _. ⌜ now (laws .exit) ≡ if-else (leb 0xA5 kind) (set (now (laws .entry)) (n .laws) at) (now (laws .entry)) ⌝ }
+{
+    if kind >= 0xA5 {
+        let i = n.laws;
+        laws[i] = at;
+    }
+}

@@ -1,0 +1,113 @@
+// Whether a payload is as its kind describes it: what refusal 4 asks.
+use bmap::Counts;
+use crate::laws::law_fits;
+ghost use mathlib.Core.Path.{_≡_};
+ghost use Prim.Native.Nat.{_<_};
+ghost use lib.Signed.{leZ};
+ghost use Rattle.bmap.specs.Payload.{byte, wordAt, valueAt, maskFits, agentsFit, fluentFits, knowledgeFits, entryFits, itemIn};
+ghost use Rattle.domain.specs.Check.{isSome};
+
+pub(crate) fn byte_at(p: &[u8], i: usize) -> u8
+    ensures { λ r. ⌜ r ≡ byte (now (p .entry)) i ⌝ }
+{
+    if i < p.len() { p[i] } else { 0 }
+}
+
+// Two bytes, high byte first.
+pub(crate) fn word_at(p: &[u8], i: usize) -> u16
+    requires { ⌜ i < 120 ⌝ }
+    ensures { λ r. ⌜ r ≡ wordAt (now (p .entry)) i ⌝ }
+{
+    byte_at(p, i) as u16 * 256 + byte_at(p, i + 1) as u16
+}
+
+pub(crate) fn value_at(p: &[u8], i: usize) -> i16
+    requires { ⌜ i < 120 ⌝ }
+    ensures { λ r. ⌜ r ≡ valueAt (now (p .entry)) i ⌝ }
+{
+    number::signed_word(byte_at(p, i), byte_at(p, i + 1))
+}
+
+// Some agent, and no unknown one.
+fn mask_fits(n: Counts, mask: u16) -> bool
+    ensures { λ r. ⌜ r ≡ maskFits n mask ⌝ }
+{
+    if mask == 0 {
+        return false;
+    }
+    let agents = n.agents;
+    if agents >= Counts::AGENTS {
+        return true;
+    }
+    mask >> (agents as u32) == 0
+}
+
+fn agents_fit(p: &[u8]) -> bool
+    ensures { λ r. ⌜ r ≡ agentsFit (now (p .entry)) ⌝ }
+{
+    if p.len() != 1 {
+        return false;
+    }
+    if p[0] == 0 {
+        return false;
+    }
+    (p[0] as usize) <= Counts::AGENTS
+}
+
+fn at_most(a: i16, b: i16) -> bool
+    ensures { λ r. ⌜ r ≡ leZ a b ⌝ }
+{
+    a <= b
+}
+
+// "lowest ≤ start ≤ highest"
+fn fluent_fits(p: &[u8]) -> bool
+    ensures { λ r. ⌜ r ≡ fluentFits (now (p .entry)) ⌝ }
+{
+    if p.len() != 6 {
+        return false;
+    }
+    let lowest = value_at(p, 0);
+    let highest = value_at(p, 2);
+    let start = value_at(p, 4);
+    if at_most(lowest, start) {
+        return at_most(start, highest);
+    }
+    false
+}
+
+fn knowledge_fits(n: Counts, p: &[u8]) -> bool
+    ensures { λ r. ⌜ r ≡ knowledgeFits n (now (p .entry)) ⌝ }
+{
+    if p.len() != 3 {
+        return false;
+    }
+    if (byte_at(p, 0) as usize) < n.fluents {
+        return mask_fits(n, word_at(p, 1));
+    }
+    false
+}
+
+fn entry_fits(n: Counts, p: &[u8]) -> bool
+    ensures { λ r. ⌜ r ≡ entryFits n (now (p .entry)) ⌝ }
+{
+    if p.len() != 3 {
+        return false;
+    }
+    if byte_at(p, 0) == 0 {
+        return false;
+    }
+    mask_fits(n, word_at(p, 1))
+}
+
+pub(crate) fn payload_fits(n: Counts, kind: u8, p: &[u8]) -> bool
+    ensures { λ r. ⌜ r ≡ isSome (itemIn n kind (now (p .entry))) ⌝ }
+{
+    match kind {
+        0xA1 => agents_fit(p),
+        0xA2 => fluent_fits(p),
+        0xA3 => knowledge_fits(n, p),
+        0xA4 => entry_fits(n, p),
+        _ => law_fits(n, kind, p),
+    }
+}

@@ -1,0 +1,261 @@
+-- The checker's answer for a tree, by its answers for the operands.
+use mathlib.Core.Path.{_≡_, refl, sym, ap, _∙_}
+use mathlib.Core.Bool.{Bool, true, false}
+use mathlib.Core.List.{List, [], _∷_, _++_}
+use mathlib.Core.Option.{Option, none, some}
+use Prim.Native.Nat.{ℕ, zero, suc, _+_, _-_, _*_, _/_, _%_, _^_, _≤_, _<_}
+use native.Mathlib.Nat.{add-assoc, lt-of-lt-of-le, div-eq-of-lt}
+use native.Mathlib.Omega.{arith}
+use native.Mathlib.Decide.{ℕ-discrete}
+use types.Run.{OneOf}
+use denote.Enum.Declared.{tagOf}
+use lib.Dec.{leb, ltb}
+use lib.Pow.{pow-mono}
+use lib.ListN.{length, drop, getD}
+use lib.Seq.{drop-drop}
+use Rattle.bmap.specs.declared.Operation.{Operation}
+use Rattle.bmap.specs.declared.Single.{Single}
+use Rattle.bmap.specs.declared.Comparison.{Comparison}
+use Rattle.bmap.specs.declared.Junction.{Junction}
+use Rattle.bmap.specs.Plain.{both, all, if-else}
+use Rattle.bmap.specs.declared.limits.Context.{Context}
+use Rattle.bmap.specs.Limits.{mostLag}
+use Rattle.bmap.specs.Number.{signedWord}
+use Rattle.bmap.specs.Tree.{Expr, Con, constant, fluent, two, one, reified, compared, joined, negated, occurs, always, allowedE, allowedC, namedE, namedC}
+use Rattle.bmap.specs.Code.{Code, Parsed, Parser, codeOf, parsed, made, second, operand, operands, twoBytes, parseE, parseC}
+use Rattle.law.specs.declared.table.Operand.the-variants as each
+use Rattle.law.specs.declared.table.Shape.{Shape}
+use Rattle.law.specs.declared.table.Node.the-variants.{Expression, Constraint}
+use Rattle.law.specs.declared.table.Pair.the-variants.{Bytes, Short}
+use Rattle.law.specs.declared.check.Checked.{Checked}
+use Rattle.law.specs.declared.check.Checked.the-variants.{Next, Refused}
+use Rattle.law.specs.declared.check.Test.{Test}
+use Rattle.law.specs.declared.check.Test.the-variants.{Allowed, Known}
+use Rattle.law.specs.Shape.{opened, pairOf, operationOf, singleOf, comparisonOf, junctionOf}
+use Rattle.law.specs.Names.{bit, namesOnly}
+use Rattle.law.specs.Check.{checked, passesE, passesC}
+use Rattle.law.proofs.table.Operand as operand-type
+use Rattle.law.proofs.Trees.{at-constant, at-fluent, at-reified, at-one, at-two, at-truth, at-occurrence, at-negation, at-junction, at-comparison, no-entry, no-other, no-pair, a-pair}
+
+-- A tree passes where its operands do.
+both-true : (b : Bool) → both b true ≡ b
+both-true true = refl
+both-true false = refl
+
+both-both : (a b c : Bool) → both a (both b c) ≡ both (both a b) c
+both-both true b c = refl
+both-both false b c = refl
+
+both-all : (p : ℕ → Bool) (l m : List ℕ) → all p (l ++ m) ≡ both (all p l) (all p m)
+unfolding all
+both-all p [] m = refl
+both-all p (a ∷ l) m = rw (both-all p l m) (both-both (p a) (all p l) (all p m))
+
+pub passes-constant : (t : Test) (hi lo : ℕ) → passesE t (constant (signedWord hi lo)) ≡ true
+unfolding allowedE namedE all
+passes-constant (Allowed x) hi lo = refl
+passes-constant (Known m) hi lo = refl
+
+passes-two : (t : Test) (o : Operation) (a b : Expr) → passesE t (two o a b) ≡ both (passesE t a) (passesE t b)
+unfolding allowedE namedE
+passes-two (Allowed x) o a b = refl
+passes-two (Known m) o a b = both-all (bit m) (namedE a) (namedE b)
+
+passes-one : (t : Test) (o : Single) (a : Expr) → passesE t (one o a) ≡ passesE t a
+unfolding allowedE namedE
+passes-one (Allowed x) o a = refl
+passes-one (Known m) o a = refl
+
+passes-reified : (t : Test) (a : Con) → passesE t (reified a) ≡ passesC t a
+unfolding allowedE namedE
+passes-reified (Allowed x) a = refl
+passes-reified (Known m) a = refl
+
+passes-compared : (t : Test) (o : Comparison) (a b : Expr) → passesC t (compared o a b) ≡ both (passesE t a) (passesE t b)
+unfolding allowedC namedC
+passes-compared (Allowed x) o a b = refl
+passes-compared (Known m) o a b = both-all (bit m) (namedE a) (namedE b)
+
+passes-joined : (t : Test) (o : Junction) (a b : Con) → passesC t (joined o a b) ≡ both (passesC t a) (passesC t b)
+unfolding allowedC namedC
+passes-joined (Allowed x) o a b = refl
+passes-joined (Known m) o a b = both-all (bit m) (namedC a) (namedC b)
+
+passes-negated : (t : Test) (a : Con) → passesC t (negated a) ≡ passesC t a
+unfolding allowedC namedC
+passes-negated (Allowed x) a = refl
+passes-negated (Known m) a = refl
+
+passes-always : (t : Test) → passesC t always ≡ true
+unfolding allowedC namedC all
+passes-always (Allowed x) = refl
+passes-always (Known m) = refl
+
+-- The tests of a leaf.
+module _ (t : Test) (n lag : ℕ) where
+  pub fluent-allowed : {x : Context} → t ≡ Allowed x → both (ltb n (x .fluents)) (leb lag mostLag) ≡ passesE t (fluent n lag)
+  unfolding allowedE
+  fluent-allowed e = rw e
+
+  pub fluent-known : {m : ℕ} → t ≡ Known m → bit m n ≡ passesE t (fluent n lag)
+  unfolding namedE all
+  fluent-known {m} e = rw e (sym (both-true (bit m n)))
+
+  pub entry-allowed : {x : Context} → t ≡ Allowed x → x .occurrences ≡ true → both (ltb n (x .entries)) (leb lag mostLag) ≡ passesC t (occurs n lag)
+  unfolding allowedC
+  entry-allowed e o = rw (e, o)
+
+  pub entry-barred : {x : Context} → t ≡ Allowed x → x .occurrences ≡ false → false ≡ passesC t (occurs n lag)
+  unfolding allowedC
+  entry-barred e o = rw (e, o)
+
+  pub entry-known : {m : ℕ} → t ≡ Known m → true ≡ passesC t (occurs n lag)
+  unfolding namedC all
+  entry-known e = rw e
+
+-- a mask of w bits has none from w on
+pub no-bit : (w mask i : ℕ) → mask < 2 ^ w → w ≤ i → false ≡ bit mask i
+unfolding bit
+no-bit w mask i small past =
+    let z : mask / 2 ^ i ≡ 0 = div-eq-of-lt (lt-of-lt-of-le small (pow-mono past)) in
+    rw z
+
+-- One operand, and two.
+module _ {T A : Type 0} (okA : A → Bool) (okT : T → Bool) where
+  one-checked : (make : A → T) → ((a : A) → okT (make a) ≡ okA a) → (at k : ℕ) (o : Option (Parsed A)) → checked okA (at + k) o ≡ checked okT at (made make k o)
+  one-checked make h at k none = refl
+  one-checked make h at k (some p) = rw (h (p .tree), add-assoc at k (p .used))
+
+  module _ (make : A → A → T) (h : (a b : A) → okT (make a b) ≡ both (okA a) (okA b)) (pa : Parser A) (s : List ℕ) (at : ℕ) where
+    fails : (a : A) → okA a ≡ false → (k : ℕ) (o : Option (Parsed A)) → Refused ≡ checked okT at (made (make a) k o)
+    fails a f k none = refl
+    fails a f k (some p) = rw (h a (p .tree), f)
+
+    abbrev after : Checked → Checked
+    after Refused = Refused
+    after (Next m) = checked okA m (pa (drop m s))
+
+    two-checked : (o : Option (Parsed A)) → after (checked okA (at + 1) o) ≡ checked okT at (second make pa (drop (at + 1) s) o)
+    two-checked none = refl
+    two-checked (some p) = go (okA (p .tree)) refl
+      where
+        go : (b : Bool) → okA (p .tree) ≡ b → after (if-else b (Next (at + 1 + p .used)) Refused) ≡ checked okT at (made (make (p .tree)) (1 + p .used) (pa (drop (p .used) (drop (at + 1) s))))
+        go false f = fails (p .tree) f (1 + p .used) (pa (drop (p .used) (drop (at + 1) s)))
+        go true f =
+            rw (drop-drop (p .used) (at + 1) s, add-assoc at 1 (p .used))
+            (one-checked (make (p .tree)) (λ b. rw (h (p .tree) b, f)) at (1 + p .used) (pa (drop (at + (1 + p .used)) s)))
+
+    pub first-refused : Refused ≡ checked okA (at + 1) (pa (drop (at + 1) s)) → Refused ≡ checked okT at (operands make pa (drop (at + 1) s))
+    first-refused e = ap after e ∙ two-checked (pa (drop (at + 1) s))
+
+    pub then-second : {m : ℕ} → Next m ≡ checked okA (at + 1) (pa (drop (at + 1) s)) → checked okA m (pa (drop m s)) ≡ checked okT at (operands make pa (drop (at + 1) s))
+    then-second e = ap after e ∙ two-checked (pa (drop (at + 1) s))
+
+-- no tree is refused
+pub refused : {T : Type 0} (ok : T → Bool) (at : ℕ) {o : Option (Parsed T)} → o ≡ none → Refused ≡ checked ok at o
+refused ok at e = rw e
+
+-- The leaves.
+module _ {T : Type 0} (ok : T → Bool) (make : ℕ → ℕ → T) (s : List ℕ) (at : ℕ) where
+  pub leaf-short : Short ≡ pairOf (drop (at + 1) s) → Refused ≡ checked ok at (twoBytes make (drop (at + 1) s))
+  leaf-short e = refused ok at (no-pair make (drop (at + 1) s) e)
+
+  module _ {a b : ℕ} (e : Bytes a b ≡ pairOf (drop (at + 1) s)) where
+    pub leaf-passes : ok (make a b) ≡ true → Next (at + 3) ≡ checked ok at (twoBytes make (drop (at + 1) s))
+    leaf-passes h = rw (a-pair make (drop (at + 1) s) e, h)
+
+    pub leaf-fails : ok (make a b) ≡ false → Refused ≡ checked ok at (twoBytes make (drop (at + 1) s))
+    leaf-fails h = rw (a-pair make (drop (at + 1) s) e, h)
+
+-- The tree at a place, by its code.
+module _ (t : Test) (s : List ℕ) (at d : ℕ) (ne : d ≡ 0 → ⊥) (lt : at < length s) where
+  abbrev code : Code
+  code = codeOf (getD s at 0)
+
+  abbrev whole-e : Checked
+  whole-e = checked (passesE t) at (parseE d (drop at s))
+
+  abbrev part-e : ℕ → Checked
+  part-e m = checked (passesE t) m (parseE (d - 1) (drop m s))
+
+  abbrev whole-c : Checked
+  whole-c = checked (passesC t) at (parseC d (drop at s))
+
+  abbrev part-c : ℕ → Checked
+  part-c m = checked (passesC t) m (parseC (d - 1) (drop m s))
+
+  module _ {sh : Shape} (p : Expression sh ≡ opened code) where
+    pub check-constant : sh .each ≡ each.Value → checked (passesE t) at (twoBytes (λ hi lo. constant (signedWord hi lo)) (drop (at + 1) s)) ≡ whole-e
+    check-constant q = rw (at-constant s at d ne lt p q)
+
+    pub check-fluent : sh .each ≡ each.FluentLag → checked (passesE t) at (twoBytes fluent (drop (at + 1) s)) ≡ whole-e
+    check-fluent q = rw (at-fluent s at d ne lt p q)
+
+    pub check-entry : sh .each ≡ each.EntryLag → Refused ≡ whole-e
+    check-entry q = absurd (no-entry code p q)
+
+    pub check-reified : sh .each ≡ each.Constraint → part-c (at + 1) ≡ whole-e
+    check-reified q = rw (at-reified s at d ne lt p q) (one-checked (passesC t) (passesE t) reified (passes-reified t) at 1 (parseC (d - 1) (drop (at + 1) s)))
+
+    module _ (q : sh .each ≡ each.Expression) where
+      pub check-one : sh .operands ≡ 1 → part-e (at + 1) ≡ whole-e
+      check-one r = rw (at-one s at d ne lt p q r) (one-checked (passesE t) (passesE t) (one (singleOf code)) (passes-one t (singleOf code)) at 1 (parseE (d - 1) (drop (at + 1) s)))
+
+      pub check-two : {m : ℕ} → (sh .operands ≡ 1 → ⊥) → Next m ≡ part-e (at + 1) → part-e m ≡ whole-e
+      check-two r e = rw (at-two s at d ne lt p q r) (then-second (passesE t) (passesE t) (two (operationOf code)) (passes-two t (operationOf code)) (parseE (d - 1)) s at e)
+
+      pub check-first : Refused ≡ part-e (at + 1) → Refused ≡ whole-e
+      check-first e =
+          elim (ℕ-discrete (sh .operands) 1) [
+            yes r ↦ e ∙ check-one r
+            | no r ↦ rw (at-two s at d ne lt p q r) (first-refused (passesE t) (passesE t) (two (operationOf code)) (passes-two t (operationOf code)) (parseE (d - 1)) s at e)
+          ]
+
+  module _ {sh : Shape} (p : Constraint sh ≡ opened code) where
+    pub check-truth : sh .operands ≡ 0 → Next (at + 1) ≡ whole-c
+    check-truth q = rw (at-truth s at d ne lt p q, passes-always t)
+
+    pub check-occurrence : sh .each ≡ each.EntryLag → checked (passesC t) at (twoBytes occurs (drop (at + 1) s)) ≡ whole-c
+    check-occurrence q = rw (at-occurrence s at d ne lt p q)
+
+    pub check-other : OneOf (2 ∷ 3 ∷ []) (tagOf operand-type.the-type (sh .each)) → Refused ≡ whole-c
+    check-other q = absurd (no-other code p q)
+
+    module _ (q : sh .each ≡ each.Constraint) where
+      pub check-negation : sh .operands ≡ 1 → part-c (at + 1) ≡ whole-c
+      check-negation r = rw (at-negation s at d ne lt p q r) (one-checked (passesC t) (passesC t) negated (passes-negated t) at 1 (parseC (d - 1) (drop (at + 1) s)))
+
+      pub check-junction : {m : ℕ} → (sh .operands ≡ 1 → ⊥) → Next m ≡ part-c (at + 1) → part-c m ≡ whole-c
+      check-junction r e = rw (at-junction s at d ne lt p q r) (then-second (passesC t) (passesC t) (joined (junctionOf code)) (passes-joined t (junctionOf code)) (parseC (d - 1)) s at e)
+
+      pub check-first-c : Refused ≡ part-c (at + 1) → Refused ≡ whole-c
+      check-first-c e =
+          elim (ℕ-discrete (sh .operands) 1) [
+            yes r ↦ e ∙ check-negation r
+            | no r ↦ rw (at-junction s at d ne lt p q r) (first-refused (passesC t) (passesC t) (joined (junctionOf code)) (passes-joined t (junctionOf code)) (parseC (d - 1)) s at e)
+          ]
+
+    module _ (q : sh .each ≡ each.Expression) (r : sh .operands ≡ 0 → ⊥) where
+      pub check-compared : {m : ℕ} → Next m ≡ part-e (at + 1) → part-e m ≡ whole-c
+      check-compared e = rw (at-comparison s at d ne lt p q r) (then-second (passesE t) (passesC t) (compared (comparisonOf code)) (passes-compared t (comparisonOf code)) (parseE (d - 1)) s at e)
+
+      pub check-first-e : Refused ≡ part-e (at + 1) → Refused ≡ whole-c
+      check-first-e e = rw (at-comparison s at d ne lt p q r) (first-refused (passesE t) (passesC t) (compared (comparisonOf code)) (passes-compared t (comparisonOf code)) (parseE (d - 1)) s at e)
+
+-- What the place after a tree says of the fluents that it names.
+module _ (mask at : ℕ) where
+  pub names-all : {n : ℕ} (o : Option (Parsed Con)) → Next n ≡ checked (passesC (Known mask)) at o → true ≡ namesOnly mask o
+  names-all none e = cc
+  names-all {n} (some p) e = go (passesC (Known mask) (p .tree)) e
+    where
+      go : (b : Bool) → Next n ≡ if-else b (Next (at + p .used)) Refused → true ≡ b
+      go true e = refl
+      go false e = cc
+
+  pub names-more : (o : Option (Parsed Con)) → Refused ≡ checked (passesC (Known mask)) at o → false ≡ namesOnly mask o
+  names-more none e = refl
+  names-more (some p) e = go (passesC (Known mask) (p .tree)) e
+    where
+      go : (b : Bool) → Refused ≡ if-else b (Next (at + p .used)) Refused → false ≡ b
+      go true e = cc
+      go false e = refl

@@ -1,0 +1,189 @@
+// The checker: whether a tree stands at a place, and where it ends. A tree has to pass a test of what it names.
+// "Prefix bytes, nested at most 16 deep": the depth left falls from each tree to its operands.
+ghost use mathlib.Core.Path.{_≡_};
+ghost use Prim.Native.Nat.{_+_};
+ghost use lib.ListN.{drop};
+ghost use lib.Dec.{leb, ltb};
+ghost use Rattle.bmap.specs.Plain.{both};
+ghost use Rattle.bmap.specs.Limits.{mostDepth, mostLag};
+ghost use Rattle.bmap.specs.Tree.{allowedE, allowedC, constant, fluent, occurs};
+ghost use Rattle.bmap.specs.Number.{signedWord};
+ghost use Rattle.bmap.specs.Code.{parseE, parseC, twoBytes};
+ghost use Rattle.law.specs.Check.{checked, passesE, passesC};
+
+use crate::names::has_bit;
+use crate::table::Node;
+use crate::table::Operand;
+use crate::table::Pair;
+use crate::table::opens;
+use crate::table::pair_after;
+use bmap::Context;
+
+// The place just after the tree, or refused.
+pub enum Checked {
+    Next(usize),
+    Refused,
+}
+
+// What is asked of a tree: that it names only what a law may, or only fluents of a mask.
+pub enum Test {
+    Allowed(Context),
+    Known(u32),
+}
+
+// "unknown … fluent or entry", "lag (0 to 63)"
+fn below(x: u8, limit: usize, lag: u8) -> bool
+    ensures { λ r. ⌜ r ≡ both (ltb x limit) (leb lag mostLag) ⌝ }
+{
+    if (x as usize) < limit {
+        (lag as usize) <= bmap::LAG
+    } else {
+        false
+    }
+}
+
+fn fluent_passes(test: Test, f: u8, lag: u8) -> bool
+    ensures { λ r. ⌜ r ≡ passesE test (fluent f lag) ⌝ }
+{
+    match test {
+        Test::Allowed(x) => below(f, x.fluents, lag),
+        Test::Known(mask) => has_bit(mask, f),
+    }
+}
+
+// "Code 29 is refused in A7 and A9."
+fn entry_passes(test: Test, e: u8, lag: u8) -> bool
+    ensures { λ r. ⌜ r ≡ passesC test (occurs e lag) ⌝ }
+{
+    match test {
+        Test::Allowed(x) => {
+            if x.occurrences {
+                below(e, x.entries, lag)
+            } else {
+                false
+            }
+        }
+        Test::Known(_) => true,
+    }
+}
+
+// The leaves, whose code stands at a place.
+fn constant_at(s: &[u8], at: usize, test: Test) -> Checked
+    ensures { λ r. ⌜ r ≡ checked (passesE test) at (twoBytes (λ hi lo. constant (signedWord hi lo)) (drop (at + 1) (now (s .entry)))) ⌝ }
+{
+    match pair_after(s, at) {
+        Pair::Bytes(_, _) => Checked::Next(at + 3),
+        Pair::Short => Checked::Refused,
+    }
+}
+
+fn fluent_at(s: &[u8], at: usize, test: Test) -> Checked
+    ensures { λ r. ⌜ r ≡ checked (passesE test) at (twoBytes fluent (drop (at + 1) (now (s .entry)))) ⌝ }
+{
+    match pair_after(s, at) {
+        Pair::Bytes(f, lag) => {
+            if fluent_passes(test, f, lag) {
+                Checked::Next(at + 3)
+            } else {
+                Checked::Refused
+            }
+        }
+        Pair::Short => Checked::Refused,
+    }
+}
+
+fn entry_at(s: &[u8], at: usize, test: Test) -> Checked
+    ensures { λ r. ⌜ r ≡ checked (passesC test) at (twoBytes occurs (drop (at + 1) (now (s .entry)))) ⌝ }
+{
+    match pair_after(s, at) {
+        Pair::Bytes(e, lag) => {
+            if entry_passes(test, e, lag) {
+                Checked::Next(at + 3)
+            } else {
+                Checked::Refused
+            }
+        }
+        Pair::Short => Checked::Refused,
+    }
+}
+
+pub fn expression_in(s: &[u8], at: usize, depth: usize, test: Test) -> Checked
+    ensures { λ r. ⌜ r ≡ checked (passesE test) at (parseE depth (drop at (now (s .entry)))) ⌝ }
+{
+    if depth == 0 {
+        return Checked::Refused;
+    }
+    if s.len() <= at {
+        return Checked::Refused;
+    }
+    let Node::Expression(shape) = opens(s[at]) else {
+        return Checked::Refused;
+    };
+    let each = shape.each;
+    match each {
+        Operand::Value => constant_at(s, at, test),
+        Operand::FluentLag => fluent_at(s, at, test),
+        Operand::EntryLag => Checked::Refused,
+        Operand::Constraint => constraint_in(s, at + 1, depth - 1, test),
+        Operand::Expression => {
+            let Checked::Next(middle) = expression_in(s, at + 1, depth - 1, test) else {
+                return Checked::Refused;
+            };
+            if shape.operands == 1 {
+                return Checked::Next(middle);
+            }
+            expression_in(s, middle, depth - 1, test)
+        }
+    }
+}
+
+pub fn constraint_in(s: &[u8], at: usize, depth: usize, test: Test) -> Checked
+    ensures { λ r. ⌜ r ≡ checked (passesC test) at (parseC depth (drop at (now (s .entry)))) ⌝ }
+{
+    if depth == 0 {
+        return Checked::Refused;
+    }
+    if s.len() <= at {
+        return Checked::Refused;
+    }
+    let Node::Constraint(shape) = opens(s[at]) else {
+        return Checked::Refused;
+    };
+    if shape.operands == 0 {
+        return Checked::Next(at + 1);
+    }
+    let each = shape.each;
+    match each {
+        Operand::EntryLag => entry_at(s, at, test),
+        Operand::Constraint => {
+            let Checked::Next(middle) = constraint_in(s, at + 1, depth - 1, test) else {
+                return Checked::Refused;
+            };
+            if shape.operands == 1 {
+                return Checked::Next(middle);
+            }
+            constraint_in(s, middle, depth - 1, test)
+        }
+        Operand::Expression => {
+            let Checked::Next(middle) = expression_in(s, at + 1, depth - 1, test) else {
+                return Checked::Refused;
+            };
+            expression_in(s, middle, depth - 1, test)
+        }
+        _ => Checked::Refused,
+    }
+}
+
+// An expression that a law may hold in this context.
+pub fn check_expression(s: &[u8], at: usize, context: Context) -> Checked
+    ensures { λ r. ⌜ r ≡ checked (allowedE context) at (parseE mostDepth (drop at (now (s .entry)))) ⌝ }
+{
+    expression_in(s, at, bmap::DEPTH, Test::Allowed(context))
+}
+
+// A constraint that a law may hold in this context.
+pub fn check_constraint(s: &[u8], at: usize, context: Context) -> Checked
+    ensures { λ r. ⌜ r ≡ checked (allowedC context) at (parseC mostDepth (drop at (now (s .entry)))) ⌝ }
+{
+    constraint_in(s, at, bmap::DEPTH, Test::Allowed(context))
+}

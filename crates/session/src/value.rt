@@ -12,6 +12,7 @@ use bmap::Session;
 use bmap::Sheet;
 ghost use mathlib.Core.Path.{_≡_};
 ghost use Prim.Native.Nat.{_+_, _≤_, _<_, _*_};
+ghost use lib.Dec.{leb};
 ghost use lib.ListN.{length};
 ghost use Rattle.bmap.specs.Limits.{mostAgents, mostEdits, sheetSize};
 ghost use Rattle.bmap.specs.Refusal.{refused, numberOf};
@@ -35,19 +36,26 @@ fn accept(session: Session) -> Change
     Change { outcome, session }
 }
 
+// 14: "200 edits stand"; undone ones take no room.
+fn is_full(s: Session) -> bool
+    ensures { λ r. ⌜ r ≡ leb mostEdits (s .standing) ⌝ }
+{
+    s.standing >= Session::EDITS
+}
+
 // The same edits, of which so many stand and leave this sheet.
 fn stand(s: Session, standing: usize, sheet: Sheet) -> Change
     ensures { λ r. ⌜ changedOf r ≡ done (standingAt s standing sheet) ⌝ }
 {
     let log = s.log;
-    let session = Session {
+    let moved = Session {
         agents: s.agents,
         sheet,
         standing,
         total: s.total,
         log,
     };
-    accept(session)
+    accept(moved)
 }
 
 // One more edit: its names are laid at a step, and its entry takes the place of those that are undone.
@@ -66,11 +74,12 @@ fn add(s: Session, kind: u8, number: u8, names: &[u8], step: usize, steps: usize
         steps,
         names: page,
     };
+    let count = standing + 1;
     let session = Session {
         agents,
         sheet,
-        standing: standing + 1,
-        total: standing + 1,
+        standing: count,
+        total: count,
         log,
     };
     accept(session)
@@ -83,7 +92,7 @@ pub fn entered(s: Session, step: &[u8]) -> Change
     if !is_open(s) {
         return refuse(s, Refusal::NotSession);
     }
-    if s.standing >= Session::EDITS {
+    if is_full(s) {
         return refuse(s, Refusal::LogFull);
     }
     if step.len() != s.agents {
@@ -104,7 +113,7 @@ pub fn stricken(s: Session) -> Change
     if !is_open(s) {
         return refuse(s, Refusal::NotSession);
     }
-    if s.standing >= Session::EDITS {
+    if is_full(s) {
         return refuse(s, Refusal::LogFull);
     }
     let sheet = s.sheet;
@@ -114,7 +123,8 @@ pub fn stricken(s: Session) -> Change
     }
     let agents = s.agents;
     let idle = [0u8; Counts::AGENTS];
-    add(s, 2, 0, &idle[..agents], steps - 1, steps - 1)
+    let last = steps - 1;
+    add(s, 2, 0, &idle[..agents], last, last)
 }
 
 // "Amend: 17, 14, 8, 11"; "Steps are numbered from 1".
@@ -124,7 +134,7 @@ pub fn amended(s: Session, number: usize, step: &[u8]) -> Change
     if !is_open(s) {
         return refuse(s, Refusal::NotSession);
     }
-    if s.standing >= Session::EDITS {
+    if is_full(s) {
         return refuse(s, Refusal::LogFull);
     }
     if step.len() != s.agents {

@@ -34,11 +34,8 @@ mul-write-entry c = search needs
 write-entry-requires : tie.Need-write-entry-requires
 write-entry-requires c κs = omega (arith, slice-aggregate-write-entry c)
 
-add-t17 : tie.Need-add-t17
-add-t17 c = search needs
-
-add-t21 : tie.Need-add-t21
-add-t21 c = search needs
+add-count : tie.Need-add-count
+add-count c = search needs
 
 accept-requires : tie.Need-accept-requires
 accept-requires c κs = search needs
@@ -66,7 +63,6 @@ add-spec =
     slice-aggregate-write-entry
     mul-write-entry
     write-entry-requires
-    add-t17
-    add-t21
+    add-count
     accept-requires
     returns)

@@ -1,4 +1,7 @@
-// The refusals of document 01; `numberOf` in specs/ gives each its number.
+// The refusals of document 01, and their numbers.
+ghost use mathlib.Core.Path.{_≡_};
+ghost use Rattle.bmap.specs.Refusal.{numberOf};
+
 pub enum Refusal {
     // 1: character, odd or empty line, missing LF
     BadLine,
@@ -36,4 +39,31 @@ pub enum Refusal {
     NotSession,
     // 18: the program's input is over 60,000 bytes
     LongInput,
+}
+
+impl Refusal {
+    pub fn number(self) -> usize
+        ensures { λ r. ⌜ r ≡ numberOf self ⌝ }
+    {
+        match self {
+            Refusal::BadLine => 1,
+            Refusal::BadCount => 2,
+            Refusal::BadKind => 3,
+            Refusal::BadPayload => 4,
+            Refusal::TooMany => 5,
+            Refusal::Repeated => 6,
+            Refusal::Incomplete => 7,
+            Refusal::NotWhole => 8,
+            Refusal::TooLong => 9,
+            Refusal::NoRoom => 10,
+            Refusal::NoStep => 11,
+            Refusal::NothingStands => 12,
+            Refusal::NothingUndone => 13,
+            Refusal::LogFull => 14,
+            Refusal::NotDomain => 15,
+            Refusal::OtherAgents => 16,
+            Refusal::NotSession => 17,
+            Refusal::LongInput => 18,
+        }
+    }
 }

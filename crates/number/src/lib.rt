@@ -27,6 +27,7 @@ pub enum Truth {
 
 impl Value {
     pub const MOST: i64 = 1_000_000_000;
+
     pub const LEAST: i64 = -Value::MOST;
 }
 

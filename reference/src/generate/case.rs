@@ -7,7 +7,7 @@ use crate::store::{self, FrameReader};
 use crate::{program, sheet};
 
 /// A call of a session.
-#[derive(Clone, Debug)]
+#[derive(Clone, PartialEq, Eq, Debug)]
 pub enum Call {
     Open { store: Vec<u8> },
     Enter { names: Vec<u8> },
@@ -19,7 +19,7 @@ pub enum Call {
 }
 
 /// Buffers to be written are given with the contents they have before the call.
-#[derive(Clone, Debug)]
+#[derive(Clone, PartialEq, Eq, Debug)]
 pub enum Case {
     ReadDomain {
         text: Vec<u8>,

@@ -10,3 +10,5 @@ pub mod Held
 pub mod Accepted
 pub mod ReaderLaws
 pub mod WriterLaws
+pub mod FramesLaws
+pub mod RoundTrip

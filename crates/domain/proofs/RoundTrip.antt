@@ -1,0 +1,364 @@
+-- There and back. Accepted lines, read and written again, are the same lines; an accepted store, written and read again, is the same bytes
+-- with zeros after. Assumes nothing.
+use Prim.Native.Nat.{ℕ, zero, suc, _+_, _-_, _≤_, _<_}
+use native.Mathlib.Numerals.{add-one}
+use native.Mathlib.Omega.{arith}
+use mathlib.Core.Path.{_≡_, refl, sym, ap, subst, _∙_}
+use mathlib.Core.Bool.{Bool, true, false}
+use mathlib.Core.List.{List, [], _∷_, _++_, append-assoc, append-nil, map}
+use mathlib.Core.Option.{Option, none, some}
+use lib.Dec.{eqb, leb}
+use lib.ListN.{length, getD, take, drop, replicate, length-append, length-drop, length-replicate, take-append-drop}
+use lib.Seq.{take-append-seam, drop-append-seam, drop-append-add, getD-append-seam, getD-append-add, drop-cons, drop-drop, take-at, drop-nil}
+use borrow.Author.Tests.{leb-true, leb-false, le-leb, lt-leb, eqb-true, eq-eqb, ne-eqb}
+use Rattle.bmap.specs.Plain.{both, if-else, maybe, all, flat}
+use Rattle.bmap.specs.Refusal.{Answer, got, refused, then, known}
+use Rattle.bmap.specs.Line.{Frame, Line, stored, linesOf, decode, lineFor}
+use Rattle.bmap.specs.Domain.{Domain}
+use Rattle.bmap.specs.Payload.{Item}
+use Rattle.bmap.specs.Accept.{Partial, nothing, countsOf, accept, Reading, read, refusedAt, atLine, afterwards, takenFrom, taken}
+use Rattle.bmap.specs.Buffer.{padded, over, Filled, fill, Written, written}
+use Rattle.bmap.specs.Store.{framesOf, storedOf, reading, standsAt, frameAt, zeros, framesFrom, framesIn, whatWasRead, domainIn, textOf, readDomain, writeDomain}
+use Rattle.line.proofs.Lists.{Bytes, bytes-take, bytes-drop}
+use Rattle.line.proofs.LineLaws.{lines-first, Decodes, decodes, decode-line, lines-line, text-line}
+use Rattle.domain.specs.Check.{checkedOn, refusedIn}
+use Rattle.domain.specs.Read.{bytesIn}
+use Rattle.domain.proofs.Passed.{Case, is-agents, is-fluent, is-knowledge, is-entry, is-law, Passed, passed}
+use Rattle.domain.proofs.Stands.{Here, here, with, accept-is}
+use Rattle.domain.proofs.Accepted.{Domained, domained}
+use Rattle.domain.proofs.ReaderLaws.{read-in-room, read-short}
+
+-- ---- frames that a store can hold
+
+pub record Fine (f : Frame) : Type 0 where
+  pub some-kind : f .kind ≡ 0 → ⊥
+  pub most : length (f .payload) ≤ 120
+
+pub data Fines : List Frame → Type 0 where
+  no-frames : Fines []
+  and-frame : {f : Frame} {fs : List Frame} → Fine f → Fines fs → Fines (f ∷ fs)
+
+-- ---- the frames of a text that is read
+
+-- a kind that is taken is none of the unknown
+taken-kind : (p : Partial) (f : Frame) (q : Partial) → accept p f ≡ got q → f .kind ≡ 0 → ⊥
+taken-kind p f q e z = go (checkedOn (p .latest) (countsOf (p .domain)) (p .domain .entries) f) refl (sym (accept-is p f) ∙ e)
+  where
+    by : {i : Item} → Case (countsOf (p .domain)) (f .kind) (f .payload) i → ⊥
+    by (is-agents k lo hi x) = omega arith
+    by (is-fluent k x) = omega arith
+    by (is-knowledge k x) = omega arith
+    by (is-entry k x) = omega arith
+    by (is-law k l w x) = omega arith
+    go : (a : Answer Item) → checkedOn (p .latest) (countsOf (p .domain)) (p .domain .entries) f ≡ a → then a (λ i. got (with p f i)) ≡ got q → ⊥
+    go (refused n) c t = let y : _≡_ {A = ℕ} 0 1 = cc in omega arith
+    go (got i) c t = by (passed (p .latest) (countsOf (p .domain)) (p .domain .entries) f (sym (ap refusedIn c)) .case)
+
+-- every line is a frame's
+kinds : List Frame → Type 0
+kinds [] = Unit {0}
+kinds (f ∷ fs) = (f .kind ≡ 0 → ⊥) × kinds fs
+
+all-got : (lines : ℕ) (p : Partial) (l : List (Answer Frame)) (d : Domain) → takenFrom lines p l ≡ read d → (fs : List Frame) × ((l ≡ map got fs) × kinds fs)
+unfolding takenFrom kinds
+all-got lines p [] d e = ([], (refl, tt))
+all-got lines p (refused n ∷ l) d e = absurd (let z : _≡_ {A = ℕ} 0 1 = cc in omega arith)
+all-got lines p (got f ∷ l) d e = go (accept p f) refl e (λ q t. all-got (suc lines) q l d t)
+  where
+    go : (a : Answer Partial) → accept p f ≡ a → atLine (suc lines) a (λ q. takenFrom (suc lines) q l) ≡ read d
+        → ((q : Partial) → takenFrom (suc lines) q l ≡ read d → (fs : List Frame) × ((l ≡ map got fs) × kinds fs))
+        → (fs : List Frame) × ((got f ∷ l ≡ map got fs) × kinds fs)
+    go (refused n) a t rec = absurd (let z : _≡_ {A = ℕ} 0 1 = cc in omega arith)
+    go (got q) a t rec = let r = rec q t in (f ∷ r .0, (ap (λ k. got f ∷ k) (r .1 .0), (taken-kind p f q a, r .1 .1)))
+
+-- a text whose lines are frames' is their lines
+text-back : (fs : List Frame) (text : List ℕ) → framesOf text ≡ map got fs → kinds fs → (text ≡ flat (map lineFor fs)) × Fines fs
+unfolding flat kinds
+text-back [] text e k = (go text e, no-frames)
+  where
+    go : (t : List ℕ) → framesOf t ≡ [] → t ≡ []
+    go [] q = refl
+    go (c ∷ t) q = absurd (let h = sym (ap (map decode) (lines-first c t)) ∙ q in let z : _≡_ {A = ℕ} 0 1 = cc in omega arith)
+text-back (f ∷ fs) text e k = go (linesOf text) refl e (λ r q. text-back fs r q (k .1))
+  where
+    go : (ls : List Line) → linesOf text ≡ ls → map decode ls ≡ got f ∷ map got fs
+        → ((r : List ℕ) → framesOf r ≡ map got fs → (r ≡ flat (map lineFor fs)) × Fines fs)
+        → (text ≡ lineFor f ++ flat (map lineFor fs)) × Fines (f ∷ fs)
+    go [] q w rec = absurd (let z : _≡_ {A = ℕ} 0 1 = cc in omega arith)
+    go (l ∷ ls) q w rec =
+        let d : decode l ≡ got f = cc in
+        let m : map decode ls ≡ map got fs = cc in
+        let t = text-line text l ls f q d in
+        let r = rec (t .0) (sym (ap (map decode) (t .2)) ∙ m) in
+        (t .1 ∙ ap (λ x. lineFor f ++ x) (r .0), and-frame (record { some-kind = k .0; most = decodes l f d .most }) (r .1))
+
+-- ---- the frames of a store that is filled
+
+frame-there : (done t : List ℕ) (f : Frame) → Fine f → frameAt (done ++ (stored f ++ t)) (length done) ≡ some f
+unfolding frameAt standsAt
+frame-there done t f g =
+    let s = done ++ (stored f ++ t) in
+    let at = length done in
+    let n = length (f .payload) in
+    let k : getD s at 0 ≡ f .kind = getD-append-seam done (f .kind) (n ∷ (f .payload ++ t)) 0 in
+    let c : getD s (at + 1) 0 ≡ n = getD-append-add done (stored f ++ t) 1 0 in
+    let l : length s ≡ at + (2 + n + length t) = length-append done (stored f ++ t) ∙ ap (λ (x : ℕ). at + x) (let y = length-append (f .payload) t in omega (arith, y)) in
+    let p : take n (drop (at + 2) s) ≡ f .payload = ap (take n) (drop-append-add done (stored f ++ t) 2) ∙ take-append-seam (f .payload) t in
+    rw (
+      c,
+      k,
+      le-leb (at + 2) (length s) (omega (arith, l)),
+      ne-eqb (f .kind) 0 (g .some-kind),
+      le-leb n 120 (g .most),
+      le-leb (at + 2 + n) (length s) (omega (arith, l)),
+      p,
+    )
+
+zeros-all : (k : ℕ) → zeros (replicate k 0) ≡ true
+unfolding all
+zeros-all zero = refl
+zeros-all (suc k) = zeros-all k
+
+first-zero : (k : ℕ) → _≡_ {A = ℕ} (getD (replicate k 0) 0 0) 0
+first-zero zero = refl
+first-zero (suc k) = refl
+
+both-right : (a : Bool) {b : Bool} → b ≡ false → both a b ≡ false
+both-right true e = e
+both-right false e = refl
+
+no-frame-there : (done : List ℕ) (k : ℕ) → frameAt (done ++ replicate k 0) (length done) ≡ none
+unfolding frameAt standsAt
+no-frame-there done k =
+    let s = done ++ replicate k 0 in
+    let z : getD s (length done) 0 ≡ 0 = (let e : length done + 0 ≡ length done = omega arith in ap (λ (i : ℕ). getD s i 0) (sym e)) ∙ getD-append-add done (replicate k 0) 0 0 ∙ first-zero k in
+    rw (z, both-right (leb (length done + 2) (length s)) refl)
+
+frames-there : (looks : ℕ) (fs : List Frame) (done : List ℕ) (k : ℕ) → Fines fs → length fs < looks
+    → framesFrom looks (done ++ (flat (map stored fs) ++ replicate k 0)) (length done) ≡ some fs
+unfolding framesFrom flat
+frames-there zero fs done k g h = absurd (omega arith)
+frames-there (suc looks) [] done k no-frames h = rw (no-frame-there done k, drop-append-seam done (replicate k 0), zeros-all k)
+frames-there (suc looks) (f ∷ fs) done k (and-frame g gs) h =
+    let t = flat (map stored fs) ++ replicate k 0 in
+    let s = done ++ ((stored f ++ flat (map stored fs)) ++ replicate k 0) in
+    let s1 : s ≡ done ++ (stored f ++ t) = ap (λ l. done ++ l) (append-assoc (stored f) (flat (map stored fs)) (replicate k 0)) in
+    let s2 : s ≡ (done ++ stored f) ++ t = s1 ∙ sym (append-assoc done (stored f) t) in
+    let e : frameAt s (length done) ≡ some f = ap (λ l. frameAt l (length done)) s1 ∙ frame-there done t f g in
+    let r : framesFrom looks s (length done + length (stored f)) ≡ some fs
+    = ap (λ l. framesFrom looks l (length done + length (stored f))) s2 ∙ ap (framesFrom looks ((done ++ stored f) ++ t)) (sym (length-append done (stored f)))
+    ∙ frames-there looks fs (done ++ stored f) k gs (omega arith) in
+    rw (e, r)
+
+few-looks : (fs : List Frame) → length fs ≤ length (flat (map stored fs))
+unfolding flat
+few-looks [] = omega arith
+few-looks (f ∷ fs) = omega (arith, few-looks fs, length-append (stored f) (flat (map stored fs)))
+
+pub frames-back : (fs : List Frame) (k : ℕ) → Fines fs → framesIn (flat (map stored fs) ++ replicate k 0) ≡ some fs
+frames-back fs k g =
+    let s = flat (map stored fs) ++ replicate k 0 in
+    frames-there (suc (length s)) fs [] k g (omega (arith, few-looks fs, length-append (flat (map stored fs)) (replicate k 0)))
+
+stored-got : (fs : List Frame) → map storedOf (map got fs) ≡ map stored fs
+stored-got [] = refl
+stored-got (f ∷ fs) = ap (λ l. stored f ∷ l) (stored-got fs)
+
+-- ---- ACCEPTED LINES, READ AND WRITTEN AGAIN, ARE THE SAME LINES
+
+-- what was read
+record Got (text store : List ℕ) (n : ℕ) : Type 0 where
+  domain : Domain
+  frames : List Frame
+  are : framesOf text ≡ map got frames
+  fine : Fines frames
+  lines : text ≡ flat (map lineFor frames)
+  reads : taken (map got frames) ≡ read domain
+  left : readDomain text store .buffer ≡ flat (map stored frames) ++ replicate (length store - length (flat (map stored frames))) 0
+
+was-got : (text store : List ℕ) (n : ℕ) → readDomain text store .answer ≡ read n → Got text store n
+unfolding bytesIn
+was-got text store n e = room (leb 36_000 (length store)) refl
+  where
+    by : (r : Reading Domain) → reading text ≡ r → 36_000 ≤ length store → Got text store n
+    by (refusedAt m l) r h = absurd (let k = ap (λ (x : Filled). x .answer) (read-in-room text store h) in let q = ap (λ (x : Reading Domain). fill (length store) (afterwards x (λ d. read (record { count = length (bytesIn text); bytes = bytesIn text }))) .answer) r in let z : _≡_ {A = ℕ} 0 1 = cc in omega arith)
+    by (read d) r h =
+        let a = all-got 0 nothing (framesOf text) d r in
+        let fs = a .0 in
+        let t = text-back fs text (a .1 .0) (a .1 .1) in
+        let b : bytesIn text ≡ flat (map stored fs) = ap (λ l. flat (map storedOf l)) (a .1 .0) ∙ ap flat (stored-got fs) in
+        let k : readDomain text store .buffer ≡ padded (length store) (bytesIn text)
+        = ap (λ (x : Filled). x .buffer) (read-in-room text store h)
+        ∙ ap (λ (x : Reading Domain). fill (length store) (afterwards x (λ d. read (record { count = length (bytesIn text); bytes = bytesIn text }))) .buffer) r in
+        record {
+          domain = d;
+          frames = fs;
+          are = a .1 .0;
+          fine = t .1;
+          lines = t .0;
+          reads = ap taken (sym (a .1 .0)) ∙ r;
+          left = k ∙ ap (padded (length store)) b;
+        }
+    room : (b : Bool) → leb 36_000 (length store) ≡ b → Got text store n
+    room true q = by (reading text) refl (leb-true 36_000 (length store) q)
+    room false q = absurd (let k = read-short text store (leb-false 36_000 (length store) q) .0 in let z : _≡_ {A = ℕ} 0 1 = cc in omega arith)
+
+-- a store that holds frames, zeros after, is their domain
+filled-domain : (fs : List Frame) (k : ℕ) (d : Domain) → Fines fs → taken (map got fs) ≡ read d → domainIn (flat (map stored fs) ++ replicate k 0) ≡ got d
+unfolding domainIn
+filled-domain fs k d g r = rw (frames-back fs k g, r)
+
+filled-text : (fs : List Frame) (k : ℕ) → Fines fs → textOf (flat (map stored fs) ++ replicate k 0) ≡ flat (map lineFor fs)
+filled-text fs k g = ap (λ o. maybe o [] (λ fs. flat (map lineFor fs))) (frames-back fs k g)
+
+pub lines-again : (text store out : List ℕ) (n : ℕ) → readDomain text store .answer ≡ read n → length text ≤ length out
+    → writeDomain (readDomain text store .buffer) out ≡ record { answer = got (length text); buffer = over text out }
+unfolding writeDomain
+lines-again text store out n e h =
+    let g = was-got text store n e in
+    let k = length store - length (flat (map stored (g .frames))) in
+    let s = flat (map stored (g .frames)) ++ replicate k 0 in
+    let t : textOf s ≡ text = filled-text (g .frames) k (g .fine) ∙ sym (g .lines) in
+    ap (λ l. writeDomain l out) (g .left)
+    ∙ ap (λ a. written out (then a (λ d. got (textOf s)))) (filled-domain (g .frames) k (g .domain) (g .fine) (g .reads))
+    ∙ ap (λ l. written out (got l)) t
+    ∙ ap (λ b. if-else b (record { answer = got (length text); buffer = over text out }) (record { answer = refused 10; buffer = out })) (le-leb (length text) (length out) h)
+
+-- ---- AN ACCEPTED STORE, WRITTEN AND READ AGAIN, IS THE SAME BYTES, ZEROS AFTER
+
+zeros-are : (l : List ℕ) → zeros l ≡ true → l ≡ replicate (length l) 0
+unfolding all
+zeros-are [] e = refl
+zeros-are (x ∷ l) e = go (eqb x 0) refl e (zeros-are l)
+  where
+    go : (b : Bool) → eqb x 0 ≡ b → both b (zeros l) ≡ true → (zeros l ≡ true → l ≡ replicate (length l) 0) → x ∷ l ≡ 0 ∷ replicate (length l) 0
+    go true q z rec = ap (λ y. y ∷ l) (eqb-true x 0 q) ∙ ap (λ r. 0 ∷ r) (rec z)
+    go false q z rec = absurd (let y : _≡_ {A = ℕ} 0 1 = cc in omega arith)
+
+-- a frame whose numbers are bytes
+pub record Spelt (f : Frame) : Type 0 where
+  pub kind : f .kind < 256
+  pub payload : Bytes (f .payload)
+  pub most : length (f .payload) ≤ 120
+
+pub data Spells : List Frame → Type 0 where
+  none-spelt : Spells []
+  and-spelt : {f : Frame} {fs : List Frame} → Spelt f → Spells fs → Spells (f ∷ fs)
+
+frame-off : (s : List ℕ) (at : ℕ) (f : Frame) → Here s at f → drop at s ≡ stored f ++ drop (at + length (stored f)) s
+frame-off s at f h =
+    let n = length (f .payload) in
+    let one : drop at s ≡ getD s at 0 ∷ drop (suc at) s = drop-cons s at 0 (omega (arith, h .within)) in
+    let two : drop (suc at) s ≡ getD s (suc at) 0 ∷ drop (suc (suc at)) s = drop-cons s (suc at) 0 (omega (arith, h .within)) in
+    let a1 : suc at ≡ at + 1 = omega arith in
+    let a2 : suc (suc at) ≡ at + 2 = omega arith in
+    let a3 : at + 2 + n ≡ at + length (stored f) = omega arith in
+    let c : getD s (suc at) 0 ≡ n = ap (λ (i : ℕ). getD s i 0) a1 ∙ sym (h .count) in
+    let p : drop (at + 2) s ≡ f .payload ++ drop (at + length (stored f)) s
+    = sym (take-append-drop n (drop (at + 2) s))
+    ∙ ap (λ l. l ++ drop n (drop (at + 2) s)) (ap (λ (i : ℕ). take i (drop (at + 2) s)) (h .count) ∙ sym (h .payload))
+    ∙ ap (λ l. f .payload ++ l) (drop-drop n (at + 2) s ∙ ap (λ (i : ℕ). drop i s) a3) in
+    one ∙ ap (λ (x : ℕ). x ∷ drop (suc at) s) (sym (h .kind))
+    ∙ ap (λ l. f .kind ∷ l) (two ∙ ap (λ (x : ℕ). x ∷ drop (suc (suc at)) s) c ∙ ap (λ l. n ∷ l) (ap (λ (i : ℕ). drop i s) a2 ∙ p))
+
+-- the frames of a store are its bytes, zeros after
+pub record Holds (s : List ℕ) (at : ℕ) (fs : List Frame) : Type 0 where
+  pub zeros-after : ℕ
+  pub bytes : drop at s ≡ flat (map stored fs) ++ replicate zeros-after 0
+  pub spelt : Spells fs
+
+holds : (looks : ℕ) (s : List ℕ) (at : ℕ) (fs : List Frame) → Bytes s → framesFrom looks s at ≡ some fs → Holds s at fs
+unfolding framesFrom flat
+holds zero s at fs b e = absurd (let z : _≡_ {A = ℕ} 0 1 = cc in omega arith)
+holds (suc looks) s at fs b e = step (frameAt s at) refl e (λ f rest q. holds looks s (at + length (stored f)) rest b q)
+  where
+    last : (t : Bool) → zeros (drop at s) ≡ t → if-else t (some []) none ≡ some fs → Holds s at fs
+    last true z q =
+        let n : fs ≡ [] = cc in
+        subst (Holds s at) (sym n) (record { zeros-after = length (drop at s); bytes = zeros-are (drop at s) z; spelt = none-spelt })
+    last false z q = absurd (let y : _≡_ {A = ℕ} 0 1 = cc in omega arith)
+    more : (f : Frame) → frameAt s at ≡ some f → (o : Option (List Frame)) → framesFrom looks s (at + length (stored f)) ≡ o
+        → maybe o none (λ rest. some (f ∷ rest)) ≡ some fs
+        → ((rest : List Frame) → framesFrom looks s (at + length (stored f)) ≡ some rest → Holds s (at + length (stored f)) rest) → Holds s at fs
+    more f fe none re q rec = absurd (let y : _≡_ {A = ℕ} 0 1 = cc in omega arith)
+    more f fe (some rest) re q rec =
+        let n : fs ≡ f ∷ rest = cc in
+        let h = here s at f fe in
+        let r = rec rest re in
+        subst (Holds s at) (sym n)
+        (record {
+          zeros-after = r .zeros-after;
+          bytes = frame-off s at f h ∙ ap (λ l. stored f ++ l) (r .bytes) ∙ sym (append-assoc (stored f) (flat (map stored rest)) (replicate (r .zeros-after) 0));
+          spelt = and-spelt
+              (record {
+                kind = subst (λ (x : ℕ). x < 256) (sym (h .kind)) (b at);
+                payload = subst Bytes (sym (h .payload)) (bytes-take (getD s (at + 1) 0) (drop (at + 2) s) (bytes-drop (at + 2) s b));
+                most = h .most;
+              })
+              (r .spelt);
+        })
+    step : (o : Option Frame) → frameAt s at ≡ o
+        → maybe o (if-else (zeros (drop at s)) (some []) none) (λ f. maybe (framesFrom looks s (at + length (stored f))) none (λ rest. some (f ∷ rest))) ≡ some fs
+        → ((f : Frame) (rest : List Frame) → framesFrom looks s (at + length (stored f)) ≡ some rest → Holds s (at + length (stored f)) rest) → Holds s at fs
+    step none o q rec = last (zeros (drop at s)) refl q
+    step (some f) o q rec = more f o (framesFrom looks s (at + length (stored f))) refl q (rec f)
+
+-- their lines are read as them
+lines-back : (fs : List Frame) → Spells fs → framesOf (flat (map lineFor fs)) ≡ map got fs
+unfolding flat linesOf
+lines-back [] none-spelt = refl
+lines-back (f ∷ fs) (and-spelt g gs) =
+    ap (map decode) (lines-line f (flat (map lineFor fs)))
+    ∙ ap (λ a. a ∷ framesOf (flat (map lineFor fs))) (decode-line f (g .kind) (g .payload) (g .most))
+    ∙ ap (λ l. got f ∷ l) (lines-back fs gs)
+
+written-again : (s out : List ℕ) (d : Domain) → domainIn s ≡ got d → length (textOf s) ≤ length out
+    → writeDomain s out ≡ record { answer = got (length (textOf s)); buffer = over (textOf s) out }
+unfolding writeDomain
+written-again s out d e h =
+    ap (λ a. written out (then a (λ d. got (textOf s)))) e
+    ∙ ap (λ b. if-else b (record { answer = got (length (textOf s)); buffer = over (textOf s) out }) (record { answer = refused 10; buffer = out })) (le-leb (length (textOf s)) (length out) h)
+
+read-again : (text buffer : List ℕ) (fs : List Frame) (d : Domain) → framesOf text ≡ map got fs → taken (map got fs) ≡ read d → 36_000 ≤ length buffer
+    → readDomain text buffer ≡ record { answer = read (length (flat (map stored fs))); buffer = padded (length buffer) (flat (map stored fs)) }
+unfolding bytesIn
+read-again text buffer fs d e k r =
+    let b : bytesIn text ≡ flat (map stored fs) = ap (λ l. flat (map storedOf l)) e ∙ ap flat (stored-got fs) in
+    read-in-room text buffer r
+    ∙ ap (λ (x : Reading Domain). fill (length buffer) (afterwards x (λ d. read (record { count = length (bytesIn text); bytes = bytesIn text })))) (ap taken e ∙ k)
+    ∙ ap (λ l. record { answer = read (length l); buffer = padded (length buffer) l }) b
+
+-- the bytes used, and what the two calls leave
+pub record Again (s out buffer : List ℕ) : Type 0 where
+  pub used : ℕ
+  pub whole : s ≡ padded (length s) (take used s)
+  pub characters : ℕ
+  pub writes : writeDomain s out .answer ≡ got characters
+  pub reads : readDomain (take characters (writeDomain s out .buffer)) buffer ≡ record { answer = read used; buffer = padded (length buffer) (take used s) }
+
+pub store-again : (s out buffer : List ℕ) (d : Domain) → Bytes s → domainIn s ≡ got d → length (textOf s) ≤ length out → 36_000 ≤ length buffer → Again s out buffer
+store-again s out buffer d b e h r =
+    let m = domained s d e in
+    let fs = m .frames in
+    let k = holds (suc (length s)) s 0 fs b (m .are) in
+    let bytes = flat (map stored fs) in
+    let text : textOf s ≡ flat (map lineFor fs) = ap (λ o. maybe o [] (λ fs. flat (map lineFor fs))) (m .are) in
+    let front : take (length bytes) s ≡ bytes = ap (take (length bytes)) (k .bytes) ∙ take-append-seam bytes (replicate (k .zeros-after) 0) in
+    let long : length s - length bytes ≡ k .zeros-after = omega (arith, ap length (k .bytes), length-append bytes (replicate (k .zeros-after) 0), length-replicate (k .zeros-after) (zero)) in
+    let lines : framesOf (textOf s) ≡ map got fs = ap framesOf text ∙ lines-back fs (k .spelt) in
+    let w : writeDomain s out ≡ record { answer = got (length (textOf s)); buffer = over (textOf s) out } = written-again s out d e h in
+    record {
+      used = length bytes;
+      whole =
+          k .bytes ∙ ap (λ (i : ℕ). bytes ++ replicate i 0) (sym long)
+          ∙ ap (padded (length s)) (sym front);
+      characters = length (textOf s);
+      writes = ap (λ (w : Written). w .answer) w;
+      reads =
+          ap (λ l. readDomain l buffer) (ap (λ (w : Written). take (length (textOf s)) (w .buffer)) w ∙ take-append-seam (textOf s) (drop (length (textOf s)) out))
+          ∙ read-again (textOf s) buffer fs d lines (m .read-as) r ∙ ap (λ l. record { answer = read (length bytes); buffer = padded (length buffer) l }) (sym front);
+    }
+
+-- into a buffer as long as the store, they are the same bytes
+pub same-store : (s out buffer : List ℕ) (a : Again s out buffer) → length buffer ≡ length s → readDomain (take (a .characters) (writeDomain s out .buffer)) buffer .buffer ≡ s
+same-store s out buffer a e = ap (λ (f : Filled). f .buffer) (a .reads) ∙ ap (λ (n : ℕ). padded n (take (a .used) s)) e ∙ sym (a .whole)

@@ -1,6 +1,7 @@
 -- The numbers by which the calls for C and Rust answer, in the paper's terms.
 use mathlib.Core.Path.{_≡_}
 use Prim.Native.Nat.{ℕ, _+_, _*_, _%_, _^_}
+use mathlib.Core.Option.{Option, none, some}
 use Rattle.bmap.specs.Refusal.{Answer, got, refused}
 use Rattle.bmap.specs.Accept.{Reading, read, refusedAt}
 use Rattle.bmap.specs.Session.{Changed}
@@ -19,6 +20,11 @@ readNumber (refusedAt number line) = halves number line
 abbrev pub writtenNumber : Answer ℕ → ℕ
 writtenNumber (got count) = halves 0 count
 writtenNumber (refused number) = halves number 0
+
+-- a frame's size, 0 where there is none
+abbrev pub sizeNumber : Option ℕ → ℕ
+sizeNumber none = 0
+sizeNumber (some size) = size
 
 -- what a call on a session answers: the refusal, or 0
 abbrev pub doneNumber : Answer (Unit {0}) → ℕ

@@ -5,18 +5,20 @@ use mathlib.Core.Bool.{Bool, true, false}
 use mathlib.Core.List.{List, [], _∷_, _++_, append-assoc, append-nil}
 use Prim.Native.Nat.{ℕ, _+_, _-_, _*_, _<_, _≤_}
 use native.Mathlib.Omega.{arith}
-use lib.Dec.{eqb, ltb, leb}
+use lib.Dec.{ltb}
 use lib.ListN.{length, take, drop, set, replicate, length-append, length-drop, length-set, length-replicate, replicate-append-replicate, take-append-drop}
 use lib.Seq.{take-at, length-take-le}
-use borrow.Author.Tests.{eq-eqb, ne-eqb, lt-ltb, le-ltb, le-leb, lt-leb}
-use Rattle.bmap.specs.Plain.{both}
-use Rattle.bmap.specs.Refusal.{Answer, got, refused, then}
+use borrow.Author.Tests.{ltb-true, ltb-false, eq-eqb, ne-eqb, lt-ltb, le-ltb, le-leb, lt-leb}
+use Rattle.bmap.specs.Refusal.{Answer, got, refused, need, numberOf}
+use Rattle.bmap.specs.declared.refusal.Refusal.{Refusal}
 use Rattle.bmap.specs.Domain.{Names}
 use Rattle.bmap.specs.Buffer.{padded}
-use Rattle.bmap.specs.Session.{Edit, enter, strike, amend, Model, Changed, orElse, sheetOf, edited, edit, moved, undo, redo, replayed, logged, loggedAll, editsFrom, modelOf, layout, changed, isOpen, editSession, undoSession, redoSession}
+use Rattle.bmap.specs.Session.{Edit, enter, strike, amend, Model, orElse, sheetOf, edited, edit, moved, undo, redo, replayed, logged, loggedAll, editsFrom, modelOf, layout, changed, isOpen, editSession, undoSession, redoSession}
 use Rattle.bmap.specs.declared.session.Session.{Session}
-use Rattle.session.specs.Log.{laid, Sound, Holds, Reached}
-use Rattle.session.specs.Calls.{done, standingAt, withEdit}
+use Rattle.session.specs.Log.{laid, Sound, Reached}
+use Rattle.session.specs.Calls.{answerOf, mayEdit, done, standingAt, withEdit}
+use Rattle.session.specs.declared.Outcome.{Outcome}
+use Rattle.session.specs.declared.Outcome.the-variants.{Done, Refused}
 use Rattle.session.proofs.ListLaws.{padded-zeros}
 use Rattle.session.proofs.SheetLaws.{page, Fits, one-more, enter-got, strike-got, amend-got, enter-page, strike-page, amend-page}
 use Rattle.session.proofs.LogLaws.{length-edits, edits-upto, length-edits-logged, logged-one, sound-prefix, sound-fits}
@@ -54,7 +56,7 @@ module _ (s : Session) (h : isOpen s ≡ true) where
   pub sound-upto : (k : ℕ) → k ≤ s .total → Sound (s .agents) k (s .log)
   sound-upto k l = sound-prefix (s .agents) (s .log) (open-is .few) k (s .total) l (kept-is .sound)
 
-  sheet-is : sheetOf (modelOf s) ≡ standing-sheet
+  pub sheet-is : sheetOf (modelOf s) ≡ standing-sheet
   unfolding standing-sheet
   sheet-is = sheet-standing s (kept-is .stands .sound)
 
@@ -202,6 +204,30 @@ module _ (s : Session) (h : isOpen s ≡ false) where
   pub redone-17 : changed s (refused 17) ≡ redoSession s
   unfolding redoSession
   redone-17 = sym (rw h)
+
+-- ---- what every edit asks first
+module _ (s : Session) (r : Outcome) (m : answerOf r ≡ mayEdit s) where
+  tests : (o f : Bool) → isOpen s ≡ o → ltb (s .standing) 200 ≡ f → answerOf r ≡ need o 17 (need f 14 (got tt))
+  tests o f p q = m ∙ rw (p, q)
+
+  pub may-done : r ≡ Done → (isOpen s ≡ true) × (s .standing < 200)
+  may-done d = by-tests (isOpen s) (ltb (s .standing) 200) refl refl
+    where
+      by-tests : (o f : Bool) → isOpen s ≡ o → ltb (s .standing) 200 ≡ f → (isOpen s ≡ true) × (s .standing < 200)
+      by-tests true true p q = (p, ltb-true (s .standing) 200 q)
+      by-tests true false p q = absurd (let e = sym (ap answerOf d) ∙ tests true false p q in let z : _≡_ {A = ℕ} 0 1 = cc in omega arith)
+      by-tests false f p q = absurd (let e = sym (ap answerOf d) ∙ tests false f p q in let z : _≡_ {A = ℕ} 0 1 = cc in omega arith)
+
+  pub may-refused : (why : Refusal) → r ≡ Refused why → (e : Edit) → changed s (refused (numberOf why)) ≡ editSession e s
+  may-refused why d e = by-tests (isOpen s) (ltb (s .standing) 200) refl refl
+    where
+      number-is : (k : ℕ) → answerOf r ≡ refused k → numberOf why ≡ k
+      number-is k a = let b = sym (ap answerOf d) ∙ a in cc
+
+      by-tests : (o f : Bool) → isOpen s ≡ o → ltb (s .standing) 200 ≡ f → changed s (refused (numberOf why)) ≡ editSession e s
+      by-tests true true p q = absurd (let a = sym (ap answerOf d) ∙ tests true true p q in let z : _≡_ {A = ℕ} 0 1 = cc in omega arith)
+      by-tests true false p q = ap (λ (k : ℕ). changed s (refused k)) (number-is 14 (tests true false p q)) ∙ edited-14 s p e (ltb-false (s .standing) 200 q)
+      by-tests false f p q = ap (λ (k : ℕ). changed s (refused k)) (number-is 17 (tests false f p q)) ∙ edited-17 s p e
 
 -- ---- the refusals of an edit of a sheet
 module _ (n : ℕ) (t : List Names) where

@@ -9,3 +9,5 @@ pub mod LentWalk
 pub mod ModelLaws
 pub mod SomeDomain
 pub mod Theorems
+pub mod OpeningLaws
+pub mod VerdictLaws

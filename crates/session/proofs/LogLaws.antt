@@ -1,18 +1,16 @@
 -- Laws of the log: the edits that its entries read as, how they are written, and what they leave when they are done in turn.
 -- Assumes nothing.
-use mathlib.Core.Path.{_≡_, refl, sym, ap, _∙_, subst}
+use mathlib.Core.Path.{_≡_, refl, sym, ap, _∙_}
 use mathlib.Core.Bool.{Bool, true, false}
 use mathlib.Core.List.{List, [], _∷_, _++_, append-assoc, append-nil}
-use Prim.Native.Nat.{ℕ, zero, suc, _+_, _-_, _*_, _<_, _≤_}
-use native.Mathlib.Nat.{add-zero}
+use Prim.Native.Nat.{ℕ, zero, suc, _+_, _-_, _*_, _≤_}
 use native.Mathlib.Omega.{arith}
 use lib.Dec.{eqb}
-use lib.ListN.{length, getD, take, drop, replicate, length-append, length-take, length-drop, length-replicate}
+use lib.ListN.{length, getD, take, drop, length-append}
 use lib.Seq.{take-at, drop-at, drop-drop, take-add, take-take, getD-take}
 use Rattle.bmap.specs.Plain.{if-else}
 use Rattle.bmap.specs.Refusal.{got}
 use Rattle.bmap.specs.Domain.{Names}
-use Rattle.bmap.specs.Buffer.{padded}
 use Rattle.bmap.specs.Session.{Edit, enter, strike, amend, edited, replayed, logged, loggedAll, editFrom, editsFrom}
 use Rattle.session.specs.Log.{Sound}
 use Rattle.session.proofs.ListLaws.{length-padded}

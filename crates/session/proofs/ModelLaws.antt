@@ -1,21 +1,20 @@
 -- The models that an accepted opening and calls after it leave: each call keeps them, and their bytes hold them.
 -- Assumes nothing.
 use mathlib.Core.Path.{_≡_, refl, sym, ap, _∙_, subst}
-use mathlib.Core.Bool.{Bool, true, false}
+use mathlib.Core.Bool.{true}
 use mathlib.Core.List.{List, [], _∷_, _++_, append-assoc, append-nil}
-use Prim.Native.Nat.{ℕ, zero, suc, _+_, _-_, _*_, _<_, _≤_}
+use Prim.Native.Nat.{ℕ, _+_, _-_, _*_, _<_, _≤_}
 use native.Mathlib.Omega.{arith}
-use lib.Dec.{eqb, ltb}
-use lib.ListN.{length, getD, take, drop, replicate, length-append, take-append-drop}
+use lib.Dec.{ltb}
+use lib.ListN.{length, take, drop, replicate, length-append, take-append-drop}
 use lib.Seq.{take-at, drop-at}
 use borrow.Author.Tests.{ltb-true, lt-ltb}
-use Rattle.bmap.specs.Refusal.{Answer, got, refused, need, then}
+use Rattle.bmap.specs.Refusal.{Answer, got, refused, then}
 use Rattle.bmap.specs.Domain.{Names}
 use Rattle.bmap.specs.Buffer.{padded}
-use Rattle.bmap.specs.Session.{Edit, enter, strike, amend, Model, orElse, sheetOf, edited, edit, moved, undo, redo, replayed, Call, editing, undoing, redoing, judging, Turn, turned, turn, after, logged, loggedAll, editsFrom, modelOf, layout, isGot, replays, sameSession, isOpen}
+use Rattle.bmap.specs.Session.{Edit, enter, strike, amend, Model, orElse, sheetOf, edited, edit, moved, undo, redo, replayed, Call, editing, undoing, redoing, judging, turned, turn, after, logged, loggedAll, editsFrom, modelOf, layout, isGot, replays, isOpen}
 use Rattle.bmap.specs.declared.session.Session.{Session}
-use Rattle.session.proofs.ListLaws.{length-padded}
-use Rattle.session.proofs.SheetLaws.{need-got, got-inj, enter-asks, amend-asks, replayed-append, one-more, prefix-got}
+use Rattle.session.proofs.SheetLaws.{need-got, got-inj, enter-asks, amend-asks, one-more, prefix-got}
 use Rattle.session.proofs.LogLaws.{editAt, Short, AllShort, length-logged, length-all, logged-append}
 use Rattle.session.proofs.OpenLaws.{Open, is-open-when, opens, same-session, kept, every, every-edit, agents-kept, count-standing, count-undone}
 use Rattle.session.proofs.CallLaws.{kept-is}

@@ -2,23 +2,22 @@
 -- Assumes nothing.
 use mathlib.Core.Path.{_≡_, refl, sym, ap, _∙_}
 use mathlib.Core.Bool.{Bool, true, false}
-use mathlib.Core.List.{List, [], _∷_, _++_}
-use Prim.Native.Nat.{ℕ, _+_, _-_, _*_, _<_, _≤_}
+use mathlib.Core.List.{List, [], _++_}
+use Prim.Native.Nat.{ℕ, _+_, _-_, _*_, _≤_}
 use native.Mathlib.Omega.{arith}
 use lib.Dec.{eqb, leb}
-use lib.ListN.{length, take, drop, replicate, length-append, length-drop, take-append-drop}
+use lib.ListN.{length, take, drop, replicate, length-drop, take-append-drop}
 use lib.Seq.{take-at, drop-at}
 use borrow.Author.Tests.{eq-eqb, eqb-true, leb-true, le-leb}
-use Rattle.bmap.specs.Plain.{both, flat}
+use Rattle.bmap.specs.Plain.{both}
 use Rattle.bmap.specs.Refusal.{Answer, got, refused}
-use Rattle.bmap.specs.Domain.{Names}
 use Rattle.bmap.specs.Buffer.{padded}
 use Rattle.bmap.specs.Store.{zeros}
 use Rattle.bmap.specs.Session.{Edit, Model, orElse, sheetOf, replayed, loggedAll, editsFrom, modelOf, layout, sameBytes, sameSession, isGot, replays, isOpen}
 use Rattle.bmap.specs.declared.session.Session.{Session}
 use Rattle.session.specs.Log.{Sound, Holds, Reached}
 use Rattle.session.proofs.ListLaws.{both-true, is-false, same-refl, same-eq, zeros-are, zeros-replicate}
-use Rattle.session.proofs.SheetLaws.{page, got-inj}
+use Rattle.session.proofs.SheetLaws.{page}
 use Rattle.session.proofs.LogLaws.{length-edits, edits-upto, length-edits-logged, sound-sheet, sound-prefix}
 
 -- ---- two sessions compared

@@ -1,19 +1,18 @@
 -- The replay's loop: what is reached at one entry is reached at the next, or no further.
 -- Assumes nothing.
-use mathlib.Core.Path.{_≡_, refl, sym, ap, _∙_, subst}
-use mathlib.Core.List.{List, []}
+use mathlib.Core.Path.{_≡_, refl, sym, ap, _∙_}
+use mathlib.Core.List.{List}
 use Prim.Native.Nat.{ℕ, _+_, _-_, _*_, _<_, _≤_}
 use native.Mathlib.Omega.{arith}
 use lib.ListN.{length, take, drop, length-drop, replicate}
 use lib.Seq.{length-take-le}
 use Rattle.bmap.specs.Plain.{flat}
-use Rattle.bmap.specs.Refusal.{got}
 use Rattle.bmap.specs.Domain.{Names}
 use Rattle.bmap.specs.Session.{Edit, edited, logged}
 use Rattle.session.specs.declared.log.Place.{Place}
 use Rattle.session.specs.declared.log.Place.the-variants.{Nowhere, Step}
-use Rattle.session.specs.Log.{laid, targetOf, Sound, Holds, Reached}
-use Rattle.session.proofs.SheetLaws.{Fits, page, room, page-room, length-flat}
+use Rattle.session.specs.Log.{laid, targetOf, Sound, Reached}
+use Rattle.session.proofs.SheetLaws.{Fits, room, page-room, length-flat}
 use Rattle.session.proofs.ListLaws.{length-padded}
 use Rattle.session.proofs.LogLaws.{take-short, editAt, entry-edit, sound-none, sound-fits, sound-more, sound-prefix, sound-entry, sound-does}
 use Rattle.session.proofs.TurnLaws.{Turned, turned, stuck}

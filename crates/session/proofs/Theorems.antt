@@ -1,13 +1,12 @@
 -- What the promises of the session fix: 17 is exact, a series of calls is what document 01 says of it (demand 3), and an answer
 -- is the only one that keeps its promise.
-use mathlib.Core.Path.{_≡_, refl, sym, ap, _∙_, subst}
-use mathlib.Core.Logic.{_↔_}
-use mathlib.Core.Bool.{Bool, true, false}
-use mathlib.Core.List.{List, [], _∷_, _++_, map, append-assoc, append-nil}
-use Prim.Native.Nat.{ℕ, zero, suc, _+_, _-_, _<_, _≤_}
+use mathlib.Core.Path.{_≡_, refl, sym, ap, _∙_}
+use mathlib.Core.Bool.{Bool, true}
+use mathlib.Core.List.{List, [], _∷_, _++_, map, append-nil}
+use Prim.Native.Nat.{ℕ, zero, suc, _+_, _-_, _≤_}
 use native.Mathlib.Nat.{add-suc, add-zero}
 use native.Mathlib.Omega.{arith}
-use lib.Dec.{eqb, leb, ltb}
+use lib.Dec.{eqb, ltb}
 use lib.IntN.{ℤ}
 use lib.ListN.{length, take, drop, replicate, length-append, take-append-drop}
 use lib.Seq.{take-at, drop-at, take-length, drop-length, length-take-le, append-snoc}
@@ -18,8 +17,8 @@ use Rattle.bmap.specs.Refusal.{Answer, got, refused, need, then, numberOf}
 use Rattle.bmap.specs.Domain.{Domain, Names}
 use Rattle.bmap.specs.Store.{domainIn}
 use Rattle.bmap.specs.Judge.{judge}
-use Rattle.bmap.specs.Verdict.{Judgement, judgement}
-use Rattle.bmap.specs.Session.{Edit, Model, sheetOf, edited, edit, moved, undo, redo, replayed, opened, verdict, Call, editing, undoing, redoing, judging, Reply, done, judged, Turn, turned, turn, after, replies, modelOf, layout, isOpen, CouldBeLeft, Changed, changed, onModel, editSession, undoSession, redoSession, openedOn, openSession, verdictOf}
+use Rattle.bmap.specs.Verdict.{judgement}
+use Rattle.bmap.specs.Session.{Edit, Model, sheetOf, edited, edit, undo, redo, replayed, opened, verdict, Call, editing, undoing, redoing, judging, Reply, judged, turned, turn, after, replies, modelOf, layout, isOpen, CouldBeLeft, Changed, changed, onModel, editSession, undoSession, redoSession, openedOn, openSession, verdictOf}
 use Rattle.bmap.specs.Theorems.{OpenExactly}
 use Rattle.bmap.specs.declared.refusal.Refusal.{Refusal}
 use Rattle.bmap.specs.declared.refusal.Refusal.the-variants.{BadLine, BadCount, BadKind, BadPayload, TooMany, Repeated, Incomplete, NotWhole, TooLong, NoRoom, NoStep, NothingStands, NothingUndone, LogFull, NotDomain, OtherAgents, NotSession, LongInput}
@@ -27,7 +26,7 @@ use Rattle.bmap.specs.declared.session.Session.{Session}
 use Rattle.session.specs.declared.Outcome.{Outcome}
 use Rattle.session.specs.declared.Outcome.the-variants.{Done, Refused}
 use Rattle.session.specs.declared.Change.{Change}
-use Rattle.session.specs.Calls.{answerOf, changedOf}
+use Rattle.session.specs.Calls.{answerOf, changedOf, leaves}
 use Rattle.session.specs.Series.{Called, calledBy, called, sessionAfter, repliesOf}
 use Rattle.session.proofs.SheetLaws.{need-got, got-inj, one-more, prefix-got}
 use Rattle.session.proofs.OpenLaws.{every}
@@ -271,3 +270,7 @@ same-change a b h =
     let o : a .outcome ≡ b .outcome = same-outcome (a .outcome) (b .outcome) (ap (λ (x : Changed). x .answer) h) in
     let s : a .session ≡ b .session = ap (λ (x : Changed). x .session) h in
     λ i. record { outcome = o i; session = s i }
+
+-- and the session that a call was lent has one value after it
+pub same-left : (a b : Outcome) (s t : Session) → leaves a s ≡ leaves b t → (a ≡ b) × (s ≡ t)
+same-left a b s t h = (same-outcome a b (ap (λ (x : Changed). x .answer) h), ap (λ (x : Changed). x .session) h)

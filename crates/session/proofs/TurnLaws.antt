@@ -1,14 +1,14 @@
 -- A turn of the replay: what the code asks of an entry is that it is written as its edit is, and that the edit can be done.
 -- Assumes nothing.
-use mathlib.Core.Path.{_≡_, refl, sym, ap, _∙_, subst}
+use mathlib.Core.Path.{_≡_, refl, sym, ap, _∙_}
 use mathlib.Core.Bool.{Bool, true, false}
-use mathlib.Core.List.{List, [], _∷_, _++_, append-nil}
-use Prim.Native.Nat.{ℕ, zero, suc, _+_, _-_, _*_, _<_, _≤_}
+use mathlib.Core.List.{List, [], _∷_, _++_}
+use Prim.Native.Nat.{ℕ, _+_, _-_, _*_, _<_, _≤_}
 use native.Mathlib.Omega.{arith}
 use lib.Dec.{eqb, ltb, leb}
-use lib.ListN.{length, getD, take, drop, set, replicate, length-append, length-set, length-drop, length-replicate, take-append-drop}
+use lib.ListN.{length, take, drop, set, replicate, length-append, length-set, length-drop, take-append-drop}
 use lib.Seq.{length-take-le, drop-drop, drop-at}
-use borrow.Author.Tests.{eqb-true, ltb-true, leb-true, eqb-false, ltb-false, leb-false, eq-eqb, ne-eqb, lt-ltb, le-leb}
+use borrow.Author.Tests.{eqb-true, ltb-true, leb-true, eqb-false, eq-eqb, ne-eqb, lt-ltb, le-leb}
 use Rattle.bmap.specs.Plain.{both, if-else}
 use Rattle.bmap.specs.Refusal.{got}
 use Rattle.bmap.specs.Domain.{Names}

@@ -1,11 +1,12 @@
 -- The calls' answers as document 01 has them.
 use Prim.Native.Nat.{ℕ, _+_, _*_}
-use mathlib.Core.List.{List, _∷_, _++_}
+use mathlib.Core.List.{List, [], _∷_, _++_}
+use lib.Dec.{ltb}
 use lib.ListN.{take}
-use Rattle.bmap.specs.Refusal.{Answer, got, refused, numberOf}
-use Rattle.bmap.specs.Limits.{mostEdits}
+use Rattle.bmap.specs.Refusal.{Answer, got, refused, need, numberOf}
+use Rattle.bmap.specs.Limits.{mostEdits, sheetSize}
 use Rattle.bmap.specs.Buffer.{padded}
-use Rattle.bmap.specs.Session.{Changed, editSize}
+use Rattle.bmap.specs.Session.{Changed, editSize, isOpen}
 use Rattle.bmap.specs.declared.limits.Sheet.{Sheet}
 use Rattle.bmap.specs.declared.session.Session.{Session}
 use Rattle.session.specs.Log.{laid}
@@ -29,6 +30,10 @@ leaves outcome s = record { answer = answerOf outcome; session = s }
 abbrev pub done : Session → Changed
 done s = record { answer = got tt; session = s }
 
+-- what every edit asks first: "17, 14"
+abbrev pub mayEdit : Session → Answer (Unit {0})
+mayEdit s = need (isOpen s) 17 (need (ltb (s .standing) mostEdits) 14 (got tt))
+
 -- the same edits, of which the first k stand and leave this sheet
 abbrev pub standingAt : Session → ℕ → Sheet → Session
 standingAt s k sheet = record { agents = s .agents; sheet = sheet; standing = k; total = s .total; log = s .log }
@@ -41,4 +46,14 @@ withEdit s kind number names step steps = record {
   standing = s .standing + 1;
   total = s .standing + 1;
   log = padded (mostEdits * editSize) (take (s .standing * editSize) (s .log) ++ (kind ∷ number ∷ names));
+}
+
+-- a session of no edit
+abbrev pub emptied : ℕ → Session
+emptied n = record {
+  agents = n;
+  sheet = record { steps = 0; names = padded sheetSize [] };
+  standing = 0;
+  total = 0;
+  log = padded (mostEdits * editSize) [];
 }

@@ -1,17 +1,19 @@
 // The editing session: enter, strike, amend, undo and redo, by value and on a session that is lent.
-// log.rt reads a log back into a sheet; open.rt decides refusal 17; value.rt has the five calls by value, lent.rt those
+// log.rt reads a log back into a sheet; kept.rt decides refusal 17; value.rt has the five calls by value, lent.rt those
 // that alter the session itself. Only bmap's types and check's comparison stand below.
+mod kept;
 mod lent;
 mod log;
-mod open;
+mod opening;
 mod value;
 
+pub use kept::is_open;
 pub use lent::amend;
 pub use lent::enter;
 pub use lent::redo;
 pub use lent::strike;
 pub use lent::undo;
-pub use open::is_open;
+pub use opening::open;
 pub use value::amended;
 pub use value::entered;
 pub use value::redone;

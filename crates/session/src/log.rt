@@ -11,20 +11,29 @@ ghost use Rattle.bmap.specs.Buffer.{padded};
 ghost use Rattle.bmap.specs.Session.{editSize};
 ghost use Rattle.session.specs.Log.{laid, placeOf, namesEnd, targetOf, Reached, RunTo};
 
+// An entry's first byte, and where its names begin, after its step's number.
+pub(crate) const ENTER: u8 = 1;
+
+pub(crate) const STRIKE: u8 = 2;
+
+pub(crate) const AMEND: u8 = 3;
+
+const NAMES: usize = 2;
+
 // Where an edit's names are laid in a sheet, and the number of steps after it.
-pub enum Place {
+pub(crate) enum Place {
     Nowhere,
     Step(usize, usize),
 }
 
 // The number of steps that a log's entries leave, or that one of them is no edit that could be done.
-pub enum Run {
+pub(crate) enum Run {
     Stuck,
     Steps(usize),
 }
 
 // Whether only zeros stand in s from a place on.
-pub fn is_zero_from(s: &[u8], from: usize) -> bool
+pub(crate) fn is_zero_from(s: &[u8], from: usize) -> bool
     ensures { λ r. ⌜ r ≡ zeros (drop from (now (s .entry))) ⌝ }
 {
     let mut i = from;
@@ -38,7 +47,7 @@ pub fn is_zero_from(s: &[u8], from: usize) -> bool
 }
 
 // Lays src over dst from a place on.
-pub fn lay(dst: &mut [u8], at: usize, src: &[u8])
+pub(crate) fn lay(dst: &mut [u8], at: usize, src: &[u8])
     requires { ⌜ at + length (now src) ≤ length (now dst) ⌝ }
     ensures { λ _. ⌜ now (dst .exit) ≡ laid (now (dst .entry)) at (now (src .entry)) ⌝ }
 {
@@ -50,7 +59,7 @@ pub fn lay(dst: &mut [u8], at: usize, src: &[u8])
 }
 
 // Zeros from a place on.
-pub fn clear(dst: &mut [u8], from: usize)
+pub(crate) fn clear(dst: &mut [u8], from: usize)
     requires { ⌜ from ≤ length (now dst) ⌝ }
     ensures { λ _. ⌜ now (dst .exit) ≡ padded (length (now (dst .entry))) (take from (now (dst .entry))) ⌝ }
 {
@@ -62,21 +71,21 @@ pub fn clear(dst: &mut [u8], from: usize)
 }
 
 // The first bytes of a log, a new entry after them, and zeros after it.
-pub fn write_entry(log: &mut [u8], at: usize, kind: u8, number: u8, names: &[u8])
+pub(crate) fn write_entry(log: &mut [u8], at: usize, kind: u8, number: u8, names: &[u8])
     requires { ⌜ at + 2 + length (now names) ≤ length (now log) ⌝ }
     ensures { λ _. ⌜ now (log .exit) ≡ padded (length (now (log .entry))) (take at (now (log .entry)) ++ (kind ∷ number ∷ now (names .entry))) ⌝ }
 {
     log[at] = kind;
     log[at + 1] = number;
-    lay(log, at + 2, names);
-    clear(log, at + 2 + names.len());
+    lay(log, at + NAMES, names);
+    clear(log, at + NAMES + names.len());
 }
 
 // The place of an edit in a sheet of so many steps.
-pub fn edit_place(kind: u8, number: usize, steps: usize) -> Place
+pub(crate) fn edit_place(kind: u8, number: usize, steps: usize) -> Place
     ensures { λ r. ⌜ r ≡ placeOf kind number steps ⌝ }
 {
-    if kind == 1 {
+    if kind == ENTER {
         if number == 0 {
             if steps < Sheet::STEPS {
                 return Place::Step(steps, steps + 1);
@@ -84,7 +93,7 @@ pub fn edit_place(kind: u8, number: usize, steps: usize) -> Place
         }
         return Place::Nowhere;
     }
-    if kind == 2 {
+    if kind == STRIKE {
         if number == 0 {
             if steps > 0 {
                 return Place::Step(steps - 1, steps - 1);
@@ -92,7 +101,7 @@ pub fn edit_place(kind: u8, number: usize, steps: usize) -> Place
         }
         return Place::Nowhere;
     }
-    if kind == 3 {
+    if kind == AMEND {
         if number > 0 {
             if number <= steps {
                 return Place::Step(number - 1, steps);
@@ -103,18 +112,18 @@ pub fn edit_place(kind: u8, number: usize, steps: usize) -> Place
 }
 
 // Where an entry's names end: a strike has none.
-pub fn names_end(agents: usize, kind: u8) -> usize
+pub(crate) fn names_end(agents: usize, kind: u8) -> usize
     requires { ⌜ agents ≤ mostAgents ⌝ }
     ensures { λ r. ⌜ r ≡ namesEnd agents kind ⌝ }
 {
-    if kind == 2 {
-        return 2;
+    if kind == STRIKE {
+        return NAMES;
     }
-    2 + agents
+    NAMES + agents
 }
 
 // The place of an entry's edit, where zeros follow what the entry has.
-pub fn target(agents: usize, entry: &[u8], steps: usize) -> Place
+pub(crate) fn target(agents: usize, entry: &[u8], steps: usize) -> Place
     requires { ⌜ (agents ≤ mostAgents) × (length (now entry) ≡ editSize) ⌝ }
     ensures { λ r. ⌜ r ≡ targetOf agents (now (entry .entry)) steps ⌝ }
 {
@@ -126,7 +135,14 @@ pub fn target(agents: usize, entry: &[u8], steps: usize) -> Place
 }
 
 // The entries from one to another, done on the sheet that those before them left.
-pub fn replay(agents: usize, log: &[u8], from: usize, to: usize, steps: usize, names: &mut [u8]) -> Run
+pub(crate) fn replay(
+    agents: usize,
+    log: &[u8],
+    from: usize,
+    to: usize,
+    steps: usize,
+    names: &mut [u8],
+) -> Run
     requires { ⌜ (agents ≤ mostAgents) × (from ≤ to) × (to * editSize ≤ length (now log)) × (Reached agents from (now log) steps (now names)) ⌝ }
     ensures { λ r. ⌜ RunTo agents to (now (log .entry)) r (now (names .exit)) ⌝ }
 {
@@ -139,7 +155,7 @@ pub fn replay(agents: usize, log: &[u8], from: usize, to: usize, steps: usize, n
         match found {
             Place::Nowhere => return Run::Stuck,
             Place::Step(step, after) => {
-                lay(names, step * agents, &entry[2..2 + agents]);
+                lay(names, step * agents, &entry[NAMES..NAMES + agents]);
                 count = after;
             }
         }

@@ -1,23 +1,25 @@
 // The calls by value: the session is taken, and returned with the answer.
 use crate::Change;
 use crate::Outcome;
+use crate::kept::is_open;
+use crate::log::AMEND;
+use crate::log::ENTER;
 use crate::log::Run;
+use crate::log::STRIKE;
 use crate::log::lay;
 use crate::log::replay;
 use crate::log::write_entry;
-use crate::open::is_open;
 use bmap::Counts;
 use bmap::Refusal;
 use bmap::Session;
 use bmap::Sheet;
 ghost use mathlib.Core.Path.{_≡_};
 ghost use Prim.Native.Nat.{_+_, _≤_, _<_, _*_};
-ghost use lib.Dec.{leb};
 ghost use lib.ListN.{length};
 ghost use Rattle.bmap.specs.Limits.{mostAgents, mostEdits, sheetSize};
 ghost use Rattle.bmap.specs.Refusal.{refused, numberOf};
 ghost use Rattle.bmap.specs.Session.{enter, strike, amend, changed, editSession, undoSession, redoSession};
-ghost use Rattle.session.specs.Calls.{changedOf, done, standingAt, withEdit};
+ghost use Rattle.session.specs.Calls.{answerOf, changedOf, mayEdit, done, standingAt, withEdit};
 
 fn refuse(s: Session, why: Refusal) -> Change
     ensures { λ r. ⌜ changedOf r ≡ changed s (refused (numberOf why)) ⌝ }
@@ -36,11 +38,17 @@ fn accept(session: Session) -> Change
     Change { outcome, session }
 }
 
-// 14: "200 edits stand"; undone ones take no room.
-fn is_full(s: Session) -> bool
-    ensures { λ r. ⌜ r ≡ leb mostEdits (s .standing) ⌝ }
+// What every edit asks first: 17, then 14, "200 edits stand". Undone edits take no room.
+fn may_edit(s: Session) -> Outcome
+    ensures { λ r. ⌜ answerOf r ≡ mayEdit s ⌝ }
 {
-    s.standing >= Session::EDITS
+    if !is_open(s) {
+        return Outcome::Refused(Refusal::NotSession);
+    }
+    if s.standing >= Session::EDITS {
+        return Outcome::Refused(Refusal::LogFull);
+    }
+    Outcome::Done
 }
 
 // The same edits, of which so many stand and leave this sheet.
@@ -70,10 +78,7 @@ fn add(s: Session, kind: u8, number: u8, names: &[u8], step: usize, steps: usize
     lay(&mut page, step * agents, names);
     let mut log = s.log;
     write_entry(&mut log, standing * Session::EDIT, kind, number, names);
-    let sheet = Sheet {
-        steps,
-        names: page,
-    };
+    let sheet = Sheet { steps, names: page };
     let count = standing + 1;
     let session = Session {
         agents,
@@ -89,11 +94,10 @@ fn add(s: Session, kind: u8, number: u8, names: &[u8], step: usize, steps: usize
 pub fn entered(s: Session, step: &[u8]) -> Change
     ensures { λ r. ⌜ changedOf r ≡ editSession (enter (now (step .entry))) s ⌝ }
 {
-    if !is_open(s) {
-        return refuse(s, Refusal::NotSession);
-    }
-    if is_full(s) {
-        return refuse(s, Refusal::LogFull);
+    let may = may_edit(s);
+    match may {
+        Outcome::Refused(why) => return refuse(s, why),
+        Outcome::Done => {}
     }
     if step.len() != s.agents {
         return refuse(s, Refusal::NotWhole);
@@ -103,18 +107,17 @@ pub fn entered(s: Session, step: &[u8]) -> Change
     if steps >= Sheet::STEPS {
         return refuse(s, Refusal::TooLong);
     }
-    add(s, 1, 0, step, steps, steps + 1)
+    add(s, ENTER, 0, step, steps, steps + 1)
 }
 
 // "Strike: 17, 14, 11".
 pub fn stricken(s: Session) -> Change
     ensures { λ r. ⌜ changedOf r ≡ editSession strike s ⌝ }
 {
-    if !is_open(s) {
-        return refuse(s, Refusal::NotSession);
-    }
-    if is_full(s) {
-        return refuse(s, Refusal::LogFull);
+    let may = may_edit(s);
+    match may {
+        Outcome::Refused(why) => return refuse(s, why),
+        Outcome::Done => {}
     }
     let sheet = s.sheet;
     let steps = sheet.steps;
@@ -124,18 +127,17 @@ pub fn stricken(s: Session) -> Change
     let agents = s.agents;
     let idle = [0u8; Counts::AGENTS];
     let last = steps - 1;
-    add(s, 2, 0, &idle[..agents], last, last)
+    add(s, STRIKE, 0, &idle[..agents], last, last)
 }
 
 // "Amend: 17, 14, 8, 11"; "Steps are numbered from 1".
 pub fn amended(s: Session, number: usize, step: &[u8]) -> Change
     ensures { λ r. ⌜ changedOf r ≡ editSession (amend number (now (step .entry))) s ⌝ }
 {
-    if !is_open(s) {
-        return refuse(s, Refusal::NotSession);
-    }
-    if is_full(s) {
-        return refuse(s, Refusal::LogFull);
+    let may = may_edit(s);
+    match may {
+        Outcome::Refused(why) => return refuse(s, why),
+        Outcome::Done => {}
     }
     if step.len() != s.agents {
         return refuse(s, Refusal::NotWhole);
@@ -148,7 +150,7 @@ pub fn amended(s: Session, number: usize, step: &[u8]) -> Change
     if number > steps {
         return refuse(s, Refusal::NoStep);
     }
-    add(s, 3, number as u8, step, number - 1, steps)
+    add(s, AMEND, number as u8, step, number - 1, steps)
 }
 
 // "Undo: 17, 12".
@@ -186,7 +188,14 @@ pub fn redone(s: Session) -> Change
     }
     let held = s.sheet;
     let mut names = held.names;
-    let run = replay(s.agents, &s.log, standing, standing + 1, held.steps, &mut names);
+    let run = replay(
+        s.agents,
+        &s.log,
+        standing,
+        standing + 1,
+        held.steps,
+        &mut names,
+    );
     match run {
         Run::Stuck => refuse(s, Refusal::NotSession),
         Run::Steps(steps) => {

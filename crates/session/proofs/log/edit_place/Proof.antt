@@ -2,12 +2,9 @@
 -- Assumes nothing.
 use borrow.Author.Needs.{needs}
 use borrow.Author.Tests.{eq-eqb, ne-eqb, lt-ltb, le-ltb, le-leb, lt-leb}
-use native.Mathlib.Omega.{arith}
 use Rattle.session.specs.Log.{placeOf}
 use Rattle.session.proofs.log.edit_place.Statement.{statement}
 use Rattle.session.proofs.log.edit_place.Tie as tie
-use Rattle.session.proofs.log.edit_place.Reads as reads
-use Rattle.session.proofs.log.edit_place.Lts as lts
 
 add-t7 : tie.Need-add-t7
 add-t7 c = search needs

@@ -1,7 +1,7 @@
 -- `session::log::is_zero_from` meets its contract. The loop's invariant: what is asked of the bytes from `from` is what is asked of those from i.
 -- Assumes nothing.
 use mathlib.Core.Path.{_≡_, refl, sym, _∙_}
-use Prim.Native.Nat.{_-_, _≤_}
+use Prim.Native.Nat.{_-_}
 use native.Mathlib.Omega.{arith}
 use lib.ListN.{length, drop}
 use Rattle.bmap.specs.Store.{zeros}

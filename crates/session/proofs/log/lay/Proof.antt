@@ -1,6 +1,6 @@
 -- `session::log::lay` meets its contract. The loop's invariant: dst is what it was, with the first j bytes of src laid over it from at.
 -- Assumes nothing.
-use mathlib.Core.Path.{_≡_, refl, sym, ap, _∙_}
+use mathlib.Core.Path.{_≡_, refl, ap, _∙_}
 use mathlib.Core.List.{List}
 use Prim.Native.Nat.{ℕ, _+_, _-_, _<_, _≤_}
 use native.Mathlib.Nat.{le-antisymm}

@@ -4,8 +4,6 @@ use borrow.Author.Tests.{eq-eqb, ne-eqb}
 use borrow.Author.Needs.{needs}
 use Rattle.session.proofs.log.names_end.Statement.{statement}
 use Rattle.session.proofs.log.names_end.Tie as tie
-use Rattle.session.proofs.log.names_end.Reads as reads
-use Rattle.session.proofs.log.names_end.Lts as lts
 
 returns : tie.Need-returns
 returns c = simp (eq-eqb _ _ (c .if1 .taken))

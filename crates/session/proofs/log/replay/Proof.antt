@@ -9,10 +9,6 @@ use Rattle.session.specs.Log.{Reached}
 use Rattle.session.proofs.ReplayLaws.{entry-length, reached-length, stays, has-room, moves}
 use Rattle.session.proofs.log.replay.Statement.{statement}
 use Rattle.session.proofs.log.replay.Tie as tie
-use Rattle.session.proofs.log.replay.Reads as reads
-use Rattle.session.proofs.log.replay.Lts as lts
-use Rattle.session.proofs.log.lay.Reads as lay-reads
-use Rattle.session.proofs.log.target.Reads as target-reads
 
 abbrev Inv-loop : tie.InvT-loop
 Inv-loop agents log from to steps names₀ count₀ k₀ names count k = (k ≤ to) × (length names ≡ length names₀) × (Reached agents k log count names)

@@ -7,10 +7,6 @@ use Rattle.session.proofs.ListLaws.{entry-laid, entry-kept, entry-writt
 use borrow.Author.Needs.{needs}
 use Rattle.session.proofs.log.write_entry.Statement.{statement}
 use Rattle.session.proofs.log.write_entry.Tie as tie
-use Rattle.session.proofs.log.write_entry.Reads as reads
-use Rattle.session.proofs.log.write_entry.Lts as lts
-use Rattle.session.proofs.log.clear.Reads as clear-reads
-use Rattle.session.proofs.log.lay.Reads as lay-reads
 
 slice-write-log : tie.Need-slice-write-log
 slice-write-log c = search needs

@@ -1,6 +1,6 @@
 -- `session::value::add` meets its contract.
 -- Assumes nothing.
-use mathlib.Core.Path.{_≡_, sym, ap, _∙_}
+use mathlib.Core.Path.{sym, ap, _∙_}
 use mathlib.Core.List.{_∷_, _++_}
 use Prim.Native.Nat.{ℕ, _+_, _*_}
 use native.Mathlib.Omega.{arith}
@@ -10,11 +10,6 @@ use Rattle.session.specs.Calls.{done}
 use borrow.Author.Needs.{needs}
 use Rattle.session.proofs.value.add.Statement.{statement}
 use Rattle.session.proofs.value.add.Tie as tie
-use Rattle.session.proofs.value.add.Reads as reads
-use Rattle.session.proofs.value.add.Lts as lts
-use Rattle.session.proofs.log.lay.Reads as lay-reads
-use Rattle.session.proofs.log.write_entry.Reads as write-entry-reads
-use Rattle.session.proofs.value.accept.Reads as accept-reads
 
 slice-aggregate-lay : tie.Need-slice-aggregate-lay
 slice-aggregate-lay c = search needs

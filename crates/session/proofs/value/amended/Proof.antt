@@ -1,55 +1,55 @@
 -- `session::value::amended` meets its contract.
 -- Assumes nothing.
-use mathlib.Core.Path.{_≡_, sym, ap, _∙_}
+use mathlib.Core.Path.{_∙_}
 use Prim.Native.Nat.{_-_}
 use native.Mathlib.Omega.{arith}
-use borrow.Author.Tests.{not-true, not-false, leb-true, leb-false}
 use Rattle.bmap.specs.Session.{amend}
 use Rattle.session.proofs.SheetLaws.{room}
-use Rattle.session.proofs.CallLaws.{edited-17, edited-14, open-few, open-steps, amended-8, amended-11-zero, amended-11, amended-got}
+use Rattle.session.proofs.CallLaws.{may-refused, may-done, open-few, open-steps, amended-8, amended-11-zero, amended-11, amended-got}
 use borrow.Author.Needs.{needs}
 use Rattle.session.proofs.value.amended.Statement.{statement}
 use Rattle.session.proofs.value.amended.Tie as tie
-use Rattle.session.proofs.value.amended.Reads as reads
-use Rattle.session.proofs.value.amended.Lts as lts
-use Rattle.session.proofs.open.is_open.Reads as is-open-reads
-use Rattle.session.proofs.value.add.Reads as add-reads
-use Rattle.session.proofs.value.is_full.Reads as is-full-reads
-use Rattle.session.proofs.value.refuse.Reads as refuse-reads
 
-is-open-requires : tie.Need-is-open-requires
-is-open-requires c κs = search needs
+may-edit-requires : tie.Need-may-edit-requires
+may-edit-requires c κs = search needs
+
+enum-known-may : tie.Need-enum-known-may
+enum-known-may c = search needs
 
 refuse-requires : tie.Need-refuse-requires
 refuse-requires c κs = search needs
 
 returns : tie.Need-returns
-returns c = c .refuse .ensures ∙ edited-17 (c .before .before .before .before .args .s) (sym (c .before .before .is-open .ensures) ∙ not-true (c .before .before .is-open .result) (c .before .if1 .taken)) (amend (c .before .before .before .before .args .number) (c .before .before .before .before .args .step .now))
+returns c =
+    let x = c .before .before .before .before .before .before .args in
+    let may = c .before .before .before .before .may-edit in
+    let told = c .before .before .may .given in
+    c .refuse .ensures ∙ may-refused (x .s) (may .result) (may .ensures) (told .0 .0) (told .1) (amend (x .number) (x .step .now))
 
-is-full-requires : tie.Need-is-full-requires
-is-full-requires c κs = search needs
+enum-told : tie.Need-enum-told
+enum-told c = search needs
 
 refuse-requires-2 : tie.Need-refuse-requires-2
 refuse-requires-2 c κs = search needs
 
 returns-2 : tie.Need-returns-2
 returns-2 c =
-    let x = c .before .before .before .before .before .before .args in
+    let x = c .before .before .before .before .before .before .before .args in
     let s = x .s in
-    let h = sym (c .before .before .before .before .is-open .ensures) ∙ not-false (c .before .before .before .before .is-open .result) (c .before .before .before .if1 .left) in
-    let full = leb-true 200 (s .standing) (sym (c .before .before .is-full .ensures) ∙ c .before .if2 .taken) in
-    c .refuse2 .ensures ∙ edited-14 s h (amend (x .number) (x .step .now)) full
+    let may = c .before .before .before .before .before .may-edit in
+    let p = may-done s (may .result) (may .ensures) (c .before .before .before .enum-told .given .1) in
+    c .refuse2 .ensures ∙ amended-8 s (p .0) (p .1) (x .number) (x .step .now) (c .before .if1 .taken)
 
 refuse-requires-3 : tie.Need-refuse-requires-3
 refuse-requires-3 c κs = search needs
 
 returns-3 : tie.Need-returns-3
 returns-3 c =
-    let x = c .before .before .before .before .before .before .before .before .args in
+    let x = c .before .before .before .before .before .before .before .before .before .args in
     let s = x .s in
-    let h = sym (c .before .before .before .before .before .before .is-open .ensures) ∙ not-false (c .before .before .before .before .before .before .is-open .result) (c .before .before .before .before .before .if1 .left) in
-    let few = leb-false 200 (s .standing) (sym (c .before .before .before .before .is-full .ensures) ∙ c .before .before .before .if2 .left) in
-    c .refuse3 .ensures ∙ amended-8 s h few (x .number) (x .step .now) (c .before .if3 .taken)
+    let may = c .before .before .before .before .before .before .before .may-edit in
+    let p = may-done s (may .result) (may .ensures) (c .before .before .before .before .before .enum-told .given .1) in
+    c .refuse3 .ensures ∙ amended-11-zero s (p .0) (p .1) (x .step .now) (c .before .before .before .if1 .left) (x .number) (c .before .if2 .taken)
 
 refuse-requires-4 : tie.Need-refuse-requires-4
 refuse-requires-4 c κs = search needs
@@ -58,66 +58,54 @@ returns-4 : tie.Need-returns-4
 returns-4 c =
     let x = c .before .before .before .before .before .before .before .before .before .before .args in
     let s = x .s in
-    let h = sym (c .before .before .before .before .before .before .before .before .is-open .ensures) ∙ not-false (c .before .before .before .before .before .before .before .before .is-open .result) (c .before .before .before .before .before .before .before .if1 .left) in
-    let few = leb-false 200 (s .standing) (sym (c .before .before .before .before .before .before .is-full .ensures) ∙ c .before .before .before .before .before .if2 .left) in
-    c .refuse4 .ensures ∙ amended-11-zero s h few (x .step .now) (c .before .before .before .if3 .left) (x .number) (c .before .if4 .taken)
-
-refuse-requires-5 : tie.Need-refuse-requires-5
-refuse-requires-5 c κs = search needs
-
-returns-5 : tie.Need-returns-5
-returns-5 c =
-    let x = c .before .before .before .before .before .before .before .before .before .before .before .args in
-    let s = x .s in
-    let h = sym (c .before .before .before .before .before .before .before .before .before .is-open .ensures) ∙ not-false (c .before .before .before .before .before .before .before .before .before .is-open .result) (c .before .before .before .before .before .before .before .before .if1 .left) in
-    let few = leb-false 200 (s .standing) (sym (c .before .before .before .before .before .before .before .is-full .ensures) ∙ c .before .before .before .before .before .before .if2 .left) in
-    c .refuse5 .ensures ∙ amended-11 s h few (x .step .now) (c .before .before .before .before .if3 .left) (x .number) (omega arith) (c .before .if5 .taken)
+    let may = c .before .before .before .before .before .before .before .before .may-edit in
+    let p = may-done s (may .result) (may .ensures) (c .before .before .before .before .before .before .enum-told .given .1) in
+    c .refuse4 .ensures ∙ amended-11 s (p .0) (p .1) (x .step .now) (c .before .before .before .before .if1 .left) (x .number) (omega arith) (c .before .if3 .taken)
 
 cast-add : tie.Need-cast-add
 cast-add c =
-    let x = c .before .before .before .before .before .before .before .before .before .before .args in
+    let x = c .before .before .before .before .before .before .before .before .before .args in
     let s = x .s in
-    let h = sym (c .before .before .before .before .before .before .before .before .is-open .ensures) ∙ not-false (c .before .before .before .before .before .before .before .before .is-open .result) (c .before .before .before .before .before .before .before .if1 .left) in
-    let few = leb-false 200 (s .standing) (sym (c .before .before .before .before .before .before .is-full .ensures) ∙ c .before .before .before .before .before .if2 .left) in
-    omega (arith, open-steps s h few)
+    let may = c .before .before .before .before .before .before .before .may-edit in
+    let p = may-done s (may .result) (may .ensures) (c .before .before .before .before .before .enum-told .given .1) in
+    omega (arith, open-steps s (p .0) (p .1))
 
 sub-add : tie.Need-sub-add
 sub-add c = search needs
 
 add-requires : tie.Need-add-requires
 add-requires c κs =
+    let x = c .before .before .before .before .before .before .before .before .before .args in
+    let s = x .s in
+    let may = c .before .before .before .before .before .before .before .may-edit in
+    let p = may-done s (may .result) (may .ensures) (c .before .before .before .before .before .enum-told .given .1) in
+    let n = open-few s (p .0) (p .1) in
+    (omega arith, p .1, omega (arith, room (x .number - 1) (s .agents) (omega (arith, open-steps s (p .0) (p .1))) n))
+
+returns-5 : tie.Need-returns-5
+returns-5 c =
     let x = c .before .before .before .before .before .before .before .before .before .before .args in
     let s = x .s in
-    let h = sym (c .before .before .before .before .before .before .before .before .is-open .ensures) ∙ not-false (c .before .before .before .before .before .before .before .before .is-open .result) (c .before .before .before .before .before .before .before .if1 .left) in
-    let few = leb-false 200 (s .standing) (sym (c .before .before .before .before .before .before .is-full .ensures) ∙ c .before .before .before .before .before .if2 .left) in
-    let n = open-few s h few in
-    (omega arith, few, omega (arith, room (x .number - 1) (s .agents) (omega (arith, open-steps s h few)) n))
-
-returns-6 : tie.Need-returns-6
-returns-6 c =
-    let x = c .before .before .before .before .before .before .before .before .before .before .before .args in
-    let s = x .s in
-    let h = sym (c .before .before .before .before .before .before .before .before .before .is-open .ensures) ∙ not-false (c .before .before .before .before .before .before .before .before .before .is-open .result) (c .before .before .before .before .before .before .before .before .if1 .left) in
-    let few = leb-false 200 (s .standing) (sym (c .before .before .before .before .before .before .before .is-full .ensures) ∙ c .before .before .before .before .before .before .if2 .left) in
-    c .add .ensures ∙ amended-got s h few (x .step .now) (c .before .before .before .before .if3 .left) (x .number) (omega arith) (c .before .if5 .left)
+    let may = c .before .before .before .before .before .before .before .before .may-edit in
+    let p = may-done s (may .result) (may .ensures) (c .before .before .before .before .before .before .enum-told .given .1) in
+    c .add .ensures ∙ amended-got s (p .0) (p .1) (x .step .now) (c .before .before .before .before .if1 .left) (x .number) (omega arith) (c .before .if3 .left)
 
 pub amended-spec : {M : Type 1} → statement M
 amended-spec =
     tie.close
     (tie.spec
-    is-open-requires
+    may-edit-requires
+    enum-known-may
     refuse-requires
     returns
-    is-full-requires
+    enum-told
     refuse-requires-2
     returns-2
     refuse-requires-3
     returns-3
     refuse-requires-4
     returns-4
-    refuse-requires-5
-    returns-5
     cast-add
     sub-add
     add-requires
-    returns-6)
+    returns-5)

@@ -1,23 +1,16 @@
 -- `session::value::redone` meets its contract.
 -- Assumes nothing.
-use mathlib.Core.Path.{_≡_, sym, ap, _∙_}
+use mathlib.Core.Path.{sym, _∙_}
 use native.Mathlib.Omega.{arith}
 use borrow.Author.Tests.{not-true, not-false}
 use Rattle.session.proofs.CallLaws.{open-is, sound-upto, reached, redone-17, redone-13, redone-got}
 use mathlib.Core.Path.{subst}
-use Prim.Native.Nat.{ℕ, _+_, _-_}
+use Prim.Native.Nat.{_+_, _-_}
 use Rattle.session.specs.declared.log.Run.{Run}
 use Rattle.session.specs.Log.{RunTo}
-use Rattle.session.proofs.ReplayLaws.{reached-none}
 use borrow.Author.Needs.{needs}
 use Rattle.session.proofs.value.redone.Statement.{statement}
 use Rattle.session.proofs.value.redone.Tie as tie
-use Rattle.session.proofs.value.redone.Reads as reads
-use Rattle.session.proofs.value.redone.Lts as lts
-use Rattle.session.proofs.log.replay.Reads as replay-reads
-use Rattle.session.proofs.open.is_open.Reads as is-open-reads
-use Rattle.session.proofs.value.refuse.Reads as refuse-reads
-use Rattle.session.proofs.value.stand.Reads as stand-reads
 
 is-open-requires : tie.Need-is-open-requires
 is-open-requires c κs = search needs

@@ -1,23 +1,17 @@
 -- `session::value::undone` meets its contract.
 -- Assumes nothing.
-use mathlib.Core.Path.{_≡_, sym, ap, _∙_}
+use mathlib.Core.Path.{sym, _∙_}
 use native.Mathlib.Omega.{arith}
 use borrow.Author.Tests.{not-true, not-false}
-use Rattle.session.proofs.CallLaws.{open-is, sound-upto, reached, undone-17, undone-12, undone-got}
+use Rattle.session.proofs.CallLaws.{open-is, sound-upto, undone-17, undone-12, undone-got}
 use mathlib.Core.Path.{subst}
-use Prim.Native.Nat.{ℕ, _+_, _-_}
+use Prim.Native.Nat.{_-_}
 use Rattle.session.specs.declared.log.Run.{Run}
 use Rattle.session.specs.Log.{RunTo}
 use Rattle.session.proofs.ReplayLaws.{reached-none}
 use borrow.Author.Needs.{needs}
 use Rattle.session.proofs.value.undone.Statement.{statement}
 use Rattle.session.proofs.value.undone.Tie as tie
-use Rattle.session.proofs.value.undone.Reads as reads
-use Rattle.session.proofs.value.undone.Lts as lts
-use Rattle.session.proofs.log.replay.Reads as replay-reads
-use Rattle.session.proofs.open.is_open.Reads as is-open-reads
-use Rattle.session.proofs.value.refuse.Reads as refuse-reads
-use Rattle.session.proofs.value.stand.Reads as stand-reads
 
 is-open-requires : tie.Need-is-open-requires
 is-open-requires c κs = search needs

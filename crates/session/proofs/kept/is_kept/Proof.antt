@@ -1,7 +1,6 @@
--- `session::open::is_kept` meets its contract: the first test that fails says why.
+-- `session::kept::is_kept` meets its contract: the first test that fails says why.
 -- Assumes nothing.
-use mathlib.Core.Path.{_≡_, subst}
-use Prim.Native.Nat.{ℕ}
+use mathlib.Core.Path.{subst}
 use native.Mathlib.Omega.{arith}
 use borrow.Author.Tests.{not-true, not-false}
 use Rattle.session.specs.declared.log.Run.{Run}
@@ -9,13 +8,8 @@ use Rattle.session.specs.Log.{Reached, RunTo}
 use Rattle.session.proofs.ReplayLaws.{reached-none}
 use Rattle.session.proofs.OpenLaws.{not-standing, other-count, other-names, not-all, by-tail}
 use borrow.Author.Needs.{needs}
-use Rattle.session.proofs.open.is_kept.Statement.{statement}
-use Rattle.session.proofs.open.is_kept.Tie as tie
-use Rattle.session.proofs.open.is_kept.Reads as reads
-use Rattle.session.proofs.open.is_kept.Lts as lts
-use Rattle.check.proofs.same.Reads as same-reads
-use Rattle.session.proofs.log.is_zero_from.Reads as is-zero-from-reads
-use Rattle.session.proofs.log.replay.Reads as replay-reads
+use Rattle.session.proofs.kept.is_kept.Statement.{statement}
+use Rattle.session.proofs.kept.is_kept.Tie as tie
 
 slice-aggregate-replay : tie.Need-slice-aggregate-replay
 slice-aggregate-replay c = search needs

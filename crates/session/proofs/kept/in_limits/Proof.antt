@@ -1,11 +1,9 @@
--- `session::open::in_limits` meets its contract.
+-- `session::kept::in_limits` meets its contract.
 -- Assumes nothing.
 use borrow.Author.Tests.{le-leb, lt-leb}
 use native.Mathlib.Omega.{arith}
-use Rattle.session.proofs.open.in_limits.Statement.{statement}
-use Rattle.session.proofs.open.in_limits.Tie as tie
-use Rattle.session.proofs.open.in_limits.Reads as reads
-use Rattle.session.proofs.open.in_limits.Lts as lts
+use Rattle.session.proofs.kept.in_limits.Statement.{statement}
+use Rattle.session.proofs.kept.in_limits.Tie as tie
 
 returns : tie.Need-returns
 returns c = simp (lt-leb 1 (c .before .args .agents) (omega arith))

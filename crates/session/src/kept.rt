@@ -1,10 +1,10 @@
 // Refusal 17: whether a session is one that an accepted opening and calls after it could leave.
-use bmap::Counts;
-use bmap::Session;
-use bmap::Sheet;
 use crate::log::Run;
 use crate::log::is_zero_from;
 use crate::log::replay;
+use bmap::Counts;
+use bmap::Session;
+use bmap::Sheet;
 ghost use mathlib.Core.Path.{_≡_};
 ghost use lib.ListN.{length};
 ghost use Prim.Native.Nat.{_≤_, _*_};

@@ -1,15 +1,11 @@
--- `session::open::is_open` meets its contract.
+-- `session::kept::is_open` meets its contract.
 -- Assumes nothing.
 use mathlib.Core.Path.{sym, _∙_}
 use borrow.Author.Tests.{not-true, not-false}
 use Rattle.session.proofs.OpenLaws.{outside, inside, within}
 use borrow.Author.Needs.{needs}
-use Rattle.session.proofs.open.is_open.Statement.{statement}
-use Rattle.session.proofs.open.is_open.Tie as tie
-use Rattle.session.proofs.open.is_open.Reads as reads
-use Rattle.session.proofs.open.is_open.Lts as lts
-use Rattle.session.proofs.open.in_limits.Reads as in-limits-reads
-use Rattle.session.proofs.open.is_kept.Reads as is-kept-reads
+use Rattle.session.proofs.kept.is_open.Statement.{statement}
+use Rattle.session.proofs.kept.is_open.Tie as tie
 
 in-limits-requires : tie.Need-in-limits-requires
 in-limits-requires c κs = search needs

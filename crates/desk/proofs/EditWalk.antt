@@ -52,30 +52,30 @@ use Rattle.session.proofs.Outcome.Laws as O′
 use Rattle.session.proofs.LentWalk.{by-value₀, by-value-clauses₀, ByValue₀, by-value₁, by-value-clauses₁, ByValue₁, by-value₂, by-value-clauses₂, ByValue₂}
 use Rattle.desk.specs.Numbers.{doneNumber, answers}
 
-abbrev R : RattleType
+abbrev pub R : RattleType
 R = T.the-row
 
 -- the machine value of a session
-abbrev mach : Session → Val
+abbrev pub mach : Session → Val
 mach = LL.val T.the-type T′.the-laws
 
 -- the machine value of an outcome
-abbrev told : Outcome → Val
+abbrev pub told : Outcome → Val
 told = LE.val O.the-type O′.the-laws
 
 -- what whoever holds a `Change` knows of its fields
-outcome-is : (r : Change) (vs : List Val) → Is E.the-row r vs → Is O.the-row (r .outcome) (told (r .outcome) ∷ [])
+pub outcome-is : (r : Change) (vs : List Val) → Is E.the-row r vs → Is O.the-row (r .outcome) (told (r .outcome) ∷ [])
 outcome-is r vs is = LL.owed E.the-type E′.the-laws r vs is .0
 
-session-is : (r : Change) (vs : List Val) → Is E.the-row r vs → Is R (r .session) (mach (r .session) ∷ [])
+pub session-is : (r : Change) (vs : List Val) → Is E.the-row r vs → Is R (r .session) (mach (r .session) ∷ [])
 session-is r vs is = LL.owed E.the-type E′.the-laws r vs is .1 .0
 
 -- the session behind the reference that is passed
-abbrev behind : Place
+abbrev pub behind : Place
 behind = place 1 (deref T′.mir ∷ [])
 
 -- the parameters' slots
-abbrev session-slot : {n : ℕ} → Slot n
+abbrev pub session-slot : {n : ℕ} → Slot n
 session-slot = plain (λ _. R)
 
 -- ---- the number of an outcome
@@ -90,19 +90,19 @@ abbrev pub Done : {M : Type 1} (𝓤 : URA M) (H : Heap 𝓤) (A : Atoms 𝓤) �
 Done 𝓤 H A = tripleOf 𝓤 H A (done-ended .signature) (closing 𝓤 H A done-ended (done-clauses 𝓤))
 
 -- what is told of a call by value and of `done`, in one
-both-told : (r : Change) {n : ℕ} {found : Changed} → changedOf r ≡ found → n ≡ doneNumber (answerOf (r .outcome)) → answers n (r .session) found
+pub both-told : (r : Change) {n : ℕ} {found : Changed} → changedOf r ≡ found → n ≡ doneNumber (answerOf (r .outcome)) → answers n (r .session) found
 both-told r e e′ = (e′ ∙ ap (λ (c : Changed). doneNumber (c .answer)) e, ap (λ (c : Changed). c .session) e)
 
 module _ {M : Type 1} (𝓤 : URA M) (H : Heap 𝓤) (A : Atoms 𝓤) (W : Given 𝓤 H A) where
   -- what `done` is passed
-  abbrev to-done : Outcome → Done 𝓤 H A .Ghost
+  abbrev pub to-done : Outcome → Done 𝓤 H A .Ghost
   to-done o = ((tt, tt, tt, (o, tt), (told o ∷ [], tt)), tt)
 
-  goes-done : (o : Outcome) → ent 𝓤 (sem 𝓤 H A (O.the-row .own o (told o ∷ []))) (Done 𝓤 H A .pre (to-done o))
+  pub goes-done : (o : Outcome) → ent 𝓤 (sem 𝓤 H A (O.the-row .own o (told o ∷ []))) (Done 𝓤 H A .pre (to-done o))
   goes-done o = qed W (‵ (O.the-row .own o (told o ∷ [])) ∷ []) ∵ nothing ! $ move ! (1 ∷ 0 ∷ []) $ join ! $ nothing ! $ join ! $ frame ! $ done !
 
   -- of its `ensured`, the clause alone
-  done-said : (o : Outcome) (n : ℕ) → ent 𝓤 (ensured 𝓤 H A done-ended (done-clauses 𝓤) tt (o, tt) tt n) (fact 𝓤 (n ≡ doneNumber (answerOf o)))
+  pub done-said : (o : Outcome) (n : ℕ) → ent 𝓤 (ensured 𝓤 H A done-ended (done-clauses 𝓤) tt (o, tt) tt n) (fact 𝓤 (n ≡ doneNumber (answerOf o)))
   done-said o n = exE 𝓤 _ (λ ws. snd∗ 𝓤 (sem 𝓤 H A (lasts done-ended tt (o, tt) ws)) (fact 𝓤 (n ≡ doneNumber (answerOf o))))
 
 -- ---- the session alone

@@ -4,11 +4,22 @@ use crate::number::done;
 use bmap::Session;
 use session::amended;
 use session::entered;
+use session::open;
 use session::redone;
 use session::stricken;
 use session::undone;
-ghost use Rattle.bmap.specs.Session.{enter, strike, amend, editSession, undoSession, redoSession};
+ghost use Rattle.bmap.specs.Session.{enter, strike, amend, editSession, undoSession, redoSession, openSession};
 ghost use Rattle.desk.specs.Numbers.{answers};
+
+// Whatever the session was before.
+#[no_mangle]
+pub extern "C" fn waroth_open(s: &mut Session, store: &[u8]) -> u8
+    ensures { λ r. ⌜ answers r (now (s .exit)) (openSession (now (store .entry))) ⌝ }
+{
+    let e = open(store);
+    *s = e.session;
+    done(e.outcome)
+}
 
 #[no_mangle]
 pub extern "C" fn waroth_enter(s: &mut Session, names: &[u8]) -> u8

@@ -10,6 +10,7 @@ pub use domains::waroth_read_domain;
 pub use domains::waroth_write_domain;
 pub use edits::waroth_amend;
 pub use edits::waroth_enter;
+pub use edits::waroth_open;
 pub use edits::waroth_redo;
 pub use edits::waroth_strike;
 pub use edits::waroth_undo;

@@ -2,3 +2,4 @@
 pub mod Shape
 pub mod Names
 pub mod Check
+pub mod Evaluate

@@ -47,7 +47,7 @@ fn fluent_passes(test: Test, f: u8, lag: u8) -> bool
 {
     match test {
         Test::Allowed(x) => below(f, x.fluents, lag),
-        Test::Known(mask) => has_bit(mask, f),
+        Test::Known(mask) => has_bit(mask as u64, f),
     }
 }
 

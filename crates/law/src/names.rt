@@ -9,12 +9,12 @@ use crate::check::Checked;
 use crate::check::Test;
 use crate::check::constraint_in;
 
-// A fluent past the mask's bits is none of them.
-pub fn has_bit(mask: u32, f: u8) -> bool
-    ensures { λ r. ⌜ r ≡ bit mask f ⌝ }
+// What is past a mask's bits is not in it.
+pub fn has_bit(mask: u64, i: u8) -> bool
+    ensures { λ r. ⌜ r ≡ bit mask i ⌝ }
 {
-    if f < 32 {
-        (mask >> f) % 2 == 1
+    if i < 64 {
+        (mask >> i) % 2 == 1
     } else {
         false
     }

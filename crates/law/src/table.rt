@@ -1,7 +1,7 @@
 // "The number of operands of each code is kept as one table, code by code": the checker, the evaluator and the
 // search for fluents read it, and none of them knows a count or a sort of its own.
 ghost use mathlib.Core.Path.{_≡_};
-ghost use Prim.Native.Nat.{_+_, _<_};
+ghost use Prim.Native.Nat.{_+_, _≤_, _<_};
 ghost use lib.ListN.{drop};
 ghost use Rattle.bmap.specs.Code.{codeOf};
 ghost use Rattle.law.specs.Shape.{shapeOf, opened, pairOf};
@@ -68,22 +68,45 @@ const CONSTRAINTS: Shape = Shape {
     each: Operand::Constraint,
 };
 
-const SHAPES: [Shape; 43] = [
-    // 00 to 0F open nothing
-    NONE, NONE, NONE, NONE, NONE, NONE, NONE, NONE, NONE, NONE, NONE, NONE, NONE, NONE, NONE, NONE,
-    // 10 constant, 11 fluent, 12 to 16 on two, 17 and 18 on one, 19 reified
-    VALUE, FLUENT, EXPRESSIONS, EXPRESSIONS, EXPRESSIONS, EXPRESSIONS, EXPRESSIONS, EXPRESSION, EXPRESSION, CONSTRAINT,
-    NONE, NONE, NONE, NONE, NONE, NONE,
-    // 20 to 25 comparisons, 26 and 27 junctions, 28 not, 29 occurs, 2A true
-    EXPRESSIONS, EXPRESSIONS, EXPRESSIONS, EXPRESSIONS, EXPRESSIONS, EXPRESSIONS, CONSTRAINTS, CONSTRAINTS, CONSTRAINT, ENTRY, NONE,
+// Code by code, from the first.
+const FIRST: u8 = 0x10;
+
+const SHAPES: [Shape; 27] = [
+    VALUE, // 10 constant
+    FLUENT, // 11 fluent, lag
+    EXPRESSIONS, // 12 sum
+    EXPRESSIONS, // 13 difference
+    EXPRESSIONS, // 14 product
+    EXPRESSIONS, // 15 quotient
+    EXPRESSIONS, // 16 remainder
+    EXPRESSION, // 17 negation
+    EXPRESSION, // 18 absolute value
+    CONSTRAINT, // 19 reified constraint
+    NONE, // 1A no code
+    NONE, // 1B no code
+    NONE, // 1C no code
+    NONE, // 1D no code
+    NONE, // 1E no code
+    NONE, // 1F no code
+    EXPRESSIONS, // 20 =
+    EXPRESSIONS, // 21 ≠
+    EXPRESSIONS, // 22 <
+    EXPRESSIONS, // 23 ≤
+    EXPRESSIONS, // 24 >
+    EXPRESSIONS, // 25 ≥
+    CONSTRAINTS, // 26 and
+    CONSTRAINTS, // 27 or
+    CONSTRAINT, // 28 not
+    ENTRY, // 29 entry, lag
+    NONE, // 2A true
 ];
 
 // What follows a code of the table.
 fn shape_of(code: u8) -> Shape
-    requires { ⌜ code < 43 ⌝ }
+    requires { ⌜ (0x10 ≤ code) × (code < 0x2B) ⌝ }
     ensures { λ r. ⌜ r ≡ shapeOf (codeOf code) ⌝ }
 {
-    SHAPES[code as usize]
+    SHAPES[(code - FIRST) as usize]
 }
 
 // "Every other code from 00 to FF is refused."

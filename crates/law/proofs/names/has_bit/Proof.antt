@@ -14,7 +14,7 @@ unfolding bit
 returns c = refl
 
 returns-2 : tie.Need-returns-2
-returns-2 c = no-bit 32 _ _ (omega arith) (omega arith)
+returns-2 c = no-bit 64 (c .before .args .mask) (c .before .args .i) (omega arith) (omega arith)
 
 pub has-bit-spec : {M : Type 1} → statement M
 has-bit-spec = tie.close (tie.spec shr-result returns returns-2)

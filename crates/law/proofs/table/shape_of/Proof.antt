@@ -1,3 +1,4 @@
+-- `law::table::shape_of` meets its contract: antt computes the shape of each code and compares it with the table's row. Assumes nothing.
 use mathlib.Core.Path.{refl}
 use borrow.Author.Needs.{needs}
 use Rattle.bmap.specs.Plain.{numbers}
@@ -6,15 +7,11 @@ use Rattle.law.proofs.Codes.{table}
 use Rattle.law.proofs.table.shape_of.Statement.{statement}
 use Rattle.law.proofs.table.shape_of.Tie as tie
 
-mul-result : tie.Need-mul-result
-mul-result c = search needs
-
-array-copy-out-result : tie.Need-array-copy-out-result
-array-copy-out-result c = search needs
-
 returns : tie.Need-returns
 unfolding codeOf numbers
-returns c = table _ refl (c .before .args .code) _ (c .before .pre)
+returns c = let s = c .before in table _ refl (s .args .code) _ (s .pre .0) (s .pre .1)
 
 pub shape-of-spec : {M : Type 1} → statement M
-shape-of-spec = tie.close (tie.spec mul-result array-copy-out-result returns)
+shape-of-spec =
+    tie.close
+    (tie.spec (λ c. search needs) (λ c. search needs) (λ c. search needs) (λ c. search needs) returns)

@@ -1,0 +1,123 @@
+-- What the bytes of a law say, kind by kind. Assumes nothing.
+use Prim.Native.Nat.{ℕ, zero, suc, _+_, _≤_, _<_}
+use mathlib.Core.Path.{_≡_, refl, sym, ap, _∙_, subst}
+use mathlib.Core.Logic.{_⊎_, inl, inr, ⊎-elim}
+use mathlib.Core.List.{List, [], _∷_}
+use mathlib.Core.Option.{Option, none, some}
+use mathlib.Core.Bool.{Bool, true, false}
+use native.Mathlib.Omega.{arith}
+use lib.Dec.{eqb, ltb}
+use lib.ListN.{length, getD, drop}
+use borrow.Author.Tests.{eqb-true, ltb-true}
+use Rattle.bmap.specs.Plain.{if-else}
+use Rattle.bmap.specs.Limits.{mostDepth}
+use Rattle.bmap.specs.Tree.{Expr, Con, allowedE, allowedC}
+use Rattle.bmap.specs.Code.{Parsed, parseE, parseC}
+use Rattle.bmap.specs.Domain.{Law, executable, effect, must, Scope, static, concurrency, goal}
+use Rattle.bmap.specs.Payload.{only, taken, last, context, conIn, exprIn, below, executableIn, effectIn, asks, mustIn, lawIn}
+use Rattle.bmap.specs.declared.limits.Counts.{Counts}
+use Rattle.judge.specs.Told.{scopeKind}
+
+-- a constraint at the front of some bytes, and an expression
+pub record Constrained (n : Counts) (asked : Bool) (bytes : List ℕ) (c : Con) : Type 0 where
+  pub used : ℕ
+  pub read : parseC mostDepth bytes ≡ some (record { tree = c; used = used })
+  pub fit : allowedC (context n asked) c ≡ true
+
+pub record Expressed (n : Counts) (asked : Bool) (bytes : List ℕ) (x : Expr) : Type 0 where
+  pub used : ℕ
+  pub read : parseE mostDepth bytes ≡ some (record { tree = x; used = used })
+  pub fit : allowedE (context n asked) x ≡ true
+
+pub record Effective (n : Counts) (p : List ℕ) (e : ℕ) (c : Con) (f : ℕ) (x : Expr) : Type 0 where
+  pub entry : e ≡ getD p 0 0
+  pub known : e < n .entries
+  pub con : Constrained n true (drop 1 p) c
+  pub fluent : f ≡ getD (drop (con .used) (drop 1 p)) 0 0
+  pub expr : Expressed n true (drop 1 (drop (con .used) (drop 1 p))) x
+
+abbrev pub Spelt : Counts → ℕ → List ℕ → Law → Type 0
+Spelt n k p (executable e c) = (k ≡ 0xA5) × (((e ≡ getD p 0 0) × (e < n .entries)) × Constrained n true (drop 1 p) c)
+Spelt n k p (effect e c f x) = (k ≡ 0xA6) × Effective n p e c f x
+Spelt n k p (must s c) = (k ≡ scopeKind s) × Constrained n (asks s) p c
+
+only-some : {L : Type 0} (b : Bool) (o : Option L) {l : L} → only b o ≡ some l → (b ≡ true) × (o ≡ some l)
+only-some true o e = (refl, e)
+only-some false o e = let z : _≡_ {A = ℕ} 0 1 = cc in absurd (omega arith)
+
+last-some : {L : Type 0} (a : L) (p : List ℕ) {l : L} → last a p ≡ some l → a ≡ l
+last-some a [] e = cc
+last-some a (x ∷ p) e = let z : _≡_ {A = ℕ} 0 1 = cc in absurd (omega arith)
+
+pub record Taken {T L : Type 0} (allowed : T → Bool) (p : List ℕ) (r : Option (Parsed T)) (k : T → List ℕ → Option L) (l : L) : Type 0 where
+  pub tree : T
+  pub used : ℕ
+  pub read : r ≡ some (record { tree = tree; used = used })
+  pub fit : allowed tree ≡ true
+  pub rest : k tree (drop used p) ≡ some l
+
+taken-some : {T L : Type 0} (allowed : T → Bool) (p : List ℕ) (r : Option (Parsed T)) (k : T → List ℕ → Option L) {l : L} → taken allowed p r k ≡ some l → Taken allowed p r k l
+taken-some allowed p none k e = let z : _≡_ {A = ℕ} 0 1 = cc in absurd (omega arith)
+taken-some allowed p (some t) k e =
+    let both′ = only-some (allowed (t .tree)) (k (t .tree) (drop (t .used) p)) e in
+    record { tree = t .tree; used = t .used; read = refl; fit = both′ .0; rest = both′ .1 }
+
+executable-spelt : (n : Counts) (k : ℕ) (p : List ℕ) {l : Law} → k ≡ 0xA5 → executableIn n p ≡ some l → Spelt n k p l
+unfolding executableIn
+executable-spelt n k [] {l} q e = let z : _≡_ {A = ℕ} 0 1 = cc in absurd (omega arith)
+executable-spelt n k (i ∷ p) {l} q e =
+    let b = only-some (ltb i (n .entries)) (conIn (context n true) p (λ c. last (executable i c))) e in
+    let t = taken-some (allowedC (context n true)) p (parseC mostDepth p) (λ c. last (executable i c)) (b .1) in
+    subst (λ (m : Law). Spelt n k (i ∷ p) m) (last-some (executable i (t .tree)) (drop (t .used) p) (t .rest))
+    (q, ((refl, ltb-true i (n .entries) (b .0)), record { used = t .used; read = t .read; fit = t .fit }))
+
+effect-last : (n : Counts) (i : ℕ) (p : List ℕ) (c : Con) (u : ℕ) (s : Constrained n true p c) → s .used ≡ u → i < n .entries → (r : List ℕ) → drop u p ≡ r → {l : Law}
+    → below (n .fluents) r (λ f rest. exprIn (context n true) rest (λ x. last (effect i c f x))) ≡ some l → {k : ℕ} → k ≡ 0xA6 → Spelt n k (i ∷ p) l
+effect-last n i p c u s v h [] d {l} e q = let z : _≡_ {A = ℕ} 0 1 = cc in absurd (omega arith)
+effect-last n i p c u s v h (f ∷ r) d {l} e {k} q =
+    let b = only-some (ltb f (n .fluents)) (exprIn (context n true) r (λ x. last (effect i c f x))) e in
+    let t = taken-some (allowedE (context n true)) r (parseE mostDepth r) (λ x. last (effect i c f x)) (b .1) in
+    let here : drop (s .used) p ≡ f ∷ r = ap (λ (m : ℕ). drop m p) v ∙ d in
+    subst (λ (m : Law). Spelt n k (i ∷ p) m) (last-some (effect i c f (t .tree)) (drop (t .used) r) (t .rest))
+    (q, record {
+      entry = refl;
+      known = h;
+      con = s;
+      fluent = sym (ap (λ (m : List ℕ). getD m 0 0) here);
+      expr = record { used = t .used; read = ap (λ (m : List ℕ). parseE mostDepth (drop 1 m)) here ∙ t .read; fit = t .fit };
+    })
+
+effect-spelt : (n : Counts) (k : ℕ) (p : List ℕ) {l : Law} → k ≡ 0xA6 → effectIn n p ≡ some l → Spelt n k p l
+unfolding effectIn
+effect-spelt n k [] {l} q e = let z : _≡_ {A = ℕ} 0 1 = cc in absurd (omega arith)
+effect-spelt n k (i ∷ p) {l} q e =
+    let go : Con → List ℕ → Option Law = λ c rest. below (n .fluents) rest (λ f rest. exprIn (context n true) rest (λ x. last (effect i c f x))) in
+    let b = only-some (ltb i (n .entries)) (conIn (context n true) p go) e in
+    let t = taken-some (allowedC (context n true)) p (parseC mostDepth p) go (b .1) in
+    effect-last n i p (t .tree) (t .used) (record { used = t .used; read = t .read; fit = t .fit }) refl (ltb-true i (n .entries) (b .0)) (drop (t .used) p) refl (t .rest) q
+
+must-spelt : (s : Scope) (n : Counts) (k : ℕ) (p : List ℕ) {l : Law} → k ≡ scopeKind s → mustIn s n p ≡ some l → Spelt n k p l
+unfolding mustIn
+must-spelt s n k p q e =
+    let t = taken-some (allowedC (context n (asks s))) p (parseC mostDepth p) (λ c. last (must s c)) e in
+    subst (λ (m : Law). Spelt n k p m) (last-some (must s (t .tree)) (drop (t .used) p) (t .rest))
+    (q, record { used = t .used; read = t .read; fit = t .fit })
+
+by-kind : (k byte : ℕ) (b : Bool) (x y : Option Law) {l : Law} → eqb k byte ≡ b → if-else b x y ≡ some l → ((k ≡ byte) × (x ≡ some l)) ⊎ (y ≡ some l)
+by-kind k byte true x y q e = inl (eqb-true k byte q, e)
+by-kind k byte false x y q e = inr e
+
+-- a law is spelt by its kind and payload
+pub spelt : (n : Counts) (k : ℕ) (p : List ℕ) {l : Law} → lawIn n k p ≡ some l → Spelt n k p l
+unfolding lawIn
+spelt n k p {l} e =
+    ⊎-elim (λ w. executable-spelt n k p (w .0) (w .1)) (λ e₁.
+    ⊎-elim (λ w. effect-spelt n k p (w .0) (w .1)) (λ e₂.
+    ⊎-elim (λ w. must-spelt static n k p (w .0) (w .1)) (λ e₃.
+    ⊎-elim (λ w. must-spelt concurrency n k p (w .0) (w .1)) (λ e₄.
+    ⊎-elim (λ w. must-spelt goal n k p (w .0) (w .1)) (λ e₅. let z : _≡_ {A = ℕ} 0 1 = cc in absurd (omega arith))
+    (by-kind k 0xA9 (eqb k 0xA9) (mustIn goal n p) none refl e₄))
+    (by-kind k 0xA8 (eqb k 0xA8) (mustIn concurrency n p) (if-else (eqb k 0xA9) (mustIn goal n p) none) refl e₃))
+    (by-kind k 0xA7 (eqb k 0xA7) (mustIn static n p) (if-else (eqb k 0xA8) (mustIn concurrency n p) (if-else (eqb k 0xA9) (mustIn goal n p) none)) refl e₂))
+    (by-kind k 0xA6 (eqb k 0xA6) (effectIn n p) (if-else (eqb k 0xA7) (mustIn static n p) (if-else (eqb k 0xA8) (mustIn concurrency n p) (if-else (eqb k 0xA9) (mustIn goal n p) none))) refl e₁))
+    (by-kind k 0xA5 (eqb k 0xA5) (executableIn n p) (if-else (eqb k 0xA6) (effectIn n p) (if-else (eqb k 0xA7) (mustIn static n p) (if-else (eqb k 0xA8) (mustIn concurrency n p) (if-else (eqb k 0xA9) (mustIn goal n p) none)))) refl e)

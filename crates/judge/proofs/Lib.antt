@@ -1,0 +1,16 @@
+pub mod LoopLaws
+pub mod MaskLaws
+pub mod ByteLaws
+pub mod MeaningLaws
+pub mod StateLaws
+pub mod CheckLaws
+pub mod SignedLaws
+pub mod SettingLaws
+pub mod LandingLaws
+pub mod ReadingLaws
+pub mod KnowledgeLaws
+pub mod StepLaws
+pub mod RunLaws
+pub mod JudgeLaws
+pub mod IndexLaws
+pub mod CallLaws

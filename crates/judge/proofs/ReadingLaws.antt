@@ -1,0 +1,146 @@
+-- What a law's bytes give, as the evaluator answers. Assumes nothing.
+use Prim.Native.Nat.{ℕ, zero, suc, _+_, _-_, _≤_, _<_}
+use mathlib.Core.Path.{_≡_, refl, sym, ap, _∙_, subst}
+use mathlib.Core.List.{List, [], _∷_}
+use mathlib.Core.Option.{Option, none, some}
+use mathlib.Core.Bool.{Bool, true, false}
+use native.Mathlib.Omega.{arith}
+use lib.IntN.{ℤ, pos}
+use lib.ListN.{length, getD, drop, drop-of-length-le}
+use lib.Seq.{drop-drop, getD-drop}
+use Rattle.bmap.specs.Plain.{if-else}
+use Rattle.bmap.specs.Limits.{mostDepth}
+use Rattle.bmap.specs.Number.{Valued, value, no-value, with1}
+use Rattle.bmap.specs.Tree.{Expr, Con, allowedE, allowedC}
+use Rattle.bmap.specs.Code.{Parsed, parseE, parseC}
+use Rattle.bmap.specs.Meaning.{History, evalE, evalC}
+use Rattle.bmap.specs.Domain.{Domain, Names, Law, executable, effect, must, entryAt, occursIn, has}
+use Rattle.bmap.specs.Payload.{context, asks}
+use Rattle.bmap.specs.Accept.{countsOf}
+use Rattle.bmap.specs.Judge.{Setting, setsIf, sets}
+use Rattle.law.specs.Names.{bit}
+use Rattle.law.specs.Evaluate.{historyOf, Meant, malformed, gives, valueAt, truthAt, evaluated, judged}
+use Rattle.law.specs.declared.eval.Evaluated.{Evaluated}
+use Rattle.law.specs.declared.eval.Evaluated.the-variants as value-as
+use Rattle.law.specs.declared.eval.Judged.{Judged}
+use Rattle.law.specs.declared.eval.Judged.the-variants as truth-as
+use Rattle.number.specs.declared.Value.{Value}
+use Rattle.number.specs.declared.Value.the-variants as number-as
+use Rattle.number.specs.declared.Truth.{Truth}
+use Rattle.number.specs.Answer.{valuedOf, truthOf}
+use mir.Syntax.{w32}
+use mir.Val.{toZ, ofZ}
+use lib.Signed.{mag}
+use Rattle.judge.proofs.SignedLaws.{back}
+use Rattle.judge.specs.Told.{Says, Seen, Occurring, conOf, placeOf, asksOf}
+use Rattle.judge.specs.Settings.{setting, settingFrom}
+use Rattle.judge.proofs.ByteLaws.{Constrained, Expressed, Effective, Spelt}
+use Rattle.judge.proofs.MeaningLaws.{same-value, same-truth}
+use Rattle.judge.proofs.CheckLaws.{says, not-effect}
+
+-- the constraint of a law, where it stands in its frame
+pub stands : (d : Domain) (frame : List ℕ) (l : Law) → Says d frame l → Constrained (countsOf d) (asksOf l) (drop (placeOf l) frame) (conOf l)
+stands d frame (executable e c) w = subst (λ (b : List ℕ). Constrained (countsOf d) true b c) (drop-drop 1 2 frame) (says d frame (executable e c) w .1 .1)
+stands d frame (effect e c f x) w = subst (λ (b : List ℕ). Constrained (countsOf d) true b c) (drop-drop 1 2 frame) (says d frame (effect e c f x) w .1 .con)
+stands d frame (must s c) w = says d frame (must s c) w .1
+
+module _ (d : Domain) (asked : Bool) (h : History) (levels : List ℤ) (occurred : List ℕ) (j : ℕ) (seen : Seen asked d h levels occurred j) where
+  acted : asked ≡ true → (k e : ℕ) → 1 ≤ k → k ≤ j + 1 → e < length (d .entries) → historyOf levels occurred .occurred e k ≡ h .occurred e k
+  unfolding bit
+  acted a k e p q r = sym (seen .acted a k e p q r)
+
+  pub con-seen : (c : Con) → allowedC (context (countsOf d) asked) c ≡ true → evalC c (historyOf levels occurred) j ≡ evalC c h j
+  con-seen c fit = same-truth (context (countsOf d) asked) (historyOf levels occurred) h j (λ k f p q. sym (seen .level k f p q)) acted c fit
+
+  pub expr-seen : (x : Expr) → allowedE (context (countsOf d) asked) x ≡ true → evalE x (historyOf levels occurred) j ≡ evalE x h j
+  expr-seen x fit = same-value (context (countsOf d) asked) (historyOf levels occurred) h j (λ k f p q. sym (seen .level k f p q)) acted x fit
+
+-- what the evaluator answers of a law's constraint
+pub truth-told : (d : Domain) (frame : List ℕ) (l : Law) (h : History) (levels : List ℤ) (occurred : List ℕ) (j : ℕ) {at : ℕ} (w : Says d frame l) → at ≡ placeOf l → Seen (asksOf l) d h levels occurred j
+    → truthAt mostDepth frame at levels occurred j ≡ gives (evalC (conOf l) h j) (at + stands d frame l w .used)
+truth-told d frame l h levels occurred j {at} w e seen =
+    let s = stands d frame l w in
+    ap (λ (k : ℕ). truthAt mostDepth frame k levels occurred j) e
+    ∙ (rw (s .read) (ap (λ (v : Valued Bool). gives v (placeOf l + s .used)) (con-seen d (asksOf l) h levels occurred j seen (conOf l) (s .fit)))
+    ∙ ap (λ (k : ℕ). gives (evalC (conOf l) h j) (k + s .used)) (sym e))
+
+-- the same, of an answer that gives something, and of one that does not
+pub judged-given : {r : Judged} {t : Truth} {k : ℕ} {m : Meant (Valued Bool)} {v : Valued Bool} {n : ℕ} → judged r ≡ m → r ≡ truth-as.Gives t k → m ≡ gives v n → (truthOf t ≡ v) × (k ≡ n)
+judged-given {r} {t} {k} {m} {v} {n} e q w = let z : gives (truthOf t) k ≡ gives v n = sym (ap judged q) ∙ (e ∙ w) in ((cc), (cc))
+
+pub judged-malformed : {r : Judged} {m : Meant (Valued Bool)} {v : Valued Bool} {n : ℕ} → judged r ≡ m → r ≡ truth-as.Malformed → m ≡ gives v n → ⊥
+judged-malformed {r} {m} {v} {n} e q w = let z : malformed ≡ gives v n = sym (ap judged q) ∙ (e ∙ w) in let y : _≡_ {A = ℕ} 0 1 = cc in omega arith
+
+pub setting-given : (f : ℕ) {r : Evaluated} {v : Value} {k : ℕ} {m : Meant (Valued ℤ)} → evaluated r ≡ m → r ≡ value-as.Gives v k → with1 (λ z. value (some (setting f z))) (valuedOf v) ≡ settingFrom f m
+setting-given f {r} {v} {k} e q = ap (settingFrom f) (sym (ap evaluated q) ∙ e)
+
+pub setting-malformed : (f : ℕ) {r : Evaluated} {m : Meant (Valued ℤ)} → evaluated r ≡ m → r ≡ value-as.Malformed → no-value ≡ settingFrom f m
+setting-malformed f {r} e q = ap (settingFrom f) (sym (ap evaluated q) ∙ e)
+
+pub setting-number : (f : ℕ) {v : Value} {z : ℤ} → v ≡ number-as.Number z → mag z < 2147483648 → value (some (setting f (toZ w32 (ofZ w32 z)))) ≡ with1 (λ y. value (some (setting f y))) (valuedOf v)
+setting-number f {v} {z} e h = ap (λ (y : ℤ). value (some (setting f y))) (back z h) ∙ sym (ap (λ (u : Value). with1 (λ y. value (some (setting f y))) (valuedOf u)) e)
+
+pub setting-blank : (f : ℕ) {v : Value} → v ≡ number-as.NoValue → no-value ≡ with1 (λ y. value (some (setting f y))) (valuedOf v)
+setting-blank f {v} e = sym (ap (λ (u : Value). with1 (λ y. value (some (setting f y))) (valuedOf u)) e)
+
+-- ---- an effect law
+
+pub record Effect (d : Domain) (frame : List ℕ) (l : Law) : Type 0 where
+  pub entry : ℕ
+  pub con : Con
+  pub fluent : ℕ
+  pub expr : Expr
+  pub is : l ≡ effect entry con fluent expr
+  pub owner : entry ≡ getD frame 2 0
+  pub known : entry < length (d .entries)
+  pub used : ℕ
+  pub con-read : parseC mostDepth (drop 3 frame) ≡ some (record { tree = con; used = used })
+  pub con-fit : allowedC (context (countsOf d) true) con ≡ true
+  pub target : fluent ≡ getD frame (3 + used) 0
+  pub expr-used : ℕ
+  pub expr-read : parseE mostDepth (drop (3 + used + 1) frame) ≡ some (record { tree = expr; used = expr-used })
+  pub expr-fit : allowedE (context (countsOf d) true) expr ≡ true
+
+pub effect-told : (d : Domain) (frame : List ℕ) (l : Law) → Says d frame l → getD frame 0 0 ≡ 0xA6 → Effect d frame l
+effect-told d frame (executable e c) w k = let z : getD frame 0 0 ≡ 0xA5 = says d frame (executable e c) w .0 in absurd (omega arith)
+effect-told d frame (must s c) w k = absurd (not-effect (getD frame 0 0) s k (says d frame (must s c) w .0))
+effect-told d frame (effect e c f x) w k =
+    let t = says d frame (effect e c f x) w .1 in
+    let u = t .con .used in
+    let front : drop 1 (drop 2 frame) ≡ drop 3 frame = drop-drop 1 2 frame in
+    let back : drop u (drop 1 (drop 2 frame)) ≡ drop (3 + u) frame = ap (drop u) front ∙ drop-drop u 3 frame in
+    record {
+      entry = e;
+      con = c;
+      fluent = f;
+      expr = x;
+      is = refl;
+      owner = t .entry ∙ getD-drop 2 frame 0 0;
+      known = t .known;
+      used = u;
+      con-read = ap (parseC mostDepth) (sym front) ∙ t .con .read;
+      con-fit = t .con .fit;
+      target = t .fluent ∙ (ap (λ (l : List ℕ). getD l 0 0) back ∙ (getD-drop (3 + u) frame 0 0 ∙ ap (λ (i : ℕ). getD frame i 0) (let z : 3 + u + 0 ≡ 3 + u = omega arith in z)));
+      expr-used = t .expr .used;
+      expr-read = ap (parseE mostDepth) (sym (ap (drop 1) back ∙ drop-drop 1 (3 + u) frame)) ∙ t .expr .read;
+      expr-fit = t .expr .fit;
+    }
+
+module _ (d : Domain) (frame : List ℕ) (l : Law) (h : History) (j : ℕ) (names : Names) (mask : ℕ) (e : Effect d frame l) (occurring : Occurring d names mask) where
+  pub sets-if : {t : Bool} → has mask (getD frame 2 0) ≡ t → sets d h j names l ≡ if-else t (setsIf (e .fluent) (evalE (e .expr) h j) (evalC (e .con) h j)) (value none)
+  unfolding sets
+  sets-if {t} q =
+      ap (λ (m : Law). sets d h j names m) (e .is)
+      ∙ ap (λ (b : Bool). if-else b (setsIf (e .fluent) (evalE (e .expr) h j) (evalC (e .con) h j)) (value none)) (occurring (e .entry) (e .known) ∙ (ap (has mask) (e .owner) ∙ q))
+
+  module _ (levels : List ℤ) (occurred : List ℕ) (seen : Seen true d h levels occurred j) where
+    pub effect-truth : truthAt mostDepth frame 3 levels occurred j ≡ gives (evalC (e .con) h j) (3 + e .used)
+    effect-truth = rw (e .con-read) (ap (λ (v : Valued Bool). gives v (3 + e .used)) (con-seen d true h levels occurred j seen (e .con) (e .con-fit)))
+
+    pub effect-value : settingFrom (getD frame (3 + e .used) 0) (valueAt mostDepth frame (3 + e .used + 1) levels occurred j) ≡ setsIf (e .fluent) (evalE (e .expr) h j) (value true)
+    effect-value = rw (e .expr-read, ← e .target) (ap (λ (v : Valued ℤ). with1 (λ z. value (some (setting (e .fluent) z))) v) (expr-seen d true h levels occurred j seen (e .expr) (e .expr-fit)))
+
+-- nothing stands past the end
+pub no-value-past : (frame : List ℕ) (at f : ℕ) (levels : List ℤ) (occurred : List ℕ) (j : ℕ) → length frame ≤ at → no-value ≡ settingFrom f (valueAt mostDepth frame (at + 1) levels occurred j)
+unfolding parseE
+no-value-past frame at f levels occurred j h = rw (drop-of-length-le frame {i = at + 1} (omega arith))

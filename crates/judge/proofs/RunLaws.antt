@@ -1,0 +1,138 @@
+-- The run over the steps of a sheet. Assumes nothing.
+use Prim.Native.Nat.{ℕ, zero, suc, _+_, _-_, _*_, _≤_, _<_}
+use mathlib.Core.Path.{_≡_, refl, sym, ap, _∙_, subst}
+use mathlib.Core.List.{List, [], _∷_, _++_, map}
+use mathlib.Core.Bool.{Bool, true, false}
+use native.Mathlib.Numerals.{add-one}
+use native.Mathlib.Omega.{arith}
+use native.Mathlib.Decide.{decLe, decLt}
+use native.Mathlib.Nat.{suc-mul}
+use lib.Dec.{eqb}
+use lib.IntN.{ℤ, pos}
+use lib.ListN.{length, getD, take, drop, set, length-drop}
+use lib.Seq.{getD-drop, drop-drop, take-all, getD-set-same, getD-set-other}
+use borrow.Author.Tests.{eq-eqb, eqb-true}
+use Rattle.bmap.specs.Plain.{both, implies, all, any, numbers}
+use Rattle.bmap.specs.Domain.{Domain, Names, State, Entry, has, follows, occursIn, entryAt}
+use Rattle.bmap.specs.Sheet.{rows}
+use Rattle.bmap.specs.Judge.{Checked, fine, fault, Judged, broken, accepted, carries, step, carried}
+use Rattle.judge.specs.Answer.{kindOf}
+use Rattle.judge.specs.Masks.{joins, joinsAt, maskFrom, unionFrom, actingOf}
+use Rattle.judge.specs.States.{leaving}
+use Rattle.judge.specs.Told.{Occurring, Belonging, Acted}
+use Rattle.judge.specs.Prepared.{Entered}
+use Rattle.judge.specs.declared.verdict.Check.{Check}
+use Rattle.judge.specs.declared.verdict.Check.the-variants.{Passed, Failed}
+use Rattle.judge.specs.declared.verdict.Fault.{Fault}
+use Rattle.judge.proofs.LoopLaws.{map-at, map-length, all-at}
+use Rattle.judge.proofs.MaskLaws.{mask-bit, union-bit, any-map, any-same}
+
+-- ---- who acts
+
+module _ (d : Domain) (names : Names) (actions crews : List ℕ) (count : ℕ) (entered : Entered d actions crews count) (all-named : length names ≡ d .agents) where
+  abbrev entry : ℕ → Entry
+  entry i = record { name = getD actions i 0; crew = getD crews i 0 }
+
+  entry-is : (e : ℕ) → e < count → entryAt d e ≡ entry e
+  entry-is e h = ap (λ (l : List Entry). getD l e (record { name = 0; crew = 0 })) entered ∙ map-at entry count e (record { name = 0; crew = 0 }) h
+
+  joins-is : (e : ℕ) → joinsAt names actions crews e ≡ occursIn d names (entry e)
+  unfolding joins occursIn
+  joins-is e = ap (λ (n : ℕ). all (follows names (entry e)) (numbers 0 n)) all-named
+
+  pub entries-count : length (d .entries) ≡ count
+  entries-count = ap length entered ∙ map-length entry 0 count
+
+  pub occurring-is : {mask : ℕ} → mask ≡ maskFrom (joinsAt names actions crews) 0 count → Occurring d names mask
+  occurring-is {mask} m e h =
+      let p : e < count = omega (arith, entries-count) in
+      sym (ap (λ (k : ℕ). has k e) m ∙ (mask-bit (joinsAt names actions crews) 0 count e p
+      ∙ (ap (joinsAt names actions crews) (let z : 0 + e ≡ e = omega arith in z) ∙ (joins-is e ∙ ap (occursIn d names) (sym (entry-is e p))))))
+
+  -- an agent in the crew of an entry that occurs names its action
+  named : (a : ℕ) (e : Entry) → a < length names → (t : Bool) → occursIn d names e ≡ t → (u : Bool) → has (e .crew) a ≡ u → both (eqb (e .name) (getD names a 0)) (both u t) ≡ both t u
+  unfolding occursIn
+  named a e h true o true u =
+      let f : follows names e a ≡ true = all-at (follows names e) (d .agents) a (omega arith) o in
+      let g : implies true (eqb (getD names a 0) (e .name)) ≡ true = ap (λ (b : Bool). implies b (eqb (getD names a 0) (e .name))) (sym u) ∙ f in
+      ap (λ (b : Bool). both b true) (eq-eqb (e .name) (getD names a 0) (sym (eqb-true (getD names a 0) (e .name) g)))
+  named a e h true o false u = no-second (eqb (e .name) (getD names a 0))
+    where
+      no-second : (b : Bool) → both b false ≡ false
+      no-second true = refl
+      no-second false = refl
+  named a e h false o u q = no-second (eqb (e .name) (getD names a 0)) u
+    where
+      no-second : (b u : Bool) → both b (both u false) ≡ false
+      no-second true true = refl
+      no-second true false = refl
+      no-second false u = refl
+
+  pub belonging-is : {mask : ℕ} → mask ≡ unionFrom (joinsAt names actions crews) crews 0 count → Belonging d names mask
+  unfolding carries
+  belonging-is {mask} m a h =
+      ap (any (carries d names a (getD names a 0))) entered
+      ∙ (any-map (carries d names a (getD names a 0)) entry 0 count
+      ∙ (any-same (λ k. carries d names a (getD names a 0) (entry k)) (λ k. both (joinsAt names actions crews k) (has (getD crews k 0) a)) 0 count
+        (λ k p q. named a (entry k) h (occursIn d names (entry k)) refl (has (getD crews k 0) a) refl ∙ ap (λ (t : Bool). both t (has (getD crews k 0) a)) (sym (joins-is k)))
+      ∙ (sym (union-bit (joinsAt names actions crews) crews 0 count a) ∙ ap (λ (k : ℕ). has k a) (sym m))))
+
+-- the masks with one step more
+pub acted-more : (d : Domain) (sheet : List Names) (occurred : List ℕ) (j : ℕ) (names : Names) (mask : ℕ) → j + 1 < length occurred → getD sheet j [] ≡ names → Occurring d names mask → Acted d sheet occurred j
+    → Acted d sheet (set occurred (j + 1) mask) (j + 1)
+acted-more d sheet occurred j names mask h e o acted k i p q r = elim (decLe k j) [
+  | yes s ↦ acted k i p s r ∙ ap (λ (m : ℕ). has m i) (sym (getD-set-other occurred (j + 1) k mask 0 (λ z. omega arith)))
+  | no s ↦ let z : k ≡ j + 1 = omega arith in
+      ap (λ (m : ℕ). occursIn d (getD sheet m []) (entryAt d i)) (let y : k - 1 ≡ j = omega arith in y)
+      ∙ (ap (λ (l : Names). occursIn d l (entryAt d i)) e ∙ (o i r ∙ ap (λ (m : ℕ). has m i) (sym (ap (λ (m : ℕ). getD (set occurred (j + 1) mask) m 0) z ∙ getD-set-same occurred (j + 1) mask 0 h))))
+]
+
+-- ---- the steps of a sheet, row by row
+
+module _ (a : ℕ) where
+  pub rows-length : (n : ℕ) (s : List ℕ) → length (rows a n s) ≡ n
+  unfolding rows
+  rows-length zero s = refl
+  rows-length (suc n) s = ap suc (rows-length n (drop a s))
+
+  module _ (n j : ℕ) (rest : List ℕ) (h : j < n) where
+    row-first : rows a (n - j) rest ≡ take a rest ∷ rows a (n - (j + 1)) (drop a rest)
+    unfolding rows
+    row-first = let z : n - j ≡ suc (n - (j + 1)) = omega arith in rw z
+
+    pub row-names : (sheet : List Names) → drop j sheet ≡ rows a (n - j) rest → getD sheet j [] ≡ take a rest
+    row-names sheet e = sym (getD-drop j sheet 0 [] ∙ ap (λ (k : ℕ). getD sheet k []) (let z : j + 0 ≡ j = omega arith in z)) ∙ ap (λ (l : List Names). getD l 0 []) (e ∙ row-first)
+
+    pub row-on : (sheet : List Names) → drop j sheet ≡ rows a (n - j) rest → drop (j + 1) sheet ≡ rows a (n - (j + 1)) (drop a rest)
+    row-on sheet e = sym (drop-drop 1 j sheet) ∙ ap (drop 1) (e ∙ row-first)
+
+    pub row-there : length rest ≡ (n - j) * a → a ≤ length rest
+    row-there e = let z : n - j ≡ suc (n - (j + 1)) = omega arith in omega (arith, e ∙ (ap (λ (k : ℕ). k * a) z ∙ suc-mul (n - (j + 1)) a))
+
+    pub row-left : length rest ≡ (n - j) * a → length (drop a rest) ≡ (n - (j + 1)) * a
+    row-left e = let z : n - j ≡ suc (n - (j + 1)) = omega arith in omega (arith, length-drop a rest, e ∙ (ap (λ (k : ℕ). k * a) z ∙ suc-mul (n - (j + 1)) a))
+
+  module _ (d : Domain) (sheet : List Names) (n j : ℕ) (states : List State) (rest : List ℕ) where
+    pub carried-end : n ≤ j → carried d sheet j states (rows a (n - j) rest) ≡ record { states = states; verdict = accepted }
+    unfolding carried rows
+    carried-end h = let z : n - j ≡ 0 = omega arith in rw z
+
+    module _ (h : j < n) (r : Check) (s : State) (told : leaving r s ≡ step d sheet states j (take a rest)) where
+      pub carried-stop : {f : Fault} {m : ℕ} {after : List State} → r ≡ Failed f m → after ≡ states → carried d sheet j states (rows a (n - j) rest) ≡ record { states = after; verdict = broken (kindOf f) (j + 1) m }
+      unfolding carried
+      carried-stop e q = rw (row-first n j rest h, ← told, e, add-one, q)
+
+      pub carried-on : {after : List State} → r ≡ Passed → after ≡ states ++ (s ∷ []) → carried d sheet j states (rows a (n - j) rest) ≡ carried d sheet (j + 1) after (rows a (n - (j + 1)) (drop a rest))
+      unfolding carried
+      carried-on e q = rw (row-first n j rest h, ← told, e, add-one j, q)
+
+-- before the first step
+pub rows-start : (a n : ℕ) (s : List ℕ) → rows a n s ≡ rows a (n - 0) s
+rows-start a n s = ap (λ (k : ℕ). rows a k s) (let z : n ≡ n - 0 = omega arith in z)
+
+pub left-start : (a n k : ℕ) → k ≡ n * a → k ≡ (n - 0) * a
+left-start a n k e = e ∙ ap (λ (m : ℕ). m * a) (let z : n ≡ n - 0 = omega arith in z)
+
+-- what is left after a row
+pub rest-is : (a : ℕ) (l : List ℕ) → take (length l - a) (drop a l) ≡ drop a l
+rest-is a l = take-all (length l - a) (drop a l) (omega (arith, length-drop a l))

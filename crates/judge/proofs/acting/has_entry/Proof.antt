@@ -1,0 +1,24 @@
+use Prim.Native.Nat.{ℕ, zero, suc, _+_, _-_, _*_, _≤_, _<_}
+use mathlib.Core.Path.{_≡_, refl, sym, ap, _∙_}
+use mathlib.Core.Logic.{_⊎_, inl, inr, ⊎-elim}
+use mathlib.Core.List.{List, [], _∷_, _++_}
+use mathlib.Core.Bool.{Bool, true, false}
+use native.Mathlib.Omega.{arith}
+use borrow.Author.Needs.{needs}
+use lib.IntN.{ℤ, pos}
+use lib.ListN.{length, getD, take, drop, set}
+use Rattle.judge.proofs.MaskLaws.{no-bit}
+use Rattle.judge.proofs.acting.has_entry.Statement.{statement}
+use Rattle.judge.proofs.acting.has_entry.Tie as tie
+
+shr-result : tie.Need-shr-result
+shr-result c = search needs
+
+returns : tie.Need-returns
+returns c = search needs
+
+returns-2 : tie.Need-returns-2
+returns-2 c = no-bit (c .before .args .mask) (c .before .args .i) (c .before .fits .mask .fits) (c .if1 .left)
+
+pub has-entry-spec : {M : Type 1} → statement M
+has-entry-spec = tie.close (tie.spec shr-result returns returns-2)

@@ -1,0 +1,48 @@
+use Prim.Native.Nat.{ℕ, zero, suc, _+_, _-_, _*_, _≤_, _<_}
+use mathlib.Core.Path.{_≡_, refl, sym, ap, _∙_}
+use mathlib.Core.Logic.{_⊎_, inl, inr, ⊎-elim}
+use mathlib.Core.List.{List, [], _∷_, _++_}
+use mathlib.Core.Bool.{Bool, true, false}
+use native.Mathlib.Omega.{arith}
+use borrow.Author.Needs.{needs}
+use lib.IntN.{ℤ, pos}
+use lib.ListN.{length, getD, take, drop, set}
+use mathlib.Core.Path.{subst}
+use borrow.Author.Tests.{not-false, not-true}
+use Rattle.bmap.specs.Limits.{levelsSize}
+use Rattle.bmap.specs.Refusal.{got}
+use Rattle.bmap.specs.Store.{domainIn}
+use Rattle.index.specs.Index.{domainOf, Sound}
+use Rattle.index.specs.declared.Index.{Index}
+use Rattle.domain.specs.Found.{foundIn}
+use Rattle.domain.specs.declared.found.Found.{Found}
+use Rattle.domain.proofs.Accepted.{found-ok, found-none}
+use Rattle.judge.proofs.CallLaws.{call-short, call-none, call-judged}
+use Rattle.judge.proofs.judgement.judge.Statement.{statement}
+use Rattle.judge.proofs.judgement.judge.Tie as tie
+
+returns : tie.Need-returns
+returns c = let s = c .before .before .before .args in call-short (s .store .now) (s .sheet .now) (s .levels .now) (c .if1 .taken)
+
+index-of-requires : tie.Need-index-of-requires
+index-of-requires c κs = search needs
+
+returns-2 : tie.Need-returns-2
+returns-2 c = let s = c .before .before .before .before .before .before .args in call-none (s .store .now) (s .sheet .now) (s .levels .now) (c .before .before .before .if1 .left) (found-none (s .store .now) (sym (ap (λ (f : Found). f .ok) (c .before .before .index-of .ensures)) ∙ not-true (c .before .before .index-of .result .ok) (c .if2 .taken)))
+
+judge-by-requires : tie.Need-judge-by-requires
+judge-by-requires c κs = let s = c .before .before .before .before .before .before .before .before .args in
+    (subst (λ (f : Found). Sound (s .store .now) (f .index)) (sym (c .before .before .before .before .index-of .ensures)) (found-ok (s .store .now) (sym (ap (λ (f : Found). f .ok) (c .before .before .before .before .index-of .ensures)) ∙ not-false (c .before .before .before .before .index-of .result .ok) (c .before .before .if2 .left)) .sound), c .before .before .before .before .before .if1 .left)
+
+same-length : tie.Need-same-length
+same-length c = search needs
+
+returns-3 : tie.Need-returns-3
+returns-3 c = let s = c .before .before .before .before .before .before .before .before .before .before .args in
+    c .before .judge-by .ensures ∙ call-judged (s .store .now) (s .sheet .now) (s .levels .now) (c .before .before .before .before .before .before .index-of .result .index) (c .before .before .before .before .before .before .before .if1 .left)
+    (subst (λ (f : Found). domainIn (s .store .now) ≡ got (domainOf (s .store .now) (f .index))) (sym (c .before .before .before .before .before .before .index-of .ensures)) (found-ok (s .store .now) (sym (ap (λ (f : Found). f .ok) (c .before .before .before .before .before .before .index-of .ensures)) ∙ not-false (c .before .before .before .before .before .before .index-of .result .ok) (c .before .before .before .before .if2 .left)) .domain))
+
+pub judge-spec : {M : Type 1} → statement M
+judge-spec =
+    tie.close
+    (tie.spec returns index-of-requires returns-2 judge-by-requires same-length returns-3)

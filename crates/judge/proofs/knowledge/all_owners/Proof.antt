@@ -1,0 +1,64 @@
+use Prim.Native.Nat.{ℕ, zero, suc, _+_, _-_, _*_, _≤_, _<_}
+use mathlib.Core.Path.{_≡_, refl, sym, ap, _∙_}
+use mathlib.Core.Logic.{_⊎_, inl, inr, ⊎-elim}
+use mathlib.Core.List.{List, [], _∷_, _++_}
+use mathlib.Core.Bool.{Bool, true, false}
+use native.Mathlib.Omega.{arith}
+use borrow.Author.Needs.{needs}
+use lib.IntN.{ℤ, pos}
+use lib.ListN.{length, getD, take, drop, set}
+use lib.ListN.{length-set}
+use Rattle.bmap.specs.Limits.{mostLaws}
+use Rattle.bmap.specs.Domain.{Domain}
+use Rattle.judge.specs.Told.{Lawful, Knowing, lawNumber, ownerOf}
+use Rattle.judge.proofs.LandingLaws.{filled-more}
+use Rattle.judge.proofs.CheckLaws.{said}
+use Rattle.judge.proofs.knowledge.all_owners.Statement.{statement}
+use Rattle.judge.proofs.knowledge.all_owners.Tie as tie
+
+abbrev Inv-loop : tie.InvT-loop
+Inv-loop store laws n table w crews agents owners₀ i₀ owners i = (i ≤ n) × ((length owners ≡ mostLaws) × ((d : Domain) → Lawful d store laws n → Knowing d table w crews agents → (k : ℕ) → k < i → getD owners k 0 ≡ ownerOf d (lawNumber d k)))
+
+abbrev μ-loop : tie.MeasureT-loop
+μ-loop store laws n table w crews agents owners₀ i₀ owners i = n - i
+
+loop-holds : tie.Need-loop-holds Inv-loop μ-loop
+loop-holds c = (search needs, (search needs, λ d lawful knowing k h. absurd (omega arith)))
+
+law-at-requires : tie.Need-law-at-requires Inv-loop μ-loop
+law-at-requires c κs = search needs
+
+owner-of-requires : tie.Need-owner-of-requires Inv-loop μ-loop
+owner-of-requires c κs = search needs
+
+array-write-owners : tie.Need-array-write-owners Inv-loop μ-loop
+array-write-owners c = search needs
+
+add-i : tie.Need-add-i Inv-loop μ-loop
+add-i c = search needs
+
+loop-less : tie.Need-loop-less Inv-loop μ-loop
+loop-less c = search needs
+
+loop-again : tie.Need-loop-again Inv-loop μ-loop
+loop-again c = let i = c .before .before .before .loop .i in (omega arith, (simp length-set (c .before .before .before .loop .inv .1 .0), λ d lawful knowing.
+    filled-more 0 (λ k. ownerOf d (lawNumber d k)) (c .before .before .before .loop .owners) i (omega arith) (c .before .before .before .loop .inv .1 .1 d lawful knowing)
+    (c .owner-of .ensures d (lawNumber d i) (said d (lawNumber d i) (c .before .law-at .ensures) (lawful .law i (c .before .before .loop-test .taken))) knowing)))
+
+returns : tie.Need-returns Inv-loop μ-loop
+returns c = (c .before .loop .inv .1 .0, λ d lawful knowing k p. c .before .loop .inv .1 .1 d lawful knowing k (omega (arith, lawful .count, c .loop-test .left)))
+
+pub all-owners-spec : {M : Type 1} → statement M
+all-owners-spec =
+    tie.close
+    (tie.spec
+    Inv-loop
+    μ-loop
+    loop-holds
+    law-at-requires
+    owner-of-requires
+    array-write-owners
+    add-i
+    loop-less
+    loop-again
+    returns)

@@ -1,0 +1,61 @@
+use Prim.Native.Nat.{ℕ, zero, suc, _+_, _-_, _*_, _≤_, _<_}
+use mathlib.Core.Path.{_≡_, refl, sym, ap, _∙_}
+use mathlib.Core.Logic.{_⊎_, inl, inr, ⊎-elim}
+use mathlib.Core.List.{List, [], _∷_, _++_}
+use mathlib.Core.Bool.{Bool, true, false}
+use native.Mathlib.Omega.{arith}
+use borrow.Author.Needs.{needs}
+use lib.IntN.{ℤ, pos}
+use lib.ListN.{length, getD, take, drop, set}
+use Rattle.judge.proofs.ReadingLaws.{no-value-past, setting-given, setting-malformed, setting-number, setting-blank}
+use Rattle.judge.proofs.reading.setting_at.Statement.{statement}
+use Rattle.judge.proofs.reading.setting_at.Tie as tie
+
+returns : tie.Need-returns
+returns c = let s = c .before .before .before .args in no-value-past (s .frame .now) (s .at) (getD (s .frame .now) (s .at) 0) (s .levels .now) (s .occurred .now) (s .j) (c .if1 .taken)
+
+shared-slice-read-f : tie.Need-shared-slice-read-f
+shared-slice-read-f c = search needs
+
+add-expression-at : tie.Need-add-expression-at
+add-expression-at c = search needs
+
+expression-at-requires : tie.Need-expression-at-requires
+expression-at-requires c κs = search needs
+
+enum-known-value : tie.Need-enum-known-value
+enum-known-value c = search needs
+
+enum-told : tie.Need-enum-told
+enum-told c = search needs
+
+returns-2 : tie.Need-returns-2
+returns-2 c = let s = c .before .before .before .before .before .before .before .args in setting-malformed (getD (s .frame .now) (s .at) 0) (c .before .before .expression-at .ensures) (c .enum-told .given .1)
+
+enum-known-value-2 : tie.Need-enum-known-value-2
+enum-known-value-2 c = search needs
+
+enum-told-2 : tie.Need-enum-told-2
+enum-told-2 c = search needs
+
+returns-3 : tie.Need-returns-3
+returns-3 c = let s = c .before .before .before .before .before .before .before .before .before .before .before .args in setting-number (getD (s .frame .now) (s .at) 0) (c .before .value2 .given .1) (c .known-told2 .given .0 .1) ∙ setting-given (getD (s .frame .now) (s .at) 0) (c .before .before .before .before .before .before .expression-at .ensures) (c .before .before .before .before .value .given .1)
+
+returns-4 : tie.Need-returns-4
+returns-4 c = let s = c .before .before .before .before .before .before .before .before .before .before .args in setting-blank (getD (s .frame .now) (s .at) 0) (c .enum-told2 .given .1) ∙ setting-given (getD (s .frame .now) (s .at) 0) (c .before .before .before .before .before .expression-at .ensures) (c .before .before .before .value .given .1)
+
+pub setting-at-spec : {M : Type 1} → statement M
+setting-at-spec =
+    tie.close
+    (tie.spec
+    returns
+    shared-slice-read-f
+    add-expression-at
+    expression-at-requires
+    enum-known-value
+    enum-told
+    returns-2
+    enum-known-value-2
+    enum-told-2
+    returns-3
+    returns-4)

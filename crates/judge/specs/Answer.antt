@@ -1,0 +1,48 @@
+-- The paper's number and values of each answer.
+use Prim.Native.Nat.{ℕ}
+use Rattle.bmap.specs.Refusal.{Answer, got, refused, numberOf}
+use mathlib.Core.List.{List}
+use mathlib.Core.Option.{Option, none, some}
+use lib.IntN.{ℤ}
+use Rattle.bmap.specs.Number.{Valued, value, no-value}
+use Rattle.bmap.specs.Judge.{Pass, pass, Checked, fine, fault, Setting, accepted, broken}
+use Rattle.bmap.specs.Judge as paper
+use Rattle.judge.specs.declared.verdict.Fault.{Fault}
+use Rattle.judge.specs.declared.verdict.Fault.the-variants.{Misplaced, Barred, Concurrency, Conflict, Range, Static, NoValue, Goal}
+use Rattle.judge.specs.declared.verdict.Verdict.{Verdict}
+use Rattle.judge.specs.declared.verdict.Verdict.the-variants.{Accepted, Broken}
+use Rattle.judge.specs.declared.verdict.Judgement.{Judgement}
+use Rattle.judge.specs.declared.verdict.Judgement.the-variants.{Refused, Judged}
+use Rattle.judge.specs.declared.verdict.Check.{Check}
+use Rattle.judge.specs.declared.verdict.Check.the-variants.{Passed, Failed}
+use Rattle.judge.specs.declared.reading.Wants.{Wants}
+use Rattle.judge.specs.declared.reading.Wants.the-variants.{Blank, Leaves, Sets}
+
+-- the paper's number of each fault's kind
+abbrev pub kindOf : Fault → ℕ
+kindOf Misplaced = 1
+kindOf Barred = 2
+kindOf Concurrency = 3
+kindOf Conflict = 4
+kindOf Range = 5
+kindOf Static = 6
+kindOf NoValue = 7
+kindOf Goal = 8
+
+-- "Accepted, or Broken with kind, step and number"
+abbrev pub verdictOf : Verdict → paper.Verdict
+verdictOf Accepted = accepted
+verdictOf (Broken f step n) = broken (kindOf f) step n
+
+abbrev pub answerOf : Judgement → Answer paper.Verdict
+answerOf (Refused r) = refused (numberOf r)
+answerOf (Judged v) = got (verdictOf v)
+
+abbrev pub passOf : Check → Pass
+passOf Passed = pass
+passOf (Failed f n) = fault (kindOf f) n
+
+abbrev pub wantsOf : Wants → Valued (Option Setting)
+wantsOf Blank = no-value
+wantsOf Leaves = value none
+wantsOf (Sets f z) = value (some (record { fluent = f; level = z }))

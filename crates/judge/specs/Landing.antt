@@ -1,0 +1,30 @@
+-- The new state of a step, level by level.
+use Prim.Native.Nat.{ℕ, _<_}
+use mathlib.Core.Path.{_≡_}
+use mathlib.Core.List.{List}
+use lib.IntN.{ℤ, pos}
+use lib.ListN.{length, getD}
+use lib.Signed.{leZ}
+use Rattle.bmap.specs.Plain.{both, if-else}
+use Rattle.bmap.specs.Domain.{Domain, Fluent, State}
+use Rattle.bmap.specs.Judge.{Checked, fine, next, each, inRange, Setting, levelAfter}
+use Rattle.judge.specs.declared.landing.Fit.{Fit}
+use Rattle.judge.specs.declared.landing.Fit.the-variants.{Out, In}
+
+-- v where it lies within the bounds
+unfoldable pub fitOf : ℤ → ℤ → ℤ → Fit
+fitOf lowest v highest = if-else (both (leZ lowest v) (leZ v highest)) (In v) Out
+
+-- the bounds of a domain's fluents
+pub record Ranged (d : Domain) (lowest highest : List ℤ) (w : ℕ) : Type 0 where
+  pub count : length (d .fluents) ≡ w
+  pub low : (f : ℕ) → f < w → getD (d .fluents) f (record { lowest = pos 0; highest = pos 0; start = pos 0 }) .lowest ≡ getD lowest f (pos 0)
+  pub high : (f : ℕ) → f < w → getD (d .fluents) f (record { lowest = pos 0; highest = pos 0; start = pos 0 }) .highest ≡ getD highest f (pos 0)
+
+-- "Fluents that no law set keep their value": settings laid over a state
+abbrev pub Laid : ℕ → List ℤ → List Setting → State → Type 0
+Laid w new settings old = (f : ℕ) → f < w → getD new f (pos 0) ≡ levelAfter settings f (getD old f (pos 0))
+
+-- check 5 of a state
+abbrev pub ranged : Domain → State → Checked State
+ranged d new = next (each (inRange new) (d .fluents)) (λ _. fine new)

@@ -1,0 +1,41 @@
+-- What is found once for a judgement, and what a judgement leaves.
+use Prim.Native.Nat.{ℕ, suc, _≤_}
+use mathlib.Core.Path.{_≡_}
+use mathlib.Core.List.{List, [], _∷_, _++_, map}
+use lib.IntN.{ℤ}
+use lib.ListN.{length, getD}
+use Rattle.bmap.specs.Plain.{numbers}
+use Rattle.bmap.specs.Meaning.{History}
+use Rattle.bmap.specs.Domain.{Domain, Names, State, Entry, static}
+use Rattle.bmap.specs.Judge.{Checked, fine, next, each, inRange, settled, stateAfter, history, allHold, Judged}
+use Rattle.judge.specs.Answer.{verdictOf}
+use Rattle.judge.specs.States.{statesOf}
+use Rattle.judge.specs.Landing.{Ranged}
+use Rattle.judge.specs.Told.{Lawful, Owned, Ordered}
+use Rattle.judge.specs.declared.reading.Runs.{Runs}
+use Rattle.judge.specs.declared.steps.Ran.{Ran}
+
+-- the store's laws, who may read them and where those of each kind stand, the fluents' bounds, the number of entries
+pub record Prepared (d : Domain) (store places owners : List ℕ) (n : ℕ) (runs : Runs) (lowest highest : List ℤ) (w count : ℕ) : Type 0 where
+  pub lawful : Lawful d store places n
+  pub owned : Owned d owners
+  pub ordered : Ordered store places n runs
+  pub ranged : Ranged d lowest highest w
+  pub entries : length (d .entries) ≡ count
+
+-- the names and crews of a domain's entries
+abbrev pub Entered : Domain → List ℕ → List ℕ → ℕ → Type 0
+Entered d actions crews count = d .entries ≡ map (λ i. record { name = getD actions i 0; crew = getD crews i 0 }) (numbers 0 count)
+
+-- checks 4 to 6 of the step from state j
+unfoldable pub landed : Domain → List Names → List State → ℕ → Names → Checked State
+landed d sheet states j names =
+    next (settled d (history d sheet states) j names 0 [] (d .laws)) (λ settings.
+    let new : State = stateAfter d settings (getD states j []) in
+    next (each (inRange new) (d .fluents)) (λ _.
+    next (allHold static 6 d (history d sheet (states ++ (new ∷ []))) (suc j)) (λ _.
+    fine new)))
+
+-- what a run leaves: its verdict, and the states that it reached in the history
+abbrev pub judgedOf : ℕ → Ran → List ℤ → Judged
+judgedOf w r levels = record { states = statesOf w (r .reached) levels; verdict = verdictOf (r .verdict) }

@@ -1,0 +1,105 @@
+-- What the judge's functions may take for granted of the bytes and numbers that they are lent: that they are a domain's.
+use Prim.Native.Nat.{ℕ, _+_, _-_, _*_, _≤_, _<_}
+use mathlib.Core.Path.{_≡_}
+use mathlib.Core.Bool.{Bool, true}
+use mathlib.Core.List.{List, []}
+use mathlib.Core.Option.{some}
+use lib.IntN.{ℤ, pos}
+use lib.ListN.{length, getD, drop}
+use Rattle.bmap.specs.Plain.{any, if-else}
+use Rattle.bmap.specs.Limits.{mostFluents}
+use Rattle.bmap.specs.Tree.{Con, always}
+use Rattle.bmap.specs.Meaning.{History}
+use Rattle.bmap.specs.Domain.{Domain, Names, Law, executable, effect, must, Scope, static, concurrency, goal, entryAt, has, occursIn, knows, readable}
+use Rattle.bmap.specs.Judge.{carries}
+use Rattle.bmap.specs.Payload.{lawIn, asks}
+use Rattle.bmap.specs.Accept.{countsOf}
+use Rattle.index.specs.Index.{frameBytes}
+use Rattle.judge.specs.declared.reading.Runs.{Runs}
+
+-- the parts that the laws of every kind have
+abbrev pub conOf : Law → Con
+conOf (executable e c) = c
+conOf (effect e c f x) = c
+conOf (must s c) = c
+
+-- "Code 29 is refused in A7 and A9"
+abbrev pub asksOf : Law → Bool
+asksOf (executable e c) = true
+asksOf (effect e c f x) = true
+asksOf (must s c) = asks s
+
+abbrev pub scopeKind : Scope → ℕ
+scopeKind static = 0xA7
+scopeKind concurrency = 0xA8
+scopeKind goal = 0xA9
+
+abbrev pub lawNumber : Domain → ℕ → Law
+lawNumber d i = getD (d .laws) i (must static always)
+
+-- where its constraint stands in a frame
+abbrev pub placeOf : Law → ℕ
+placeOf (executable e c) = 3
+placeOf (effect e c f x) = 3
+placeOf (must s c) = 2
+
+-- the bytes of a frame are this law
+unfoldable pub Says : Domain → List ℕ → Law → Type 0
+Says d frame l = lawIn (countsOf d) (getD frame 0 0) (drop 2 frame) ≡ some l
+
+-- the frame of law i
+abbrev pub frameOf : List ℕ → List ℕ → ℕ → List ℕ
+frameOf store places i = frameBytes store (getD places i 0)
+
+-- the frames at these places are the domain's laws
+pub record Lawful (d : Domain) (store places : List ℕ) (n : ℕ) : Type 0 where
+  pub count : length (d .laws) ≡ n
+  pub law : (i : ℕ) → i < n → Says d (frameOf store places i) (lawNumber d i)
+
+-- whose law it is, if its crew may read it: "a law that names a fluent known to nobody in the crew counts as false"
+abbrev pub ownerOf : Domain → Law → ℕ
+ownerOf d (executable e c) = if-else (readable d (entryAt d e) c) e 255
+ownerOf d (effect e c f x) = 255
+ownerOf d (must s c) = 255
+
+-- a table has the owner of each law
+abbrev pub Owned : Domain → List ℕ → Type 0
+Owned d owners = (i : ℕ) → i < length (d .laws) → getD owners i 0 ≡ ownerOf d (lawNumber d i)
+
+-- a table has the agents who know each fluent, and a list the crew of each entry
+pub record Knowing (d : Domain) (table : List ℕ) (w : ℕ) (crews : List ℕ) (agents : ℕ) : Type 0 where
+  pub fluents : length (d .fluents) ≡ w
+  pub count : d .agents ≡ agents
+  pub knowers : (f a : ℕ) → f < w → has (getD table f 0) a ≡ knows d a f
+  pub crew : (e : ℕ) → e < length (d .entries) → entryAt d e .crew ≡ getD crews e 0
+
+-- the laws of a kind lie from one number to another
+pub record Within (store places : List ℕ) (n kind from to : ℕ) : Type 0 where
+  pub starts : from ≤ n
+  pub ends : to ≤ n
+  pub before : (i : ℕ) → i < from → getD (frameOf store places i) 0 0 ≡ kind → ⊥
+  pub after : (i : ℕ) → to ≤ i → i < n → getD (frameOf store places i) 0 0 ≡ kind → ⊥
+
+pub record Ordered (store places : List ℕ) (n : ℕ) (runs : Runs) : Type 0 where
+  pub executable : Within store places n 0xA5 (runs .executable .from) (runs .executable .to)
+  pub effect : Within store places n 0xA6 (runs .effect .from) (runs .effect .to)
+  pub fixed : Within store places n 0xA7 (runs .fixed .from) (runs .fixed .to)
+  pub concurrency : Within store places n 0xA8 (runs .concurrency .from) (runs .concurrency .to)
+  pub goal : Within store places n 0xA9 (runs .goal .from) (runs .goal .to)
+
+-- the levels of the states 0 to j are those of a history, and the masks of the steps 1 to j + 1 its occurrences, if they are asked
+pub record Seen (asked : Bool) (d : Domain) (h : History) (levels : List ℤ) (occurred : List ℕ) (j : ℕ) : Type 0 where
+  pub level : (k f : ℕ) → k ≤ j → f < length (d .fluents) → h .level k f ≡ getD levels (mostFluents * k + f) (pos 0)
+  pub acted : asked ≡ true → (k e : ℕ) → 1 ≤ k → k ≤ j + 1 → e < length (d .entries) → h .occurred e k ≡ has (getD occurred k 0) e
+
+-- a mask has the entries that occur in a step
+abbrev pub Occurring : Domain → Names → ℕ → Type 0
+Occurring d names mask = (e : ℕ) → e < length (d .entries) → occursIn d names (entryAt d e) ≡ has mask e
+
+-- a mask has the agents who belong to an occurring entry with the action that they name
+abbrev pub Belonging : Domain → Names → ℕ → Type 0
+Belonging d names mask = (a : ℕ) → a < length names → any (carries d names a (getD names a 0)) (d .entries) ≡ has mask a
+
+-- masks of the steps 1 to m of a sheet
+abbrev pub Acted : Domain → List Names → List ℕ → ℕ → Type 0
+Acted d sheet occurred m = (k e : ℕ) → 1 ≤ k → k ≤ m → e < length (d .entries) → occursIn d (getD sheet (k - 1) []) (entryAt d e) ≡ has (getD occurred k 0) e

@@ -1,0 +1,128 @@
+// The checks of a step: its agents, its entries, and the laws of a scope.
+ghost use mathlib.Core.Path.{_≡_};
+ghost use mathlib.Core.Bool.{true};
+ghost use Prim.Native.Nat.{ℕ, _≤_, _<_};
+ghost use lib.ListN.{length};
+ghost use Rattle.bmap.specs.Limits.{mostAgents, mostEntries};
+ghost use Rattle.bmap.specs.Domain.{Domain, Names, Law, Scope};
+ghost use Rattle.bmap.specs.Meaning.{History};
+ghost use Rattle.bmap.specs.Payload.{asks};
+ghost use Rattle.bmap.specs.Judge.{each, placed, permits, permitted, mayOccur, holds, allHold};
+ghost use Rattle.number.specs.Answer.{truthOf};
+ghost use Rattle.judge.specs.Answer.{passOf, kindOf};
+ghost use Rattle.judge.specs.Told.{Belonging, Occurring, Says, Lawful, Owned, Within, Seen, lawNumber, scopeKind};
+
+use crate::acting::has_agent;
+use crate::acting::has_entry;
+use crate::reading::EXECUTABLE;
+use crate::reading::byte;
+use crate::reading::constraint_of;
+use crate::verdict::Check;
+use crate::verdict::Fault;
+use index::law_at;
+use number::Truth;
+
+// 1: "each agent by number: it names an action but belongs to no occurring entry with that name". The mask has the agents
+// who belong to an occurring entry, whose action they all name.
+pub fn check_agents(names: &[u8], agents: u16) -> Check
+    requires { ⌜ length (now names) ≤ mostAgents ⌝ }
+    ensures { λ r. ⌜ ((d : Domain) → Belonging d (now (names .entry)) agents → passOf r ≡ each (placed d (now (names .entry))) (now (names .entry))) ⌝ }
+{
+    let mut a = 0;
+    while a < names.len() {
+        if names[a] != 0 {
+            if !has_agent(agents, a) {
+                return Check::Failed(Fault::Misplaced, a);
+            }
+        }
+        a += 1;
+    }
+    Check::Passed
+}
+
+// What one law says for entry i: the owners' table has the laws that its crew may read.
+fn try_law(store: &[u8], laws: &[u16], owners: &[u8], levels: &[i16], occurred: &[u64], j: usize, i: usize, l: usize) -> Truth
+    requires { ⌜ i < mostEntries ⌝ }
+    ensures { λ r. ⌜ ((d : Domain) (h : History) (n : ℕ) → Lawful d (now (store .entry)) (now (laws .entry)) n → l < n → Owned d (now (owners .entry)) → Seen true d h (now (levels .entry)) (now (occurred .entry)) j
+        → truthOf r ≡ permits d h j i (lawNumber d l)) ⌝ }
+{
+    if byte(owners, l) as usize != i {
+        return Truth::Is(false);
+    }
+    constraint_of(law_at(store, laws, l), 3, levels, occurred, j)
+}
+
+// "its A5 laws in order until one is true": entry i.
+fn check_entry(store: &[u8], laws: &[u16], owners: &[u8], from: usize, to: usize, levels: &[i16], occurred: &[u64], j: usize, i: usize) -> Check
+    requires { ⌜ i < mostEntries ⌝ }
+    ensures { λ r. ⌜ ((d : Domain) (h : History) (n : ℕ) → Lawful d (now (store .entry)) (now (laws .entry)) n → Within (now (store .entry)) (now (laws .entry)) n 0xA5 from to → Owned d (now (owners .entry))
+        → Seen true d h (now (levels .entry)) (now (occurred .entry)) j → passOf r ≡ permitted d h j i 0 (d .laws)) ⌝ }
+{
+    let mut l = from;
+    while l < to {
+        match try_law(store, laws, owners, levels, occurred, j, i, l) {
+            Truth::NoTruth => {
+                return Check::Failed(Fault::NoValue, l);
+            }
+            Truth::Is(allowed) => {
+                if allowed {
+                    return Check::Passed;
+                }
+            }
+        }
+        l += 1;
+    }
+    Check::Failed(Fault::Barred, i)
+}
+
+// 2: "each occurring entry by number".
+pub fn check_entries(store: &[u8], laws: &[u16], owners: &[u8], from: usize, to: usize, entries: u64, count: usize, levels: &[i16], occurred: &[u64], j: usize) -> Check
+    requires { ⌜ count ≤ mostEntries ⌝ }
+    ensures { λ r. ⌜ ((d : Domain) (h : History) (n : ℕ) (names : Names) → Lawful d (now (store .entry)) (now (laws .entry)) n → Within (now (store .entry)) (now (laws .entry)) n 0xA5 from to → Owned d (now (owners .entry))
+        → Occurring d names entries → length (d .entries) ≡ count → Seen true d h (now (levels .entry)) (now (occurred .entry)) j → passOf r ≡ each (mayOccur d h j names) (d .entries)) ⌝ }
+{
+    let mut i = 0;
+    while i < count {
+        if has_entry(entries, i) {
+            if let Check::Failed(fault, n) = check_entry(store, laws, owners, from, to, levels, occurred, j, i) {
+                return Check::Failed(fault, n);
+            }
+        }
+        i += 1;
+    }
+    Check::Passed
+}
+
+// A law of the scope whose kind is asked for, false: that fault.
+fn check_law(frame: &[u8], kind: u8, fault: Fault, levels: &[i16], occurred: &[u64], j: usize, l: usize) -> Check
+    ensures { λ r. ⌜ ((d : Domain) (h : History) (s : Scope) (law : Law) → kind ≡ scopeKind s → Says d (now (frame .entry)) law → Seen (asks s) d h (now (levels .entry)) (now (occurred .entry)) j
+        → passOf r ≡ holds s (kindOf fault) h j l law) ⌝ }
+{
+    if byte(frame, 0) != kind {
+        return Check::Passed;
+    }
+    match constraint_of(frame, 2, levels, occurred, j) {
+        Truth::NoTruth => Check::Failed(Fault::NoValue, l),
+        Truth::Is(met) => {
+            if met {
+                return Check::Passed;
+            }
+            Check::Failed(fault, l)
+        }
+    }
+}
+
+// 3, 6 and the goals: each law of a kind in order.
+pub fn check_laws(store: &[u8], laws: &[u16], from: usize, to: usize, kind: u8, fault: Fault, levels: &[i16], occurred: &[u64], j: usize) -> Check
+    ensures { λ r. ⌜ ((d : Domain) (h : History) (s : Scope) (n : ℕ) → kind ≡ scopeKind s → Lawful d (now (store .entry)) (now (laws .entry)) n → Within (now (store .entry)) (now (laws .entry)) n kind from to
+        → Seen (asks s) d h (now (levels .entry)) (now (occurred .entry)) j → passOf r ≡ allHold s (kindOf fault) d h j) ⌝ }
+{
+    let mut l = from;
+    while l < to {
+        if let Check::Failed(found, n) = check_law(law_at(store, laws, l), kind, fault, levels, occurred, j, l) {
+            return Check::Failed(found, n);
+        }
+        l += 1;
+    }
+    Check::Passed
+}

@@ -1,0 +1,75 @@
+// 4: what the effect laws set. "Effects are settled by values before the step": the laws read the history, which keeps its
+// old levels until the new state is stored.
+ghost use mathlib.Core.Path.{_≡_};
+ghost use mathlib.Core.Bool.{true};
+ghost use mathlib.Core.List.{[]};
+ghost use Prim.Native.Nat.{ℕ, _≤_};
+ghost use lib.ListN.{length};
+ghost use Rattle.bmap.specs.Limits.{mostLaws};
+ghost use Rattle.bmap.specs.Number.{same};
+ghost use Rattle.bmap.specs.Domain.{Domain, Names};
+ghost use Rattle.bmap.specs.Meaning.{History};
+ghost use Rattle.bmap.specs.Judge.{settled};
+ghost use Rattle.judge.specs.Told.{Lawful, Within, Occurring, Seen};
+ghost use Rattle.judge.specs.Settings.{settledOf, countOf};
+
+use crate::reading::Wants;
+use crate::reading::wanted;
+use crate::verdict::Fault;
+use bmap::Counts;
+use index::law_at;
+
+// So many settings, or the first fault and its law.
+pub enum Settled {
+    Clash(Fault, usize),
+    Count(usize),
+}
+
+pub fn same_level(a: i32, b: i32) -> bool
+    ensures { λ r. ⌜ r ≡ same a b ⌝ }
+{
+    if a <= b {
+        return b <= a;
+    }
+    false
+}
+
+// The settings go to the front of two arrays, the oldest first. "a value differing from an earlier one for the same fluent:
+// kind 4, the later law": the exit with a label carries that law.
+pub fn settle(store: &[u8], laws: &[u16], from: usize, to: usize, entries: u64, levels: &[i16], occurred: &[u64], j: usize, fluents: &mut [u8; Counts::LAWS], values: &mut [i32; Counts::LAWS]) -> Settled
+    requires { ⌜ (to ≤ mostLaws) × ((length (now fluents) ≡ mostLaws) × (length (now values) ≡ mostLaws)) ⌝ }
+    ensures { λ r. ⌜ (countOf r ≤ mostLaws) × ((d : Domain) (h : History) (n : ℕ) (names : Names) → Lawful d (now (store .entry)) (now (laws .entry)) n → Within (now (store .entry)) (now (laws .entry)) n 0xA6 from to
+        → Occurring d names entries → Seen true d h (now (levels .entry)) (now (occurred .entry)) j → settledOf r (now (fluents .exit)) (now (values .exit)) ≡ settled d h j names 0 [] (d .laws)) ⌝ }
+{
+    let mut bad = to;
+    let mut m = 0;
+    let mut l = from;
+    'laws: while l < to {
+        match wanted(law_at(store, laws, l), entries, levels, occurred, j) {
+            Wants::Blank => {
+                return Settled::Clash(Fault::NoValue, l);
+            }
+            Wants::Sets(f, v) => {
+                let mut i = m;
+                while 0 < i {
+                    i -= 1;
+                    if fluents[i] == f {
+                        if !same_level(values[i], v) {
+                            bad = l;
+                            break 'laws;
+                        }
+                    }
+                }
+                fluents[m] = f;
+                values[m] = v;
+                m += 1;
+            }
+            Wants::Leaves => {}
+        }
+        l += 1;
+    }
+    if bad < to {
+        return Settled::Clash(Fault::Conflict, bad);
+    }
+    Settled::Count(m)
+}

@@ -1,0 +1,83 @@
+// The judgement of a sheet against a store.
+ghost use mathlib.Core.Path.{_≡_};
+ghost use mathlib.Core.List.{List};
+ghost use Prim.Native.Nat.{_+_, _*_, _≤_};
+ghost use lib.ListN.{length};
+ghost use Rattle.bmap.specs.Limits.{mostSteps, levelsSize};
+ghost use Rattle.bmap.specs.Refusal.{got, then};
+ghost use Rattle.bmap.specs.Sheet.{rows, sheetOf};
+ghost use Rattle.bmap.specs.Judge.{judge};
+ghost use Rattle.bmap.specs.Verdict.{judgement, judgeSheet};
+ghost use Rattle.index.specs.Index.{domainOf, Sound};
+ghost use Rattle.judge.specs.Answer.{answerOf};
+ghost use Rattle.judge.specs.Prepared.{judgedOf};
+
+use crate::knowledge::all_knowers;
+use crate::knowledge::all_owners;
+use crate::reading::all_runs;
+use crate::states::copy_states;
+use crate::steps::Ran;
+use crate::steps::run_sheet;
+use crate::verdict::Judgement;
+use bmap::LEVELS;
+use bmap::Refusal;
+use bmap::Sheet;
+use domain::index_of;
+use index::Index;
+
+// What the laws need is found once: who knows what, whose laws count, where those of each kind stand.
+fn judge_steps(store: &[u8], index: Index, sheet: &[u8], n: usize, levels: &mut [i16]) -> Ran
+    requires { ⌜ Sound (now store) index × ((n ≤ mostSteps) × ((length (now sheet) ≡ n * index .counts .agents) × (length (now levels) ≡ levelsSize))) ⌝ }
+    ensures { λ r. ⌜ ((r .reached ≤ mostSteps + 1) × (length (now (levels .exit)) ≡ levelsSize))
+        × (judgedOf (index .counts .fluents) r (now (levels .exit)) ≡ judge (domainOf (now (store .entry)) index) (rows (index .counts .agents) n (now (sheet .entry)))) ⌝ }
+{
+    let counts = index.counts;
+    let laws = index.laws;
+    let known = index.known;
+    let knowers = index.knowers;
+    let crews = index.crews;
+    let table = all_knowers(&known, &knowers, counts.knowledge, counts.fluents);
+    let owners = all_owners(store, &laws, counts.laws, &table, counts.fluents, &crews, counts.agents);
+    let runs = all_runs(store, &laws, counts.laws);
+    let start = index.start;
+    let lowest = index.lowest;
+    let highest = index.highest;
+    let names = index.names;
+    run_sheet(store, &laws, &owners, runs, &start, &lowest, &highest, counts.fluents, &names, &crews, counts.entries, counts.agents, sheet, n, levels)
+}
+
+// By an index: "8, 9", then the states go to the caller's buffer once.
+fn judge_by(store: &[u8], index: Index, sheet: &[u8], levels: &mut [i16]) -> Judgement
+    requires { ⌜ Sound (now store) index × (levelsSize ≤ length (now levels)) ⌝ }
+    ensures { λ r. ⌜ record { answer = answerOf r; levels = now (levels .exit) }
+        ≡ judgement (now (levels .entry)) (then (sheetOf (index .counts .agents) (now (sheet .entry))) (λ steps. got (judge (domainOf (now (store .entry)) index) steps))) ⌝ }
+{
+    let agents = index.counts.agents;
+    if sheet.len() % agents != 0 {
+        return Judgement::Refused(Refusal::NotWhole);
+    }
+    let n = sheet.len() / agents;
+    if Sheet::STEPS < n {
+        return Judgement::Refused(Refusal::TooLong);
+    }
+    let mut history = [0i16; LEVELS];
+    let ran = judge_steps(store, index, sheet, n, &mut history);
+    copy_states(&history, ran.reached, index.counts.fluents, levels);
+    let verdict = ran.verdict;
+    Judgement::Judged(verdict)
+}
+
+// "Judge: 10, 15, 8, 9": the verdict, and the states reached in the levels buffer; a refusal touches nothing.
+pub fn judge(store: &[u8], sheet: &[u8], levels: &mut [i16]) -> Judgement
+    ensures { λ r. ⌜ record { answer = answerOf r; levels = now (levels .exit) } ≡ judgeSheet (now (store .entry)) (now (sheet .entry)) (now (levels .entry)) ⌝ }
+{
+    if levels.len() < LEVELS {
+        return Judgement::Refused(Refusal::NoRoom);
+    }
+    let found = index_of(store);
+    if !found.ok {
+        return Judgement::Refused(Refusal::NotDomain);
+    }
+    let index = found.index;
+    judge_by(store, index, sheet, levels)
+}

@@ -1,0 +1,118 @@
+// Which executability laws count, found once for a judgement: "a law that names a fluent known to nobody in the crew counts as
+// false and is not read".
+ghost use mathlib.Core.Path.{_≡_};
+ghost use mathlib.Core.Bool.{not};
+ghost use Prim.Native.Nat.{ℕ, _%_, _^_, _≤_, _<_};
+ghost use lib.Bits.{bitAnd};
+ghost use lib.Dec.{eqb};
+ghost use lib.ListN.{length, getD};
+ghost use Rattle.bmap.specs.Limits.{mostAgents, mostFluents, mostLaws};
+ghost use Rattle.bmap.specs.Domain.{Domain, Law};
+ghost use Rattle.judge.specs.Masks.{unionFrom, maskFrom};
+ghost use Rattle.judge.specs.Told.{Says, Lawful, Owned, Knowing, ownerOf};
+
+use crate::acting::pushed;
+use crate::acting::taken_in;
+use crate::reading::EXECUTABLE;
+use crate::reading::byte;
+use bmap::Counts;
+use index::law_at;
+
+// The owner of a law that does not count.
+const NOBODY: u8 = 255;
+
+fn same_fluent(a: u8, f: usize) -> bool
+    ensures { λ r. ⌜ r ≡ eqb a f ⌝ }
+{
+    a as usize == f
+}
+
+// The agents who know a fluent: "several frames add up".
+fn knowers_of(known: &[u8], knowers: &[u16], n: usize, f: usize) -> u16
+    requires { ⌜ (n ≤ length (now known)) × (n ≤ length (now knowers)) ⌝ }
+    ensures { λ r. ⌜ r ≡ unionFrom (λ i. eqb (getD (now (known .entry)) i 0) f) (now (knowers .entry)) 0 n ⌝ }
+{
+    let mut agents: u16 = 0;
+    let mut i = n;
+    while 0 < i {
+        i -= 1;
+        agents = taken_in(agents, knowers[i], same_fluent(known[i], f));
+    }
+    agents
+}
+
+// For each fluent, the agents who know it.
+pub fn all_knowers(known: &[u8], knowers: &[u16], n: usize, w: usize) -> [u16; Counts::FLUENTS]
+    requires { ⌜ (w ≤ mostFluents) × ((n ≤ length (now known)) × (n ≤ length (now knowers))) ⌝ }
+    ensures { λ r. ⌜ (length r ≡ mostFluents) × ((f : ℕ) → f < w → getD r f 0 ≡ unionFrom (λ i. eqb (getD (now (known .entry)) i 0) f) (now (knowers .entry)) 0 n) ⌝ }
+{
+    let mut table = [0u16; Counts::FLUENTS];
+    let mut f = 0;
+    while f < w {
+        table[f] = knowers_of(known, knowers, n, f);
+        f += 1;
+    }
+    table
+}
+
+fn share(a: u16, b: u16) -> bool
+    ensures { λ r. ⌜ r ≡ not (eqb (bitAnd a b) 0) ⌝ }
+{
+    a & b != 0
+}
+
+// The fluents that somebody of a crew knows, as a mask.
+fn known_to(table: &[u16; Counts::FLUENTS], w: usize, crew: u16) -> u32
+    requires { ⌜ (w ≤ mostFluents) × (length (now table) ≡ mostFluents) ⌝ }
+    ensures { λ r. ⌜ r ≡ maskFrom (λ f. not (eqb (bitAnd crew (getD (now (table .entry)) f 0)) 0)) 0 w ⌝ }
+{
+    let mut mask: u64 = 0;
+    let mut f = w;
+    while 0 < f {
+        f -= 1;
+        mask = pushed(mask, share(crew, table[f]));
+    }
+    mask as u32
+}
+
+// The crew of an entry, without bits that stand for no agent.
+fn crew_of(crews: &[u16], e: u8, agents: usize) -> u16
+    requires { ⌜ agents ≤ mostAgents ⌝ }
+    ensures { λ r. ⌜ r ≡ getD (now (crews .entry)) e 0 % 2 ^ agents ⌝ }
+{
+    let e = e as usize;
+    if crews.len() <= e {
+        return 0;
+    }
+    let limit: u32 = 1 << agents;
+    (crews[e] as u32 % limit) as u16
+}
+
+// The entry of an executability law that its crew may read.
+fn owner_of(frame: &[u8], table: &[u16; Counts::FLUENTS], w: usize, crews: &[u16], agents: usize) -> u8
+    requires { ⌜ (w ≤ mostFluents) × ((length (now table) ≡ mostFluents) × (agents ≤ mostAgents)) ⌝ }
+    ensures { λ r. ⌜ ((d : Domain) (l : Law) → Says d (now (frame .entry)) l → Knowing d (now (table .entry)) w (now (crews .entry)) agents → r ≡ ownerOf d l) ⌝ }
+{
+    if byte(frame, 0) != EXECUTABLE {
+        return NOBODY;
+    }
+    let e = byte(frame, 2);
+    if law::names_only(frame, 3, known_to(table, w, crew_of(crews, e, agents))) {
+        return e;
+    }
+    NOBODY
+}
+
+// The owner of each law.
+pub fn all_owners(store: &[u8], laws: &[u16], n: usize, table: &[u16; Counts::FLUENTS], w: usize, crews: &[u16], agents: usize) -> [u8; Counts::LAWS]
+    requires { ⌜ (n ≤ mostLaws) × ((w ≤ mostFluents) × ((length (now table) ≡ mostFluents) × (agents ≤ mostAgents))) ⌝ }
+    ensures { λ r. ⌜ (length r ≡ mostLaws) × ((d : Domain) → Lawful d (now (store .entry)) (now (laws .entry)) n → Knowing d (now (table .entry)) w (now (crews .entry)) agents → Owned d r) ⌝ }
+{
+    let mut owners = [NOBODY; Counts::LAWS];
+    let mut i = 0;
+    while i < n {
+        owners[i] = owner_of(law_at(store, laws, i), table, w, crews, agents);
+        i += 1;
+    }
+    owners
+}

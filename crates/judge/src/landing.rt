@@ -1,0 +1,91 @@
+// The new state: the old levels with the settings laid over them, and check 5 before each is stored.
+ghost use mathlib.Core.Path.{_≡_};
+ghost use mathlib.Core.List.{List};
+ghost use Prim.Native.Nat.{ℕ, _+_, _*_, _≤_, _<_};
+ghost use lib.IntN.{pos};
+ghost use lib.ListN.{length, getD, set};
+ghost use Rattle.bmap.specs.Limits.{mostFluents, mostSteps, mostLaws, levelsSize};
+ghost use Rattle.bmap.specs.Domain.{Domain, State};
+ghost use Rattle.bmap.specs.Judge.{Setting, levelAfter, stateAfter};
+ghost use Rattle.judge.specs.States.{stateAt, leaving, Kept};
+ghost use Rattle.judge.specs.Settings.{settingsOf};
+ghost use Rattle.judge.specs.Landing.{Ranged, Laid, ranged, fitOf};
+
+use crate::verdict::Check;
+use crate::verdict::Fault;
+use bmap::Counts;
+
+// The levels of state j, wide enough for what an expression gives.
+fn old_levels(levels: &[i16], j: usize, w: usize) -> [i32; Counts::FLUENTS]
+    requires { ⌜ (j ≤ mostSteps) × ((w ≤ mostFluents) × (length (now levels) ≡ levelsSize)) ⌝ }
+    ensures { λ r. ⌜ (length r ≡ mostFluents) × ((f : ℕ) → f < w → getD r f (pos 0) ≡ getD (now (levels .entry)) (mostFluents * j + f) (pos 0)) ⌝ }
+{
+    let mut old = [0i32; Counts::FLUENTS];
+    let mut f = 0;
+    while f < w {
+        old[f] = levels[Counts::FLUENTS * j + f] as i32;
+        f += 1;
+    }
+    old
+}
+
+fn put(new: &mut [i32; Counts::FLUENTS], f: u8, v: i32)
+    requires { ⌜ length (now new) ≡ mostFluents ⌝ }
+    ensures { λ _. ⌜ now (new .exit) ≡ set (now (new .entry)) f v ⌝ }
+{
+    let f = f as usize;
+    if f < Counts::FLUENTS {
+        new[f] = v;
+    }
+}
+
+// "Fluents that no law set keep their value": the settings over the old levels, the oldest first.
+pub fn new_levels(levels: &[i16], j: usize, w: usize, fluents: &[u8; Counts::LAWS], values: &[i32; Counts::LAWS], m: usize) -> [i32; Counts::FLUENTS]
+    requires { ⌜ (j ≤ mostSteps) × ((w ≤ mostFluents) × ((length (now levels) ≡ levelsSize) × (m ≤ mostLaws))) ⌝ }
+    ensures { λ r. ⌜ (length r ≡ mostFluents) × Laid w r (settingsOf m (now (fluents .entry)) (now (values .entry))) (stateAt w (now (levels .entry)) j) ⌝ }
+{
+    let mut new = old_levels(levels, j, w);
+    let mut i = 0;
+    while i < m {
+        put(&mut new, fluents[i], values[i]);
+        i += 1;
+    }
+    new
+}
+
+pub enum Fit {
+    Out,
+    In(i16),
+}
+
+fn fitted(lowest: i16, v: i32, highest: i16) -> Fit
+    ensures { λ r. ⌜ r ≡ fitOf lowest v highest ⌝ }
+{
+    if (lowest as i32) <= v {
+        if v <= (highest as i32) {
+            return Fit::In(v as i16);
+        }
+    }
+    Fit::Out
+}
+
+// 5: "each fluent by number, new value outside its range"; what is inside is stored as state j + 1.
+pub fn put_state(lowest: &[i16], highest: &[i16], w: usize, new: &[i32; Counts::FLUENTS], levels: &mut [i16], j: usize) -> Check
+    requires { ⌜ (j < mostSteps) × ((w ≤ mostFluents) × (((w ≤ length (now lowest)) × (w ≤ length (now highest))) × (length (now levels) ≡ levelsSize))) ⌝ }
+    ensures { λ r. ⌜ Kept j (now (levels .entry)) (now (levels .exit)) × ((d : Domain) (settings : List Setting) (old : State) → Ranged d (now (lowest .entry)) (now (highest .entry)) w → Laid w (now (new .entry)) settings old
+        → leaving r (stateAt w (now (levels .exit)) (j + 1)) ≡ ranged d (stateAfter d settings old)) ⌝ }
+{
+    let mut f = 0;
+    while f < w {
+        match fitted(lowest[f], new[f], highest[f]) {
+            Fit::Out => {
+                return Check::Failed(Fault::Range, f);
+            }
+            Fit::In(z) => {
+                levels[Counts::FLUENTS * (j + 1) + f] = z;
+            }
+        }
+        f += 1;
+    }
+    Check::Passed
+}

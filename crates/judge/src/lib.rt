@@ -1,0 +1,17 @@
+// The judge: the six checks of a step in the paper's order, the run over the steps, the goals, and the states that were reached.
+// It reads a store through `index` (made by `domain`), laws through `law`; `session`, the program and the desk stand on it.
+mod acting;
+mod checks;
+mod effects;
+mod judgement;
+mod knowledge;
+mod landing;
+mod reading;
+mod states;
+mod steps;
+mod verdict;
+
+pub use judgement::judge;
+pub use verdict::Fault;
+pub use verdict::Judgement;
+pub use verdict::Verdict;

@@ -1,0 +1,43 @@
+// What a judgement answers; `kindOf` and `verdictOf` in specs/ give the paper's numbers.
+use bmap::Refusal;
+
+// What is at fault.
+pub enum Fault {
+    // 1: an agent names an action but belongs to no occurring entry with that name
+    Misplaced,
+    // 2: an entry occurs, and none of its executability laws is true
+    Barred,
+    // 3: a concurrency law is false
+    Concurrency,
+    // 4: an effect law sets another value than an earlier one
+    Conflict,
+    // 5: a fluent leaves its range
+    Range,
+    // 6: a static law is false
+    Static,
+    // 7: a law has no value
+    NoValue,
+    // 8: a goal law is false
+    Goal,
+}
+
+// "A verdict is Accepted, or Broken with kind, step and number."
+pub enum Verdict {
+    Accepted,
+    Broken {
+        fault: Fault,
+        step: usize,
+        number: usize,
+    },
+}
+
+pub enum Judgement {
+    Refused(Refusal),
+    Judged(Verdict),
+}
+
+// What one check of a step answers: nothing wrong, or the first fault and its number.
+pub enum Check {
+    Passed,
+    Failed(Fault, usize),
+}

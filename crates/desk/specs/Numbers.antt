@@ -4,6 +4,7 @@ use Prim.Native.Nat.{ℕ, _+_, _*_, _%_, _^_}
 use mathlib.Core.Option.{Option, none, some}
 use Rattle.bmap.specs.Refusal.{Answer, got, refused}
 use Rattle.bmap.specs.Accept.{Reading, read, refusedAt}
+use Rattle.bmap.specs.Judge.{Verdict, accepted, broken}
 use Rattle.bmap.specs.Session.{Changed}
 use Rattle.bmap.specs.declared.session.Session.{Session}
 
@@ -20,6 +21,16 @@ readNumber (refusedAt number line) = halves number line
 abbrev pub writtenNumber : Answer ℕ → ℕ
 writtenNumber (got count) = halves 0 count
 writtenNumber (refused number) = halves number 0
+
+-- a verdict: 0 for accepted, else kind, step and number, 8 bits for each of the last two
+abbrev pub verdictNumber : Verdict → ℕ
+verdictNumber accepted = 0
+verdictNumber (broken kind step number) = kind * 2 ^ 16 + step % 2 ^ 8 * 2 ^ 8 + number % 2 ^ 8
+
+-- what the judge answers: the refusal in the upper half, or the verdict
+abbrev pub judgedNumber : Answer Verdict → ℕ
+judgedNumber (got verdict) = verdictNumber verdict
+judgedNumber (refused number) = halves number 0
 
 -- a frame's size, 0 where there is none
 abbrev pub sizeNumber : Option ℕ → ℕ

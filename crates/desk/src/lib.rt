@@ -2,6 +2,7 @@
 // Each answers by one number, whose meaning is a definition in specs/; the calls themselves stand in the crates below.
 mod domains;
 mod edits;
+mod judgements;
 mod number;
 mod sheets;
 
@@ -14,5 +15,6 @@ pub use edits::waroth_open;
 pub use edits::waroth_redo;
 pub use edits::waroth_strike;
 pub use edits::waroth_undo;
+pub use judgements::waroth_judge;
 pub use sheets::waroth_read_sheet;
 pub use sheets::waroth_write_sheet;

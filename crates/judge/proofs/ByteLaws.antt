@@ -78,14 +78,16 @@ effect-last n i p c u s v h (f ∷ r) d {l} e {k} q =
     let b = only-some (ltb f (n .fluents)) (exprIn (context n true) r (λ x. last (effect i c f x))) e in
     let t = taken-some (allowedE (context n true)) r (parseE mostDepth r) (λ x. last (effect i c f x)) (b .1) in
     let here : drop (s .used) p ≡ f ∷ r = ap (λ (m : ℕ). drop m p) v ∙ d in
-    subst (λ (m : Law). Spelt n k (i ∷ p) m) (last-some (effect i c f (t .tree)) (drop (t .used) r) (t .rest))
-    (q, record {
-      entry = refl;
-      known = h;
-      con = s;
-      fluent = sym (ap (λ (m : List ℕ). getD m 0 0) here);
-      expr = record { used = t .used; read = ap (λ (m : List ℕ). parseE mostDepth (drop 1 m)) here ∙ t .read; fit = t .fit };
-    })
+    subst (λ (m : Law). Spelt n k (i ∷ p) m) (last-some (effect i c f (t .tree)) (drop (t .used) r) (t .rest)) (
+      q,
+      record {
+        entry = refl;
+        known = h;
+        con = s;
+        fluent = sym (ap (λ (m : List ℕ). getD m 0 0) here);
+        expr = record { used = t .used; read = ap (λ (m : List ℕ). parseE mostDepth (drop 1 m)) here ∙ t .read; fit = t .fit };
+      },
+    )
 
 effect-spelt : (n : Counts) (k : ℕ) (p : List ℕ) {l : Law} → k ≡ 0xA6 → effectIn n p ≡ some l → Spelt n k p l
 unfolding effectIn

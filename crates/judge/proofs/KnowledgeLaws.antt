@@ -49,7 +49,7 @@ module _ (d : Domain) (table : List ℕ) (w : ℕ) (crews : List ℕ) (agents : 
   known-is f h =
       shares agents cut (getD table f 0) (mod-lt (getD crews e 0) (pow-pos agents))
       ∙ (any-same (λ a. both (has cut a) (has (getD table f 0) a)) (λ a. both (has (entryAt d e .crew) a) (knows d a f)) 0 agents
-        (λ a p q. ap (λ (t : Bool). both t (has (getD table f 0) a)) (crew-is a (omega arith)) ∙ ap (λ (t : Bool). both (has (entryAt d e .crew) a) t) (knowing .knowers f a h))
+      (λ a p q. ap (λ (t : Bool). both t (has (getD table f 0) a)) (crew-is a (omega arith)) ∙ ap (λ (t : Bool). both (has (entryAt d e .crew) a) t) (knowing .knowers f a h))
       ∙ ap (λ (n : ℕ). any (λ a. both (has (entryAt d e .crew) a) (knows d a f)) (numbers 0 n)) (sym (knowing .count)))
 
   -- a constraint names only known fluents
@@ -59,7 +59,7 @@ module _ (d : Domain) (table : List ℕ) (w : ℕ) (crews : List ℕ) (agents : 
   readable-is c used {o} {mask} q fit m =
       ap (namesOnly mask) q
       ∙ same-named (context (countsOf d) true) (bit mask) (knownTo d (entryAt d e))
-        (λ f p. let h : f < w = subst (λ (k : ℕ). f < k) (knowing .fluents) p in ap (λ (k : ℕ). has k f) m ∙ (mask-bit (shared cut table) 0 w f h ∙ (ap (shared cut table) (let z : 0 + f ≡ f = omega arith in z) ∙ known-is f h))) c fit
+      (λ f p. let h : f < w = subst (λ (k : ℕ). f < k) (knowing .fluents) p in ap (λ (k : ℕ). has k f) m ∙ (mask-bit (shared cut table) 0 w f h ∙ (ap (shared cut table) (let z : 0 + f ≡ f = omega arith in z) ∙ known-is f h))) c fit
 
 -- the owner of a law, by its kind
 pub owner-other : (d : Domain) (frame : List ℕ) (l : Law) → Says d frame l → (getD frame 0 0 ≡ 0xA5 → ⊥) → 255 ≡ ownerOf d l

@@ -123,6 +123,7 @@ all-from p i (suc n) k h q e = elim (decLt i k) [
     first : (s t : Bool) → both s t ≡ true → s ≡ true
     first true t e = refl
     first false t e = e
+
     second : (s t : Bool) → both s t ≡ true → t ≡ true
     second true t e = e
     second false t e = let z : _≡_ {A = ℕ} 0 1 = cc in absurd (omega arith)

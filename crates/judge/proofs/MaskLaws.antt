@@ -83,7 +83,7 @@ module _ (p : ℕ → Bool) where
   mask-bit i (suc n) (suc e) h =
       let z : (maskFrom p (suc i) n * 2 + flagOf (p i)) / 2 ≡ maskFrom p (suc i) n = omega (arith, flag-lt (p i)) in
       let y : (maskFrom p (suc i) n * 2 + flagOf (p i)) / 2 ^ suc e ≡ maskFrom p (suc i) n / 2 ^ e =
-          ap (λ (k : ℕ). (maskFrom p (suc i) n * 2 + flagOf (p i)) / 2 ^ k) (let w : suc e ≡ 1 + e = omega arith in w) ∙ (sym (shr-shr (maskFrom p (suc i) n * 2 + flagOf (p i)) 1 e) ∙ ap (λ (k : ℕ). k / 2 ^ e) z) in
+      ap (λ (k : ℕ). (maskFrom p (suc i) n * 2 + flagOf (p i)) / 2 ^ k) (let w : suc e ≡ 1 + e = omega arith in w) ∙ (sym (shr-shr (maskFrom p (suc i) n * 2 + flagOf (p i)) 1 e) ∙ ap (λ (k : ℕ). k / 2 ^ e) z) in
       ap (λ (k : ℕ). eqb (k % 2) 1) y ∙ (mask-bit (suc i) n e (omega arith) ∙ ap p (omega arith))
 
 module _ (p : ℕ → Bool) (masks : List ℕ) where
@@ -184,9 +184,9 @@ shares (suc n) x y h =
     ∙ (some-bit (bitAnd (x / 2) (y / 2)) (min (x % 2) (y % 2)) (omega arith)
     ∙ (ap (λ (t : Bool). either t (not (eqb (bitAnd (x / 2) (y / 2)) 0))) (min-bit (x % 2) (y % 2) (omega arith) (omega arith) ∙ (ap (λ (t : Bool). both t (eqb (y % 2) 1)) (first-bit x) ∙ ap (λ (t : Bool). both (has x 0) t) (first-bit y)))
     ∙ ap (λ (t : Bool). either (both (has x 0) (has y 0)) t)
-      (shares n (x / 2) (y / 2) (omega (arith, pow-suc (λ k. true) n))
-      ∙ (any-same (λ a. both (has (x / 2) a) (has (y / 2) a)) (λ a. both (has x (suc a)) (has y (suc a))) 0 n (λ k p q. ap (λ (t : Bool). both t (has (y / 2) k)) (sym (next-bit x k)) ∙ ap (λ (t : Bool). both (has x (suc k)) t) (sym (next-bit y k)))
-      ∙ sym (any-next (λ a. both (has x a) (has y a)) 0 n)))))
+    (shares n (x / 2) (y / 2) (omega (arith, pow-suc (λ k. true) n))
+    ∙ (any-same (λ a. both (has (x / 2) a) (has (y / 2) a)) (λ a. both (has x (suc a)) (has y (suc a))) 0 n (λ k p q. ap (λ (t : Bool). both t (has (y / 2) k)) (sym (next-bit x k)) ∙ ap (λ (t : Bool). both (has x (suc k)) t) (sym (next-bit y k)))
+    ∙ sym (any-next (λ a. both (has x a) (has y a)) 0 n)))))
 
 -- a bit below the cut is kept
 pub cut-bit : (x n a : ℕ) → a < n → has (x % 2 ^ n) a ≡ has x a

@@ -34,6 +34,7 @@ module _ (x : Context) (h h′ : History) (j : ℕ)
 
   mutual
     unfolding allowedE allowedC evalE evalC
+
     pub same-value : (a : Expr) → allowedE x a ≡ true → evalE a h j ≡ evalE a h′ j
     same-value (constant z) e = refl
     same-value (fluent f t) e = ap value (level (j - t) f (omega arith) (ltb-true f (x .fluents) (both-first (ltb f (x .fluents)) (leb t mostLag) e)))
@@ -53,7 +54,7 @@ module _ (x : Context) (h h′ : History) (j : ℕ)
     same-truth (negated a) e = ap (λ (v : Valued Bool). with1 (λ y. value (not y)) v) (same-truth a e)
     same-truth (occurs i t) e =
         ap value (step-seen (leb t j) i t (both-first (x .occurrences) (both (ltb i (x .entries)) (leb t mostLag)) e)
-          (ltb-true i (x .entries) (both-first (ltb i (x .entries)) (leb t mostLag) (both-second (x .occurrences) (both (ltb i (x .entries)) (leb t mostLag)) e))) refl)
+        (ltb-true i (x .entries) (both-first (ltb i (x .entries)) (leb t mostLag) (both-second (x .occurrences) (both (ltb i (x .entries)) (leb t mostLag)) e))) refl)
     same-truth always e = refl
 
 -- ---- the fluents that a tree names are known ones
@@ -73,6 +74,7 @@ module _ (x : Context) (p q : ℕ → Bool) (same : (f : ℕ) → f < x .fluents
 
   mutual
     unfolding allowedE allowedC namedE namedC all
+
     pub same-named-E : (a : Expr) → allowedE x a ≡ true → all p (namedE a) ≡ all q (namedE a)
     same-named-E (constant z) e = refl
     same-named-E (fluent f t) e = ap (λ (s : Bool). both s true) (same f (ltb-true f (x .fluents) (both-first (ltb f (x .fluents)) (leb t mostLag) e)))

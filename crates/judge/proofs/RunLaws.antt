@@ -74,7 +74,7 @@ module _ (d : Domain) (names : Names) (actions crews : List ℕ) (count : ℕ) (
       ap (any (carries d names a (getD names a 0))) entered
       ∙ (any-map (carries d names a (getD names a 0)) entry 0 count
       ∙ (any-same (λ k. carries d names a (getD names a 0) (entry k)) (λ k. both (joinsAt names actions crews k) (has (getD crews k 0) a)) 0 count
-        (λ k p q. named a (entry k) h (occursIn d names (entry k)) refl (has (getD crews k 0) a) refl ∙ ap (λ (t : Bool). both t (has (getD crews k 0) a)) (sym (joins-is k)))
+      (λ k p q. named a (entry k) h (occursIn d names (entry k)) refl (has (getD crews k 0) a) refl ∙ ap (λ (t : Bool). both t (has (getD crews k 0) a)) (sym (joins-is k)))
       ∙ (sym (union-bit (joinsAt names actions crews) crews 0 count a) ∙ ap (λ (k : ℕ). has k a) (sym m))))
 
 -- the masks with one step more

@@ -7,7 +7,6 @@ ghost use Rattle.bmap.specs.Plain.{if-else};
 ghost use Rattle.bmap.specs.Limits.{mostAgents, mostEntries};
 ghost use Rattle.bmap.specs.Domain.{has};
 ghost use Rattle.judge.specs.Masks.{flagOf, joins, actingOf};
-
 use bmap::Counts;
 
 pub struct Acting {
@@ -27,7 +26,11 @@ pub fn has_agent(mask: u16, a: usize) -> bool
 pub fn has_entry(mask: u64, i: usize) -> bool
     ensures { λ r. ⌜ r ≡ has mask i ⌝ }
 {
-    if i < Counts::ENTRIES { (mask >> i) % 2 == 1 } else { false }
+    if i < Counts::ENTRIES {
+        (mask >> i) % 2 == 1
+    } else {
+        false
+    }
 }
 
 // The mask, moved up by one, with a new lowest bit.

@@ -11,7 +11,6 @@ ghost use Rattle.bmap.specs.Judge.{each, placed, permits, permitted, mayOccur, 
 ghost use Rattle.number.specs.Answer.{truthOf};
 ghost use Rattle.judge.specs.Answer.{passOf, kindOf};
 ghost use Rattle.judge.specs.Told.{Belonging, Occurring, Says, Lawful, Owned, Within, Seen, lawNumber, scopeKind};
-
 use crate::acting::has_agent;
 use crate::acting::has_entry;
 use crate::reading::EXECUTABLE;
@@ -41,7 +40,16 @@ pub fn check_agents(names: &[u8], agents: u16) -> Check
 }
 
 // What one law says for entry i: the owners' table has the laws that its crew may read.
-fn try_law(store: &[u8], laws: &[u16], owners: &[u8], levels: &[i16], occurred: &[u64], j: usize, i: usize, l: usize) -> Truth
+fn try_law(
+    store: &[u8],
+    laws: &[u16],
+    owners: &[u8],
+    levels: &[i16],
+    occurred: &[u64],
+    j: usize,
+    i: usize,
+    l: usize,
+) -> Truth
     requires { ⌜ i < mostEntries ⌝ }
     ensures { λ r. ⌜ ((d : Domain) (h : History) (n : ℕ) → Lawful d (now (store .entry)) (now (laws .entry)) n → l < n → Owned d (now (owners .entry)) → Seen true d h (now (levels .entry)) (now (occurred .entry)) j
         → truthOf r ≡ permits d h j i (lawNumber d l)) ⌝ }
@@ -53,7 +61,17 @@ fn try_law(store: &[u8], laws: &[u16], owners: &[u8], levels: &[i16], occurred: 
 }
 
 // "its A5 laws in order until one is true": entry i.
-fn check_entry(store: &[u8], laws: &[u16], owners: &[u8], from: usize, to: usize, levels: &[i16], occurred: &[u64], j: usize, i: usize) -> Check
+fn check_entry(
+    store: &[u8],
+    laws: &[u16],
+    owners: &[u8],
+    from: usize,
+    to: usize,
+    levels: &[i16],
+    occurred: &[u64],
+    j: usize,
+    i: usize,
+) -> Check
     requires { ⌜ i < mostEntries ⌝ }
     ensures { λ r. ⌜ ((d : Domain) (h : History) (n : ℕ) → Lawful d (now (store .entry)) (now (laws .entry)) n → Within (now (store .entry)) (now (laws .entry)) n 0xA5 from to → Owned d (now (owners .entry))
         → Seen true d h (now (levels .entry)) (now (occurred .entry)) j → passOf r ≡ permitted d h j i 0 (d .laws)) ⌝ }
@@ -76,7 +94,18 @@ fn check_entry(store: &[u8], laws: &[u16], owners: &[u8], from: usize, to: usize
 }
 
 // 2: "each occurring entry by number".
-pub fn check_entries(store: &[u8], laws: &[u16], owners: &[u8], from: usize, to: usize, entries: u64, count: usize, levels: &[i16], occurred: &[u64], j: usize) -> Check
+pub fn check_entries(
+    store: &[u8],
+    laws: &[u16],
+    owners: &[u8],
+    from: usize,
+    to: usize,
+    entries: u64,
+    count: usize,
+    levels: &[i16],
+    occurred: &[u64],
+    j: usize,
+) -> Check
     requires { ⌜ count ≤ mostEntries ⌝ }
     ensures { λ r. ⌜ ((d : Domain) (h : History) (n : ℕ) (names : Names) → Lawful d (now (store .entry)) (now (laws .entry)) n → Within (now (store .entry)) (now (laws .entry)) n 0xA5 from to → Owned d (now (owners .entry))
         → Occurring d names entries → length (d .entries) ≡ count → Seen true d h (now (levels .entry)) (now (occurred .entry)) j → passOf r ≡ each (mayOccur d h j names) (d .entries)) ⌝ }
@@ -84,7 +113,17 @@ pub fn check_entries(store: &[u8], laws: &[u16], owners: &[u8], from: usize, to:
     let mut i = 0;
     while i < count {
         if has_entry(entries, i) {
-            if let Check::Failed(fault, n) = check_entry(store, laws, owners, from, to, levels, occurred, j, i) {
+            if let Check::Failed(fault, n) = check_entry(
+                store,
+                laws,
+                owners,
+                from,
+                to,
+                levels,
+                occurred,
+                j,
+                i,
+            ) {
                 return Check::Failed(fault, n);
             }
         }
@@ -94,7 +133,15 @@ pub fn check_entries(store: &[u8], laws: &[u16], owners: &[u8], from: usize, to:
 }
 
 // A law of the scope whose kind is asked for, false: that fault.
-fn check_law(frame: &[u8], kind: u8, fault: Fault, levels: &[i16], occurred: &[u64], j: usize, l: usize) -> Check
+fn check_law(
+    frame: &[u8],
+    kind: u8,
+    fault: Fault,
+    levels: &[i16],
+    occurred: &[u64],
+    j: usize,
+    l: usize,
+) -> Check
     ensures { λ r. ⌜ ((d : Domain) (h : History) (s : Scope) (law : Law) → kind ≡ scopeKind s → Says d (now (frame .entry)) law → Seen (asks s) d h (now (levels .entry)) (now (occurred .entry)) j
         → passOf r ≡ holds s (kindOf fault) h j l law) ⌝ }
 {
@@ -113,13 +160,31 @@ fn check_law(frame: &[u8], kind: u8, fault: Fault, levels: &[i16], occurred: &[u
 }
 
 // 3, 6 and the goals: each law of a kind in order.
-pub fn check_laws(store: &[u8], laws: &[u16], from: usize, to: usize, kind: u8, fault: Fault, levels: &[i16], occurred: &[u64], j: usize) -> Check
+pub fn check_laws(
+    store: &[u8],
+    laws: &[u16],
+    from: usize,
+    to: usize,
+    kind: u8,
+    fault: Fault,
+    levels: &[i16],
+    occurred: &[u64],
+    j: usize,
+) -> Check
     ensures { λ r. ⌜ ((d : Domain) (h : History) (s : Scope) (n : ℕ) → kind ≡ scopeKind s → Lawful d (now (store .entry)) (now (laws .entry)) n → Within (now (store .entry)) (now (laws .entry)) n kind from to
         → Seen (asks s) d h (now (levels .entry)) (now (occurred .entry)) j → passOf r ≡ allHold s (kindOf fault) d h j) ⌝ }
 {
     let mut l = from;
     while l < to {
-        if let Check::Failed(found, n) = check_law(law_at(store, laws, l), kind, fault, levels, occurred, j, l) {
+        if let Check::Failed(found, n) = check_law(
+            law_at(store, laws, l),
+            kind,
+            fault,
+            levels,
+            occurred,
+            j,
+            l,
+        ) {
             return Check::Failed(found, n);
         }
         l += 1;

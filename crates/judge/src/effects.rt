@@ -12,7 +12,6 @@ ghost use Rattle.bmap.specs.Meaning.{History};
 ghost use Rattle.bmap.specs.Judge.{settled};
 ghost use Rattle.judge.specs.Told.{Lawful, Within, Occurring, Seen};
 ghost use Rattle.judge.specs.Settings.{settledOf, countOf};
-
 use crate::reading::Wants;
 use crate::reading::wanted;
 use crate::verdict::Fault;
@@ -36,7 +35,18 @@ pub fn same_level(a: i32, b: i32) -> bool
 
 // The settings go to the front of two arrays, the oldest first. "a value differing from an earlier one for the same fluent:
 // kind 4, the later law": the exit with a label carries that law.
-pub fn settle(store: &[u8], laws: &[u16], from: usize, to: usize, entries: u64, levels: &[i16], occurred: &[u64], j: usize, fluents: &mut [u8; Counts::LAWS], values: &mut [i32; Counts::LAWS]) -> Settled
+pub fn settle(
+    store: &[u8],
+    laws: &[u16],
+    from: usize,
+    to: usize,
+    entries: u64,
+    levels: &[i16],
+    occurred: &[u64],
+    j: usize,
+    fluents: &mut [u8; Counts::LAWS],
+    values: &mut [i32; Counts::LAWS],
+) -> Settled
     requires { ⌜ (to ≤ mostLaws) × ((length (now fluents) ≡ mostLaws) × (length (now values) ≡ mostLaws)) ⌝ }
     ensures { λ r. ⌜ (countOf r ≤ mostLaws) × ((d : Domain) (h : History) (n : ℕ) (names : Names) → Lawful d (now (store .entry)) (now (laws .entry)) n → Within (now (store .entry)) (now (laws .entry)) n 0xA6 from to
         → Occurring d names entries → Seen true d h (now (levels .entry)) (now (occurred .entry)) j → settledOf r (now (fluents .exit)) (now (values .exit)) ≡ settled d h j names 0 [] (d .laws)) ⌝ }

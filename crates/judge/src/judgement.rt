@@ -11,7 +11,6 @@ ghost use Rattle.bmap.specs.Verdict.{judgement, judgeSheet};
 ghost use Rattle.index.specs.Index.{domainOf, Sound};
 ghost use Rattle.judge.specs.Answer.{answerOf};
 ghost use Rattle.judge.specs.Prepared.{judgedOf};
-
 use crate::knowledge::all_knowers;
 use crate::knowledge::all_owners;
 use crate::reading::all_runs;
@@ -37,13 +36,37 @@ fn judge_steps(store: &[u8], index: Index, sheet: &[u8], n: usize, levels: &mut 
     let knowers = index.knowers;
     let crews = index.crews;
     let table = all_knowers(&known, &knowers, counts.knowledge, counts.fluents);
-    let owners = all_owners(store, &laws, counts.laws, &table, counts.fluents, &crews, counts.agents);
+    let owners = all_owners(
+        store,
+        &laws,
+        counts.laws,
+        &table,
+        counts.fluents,
+        &crews,
+        counts.agents,
+    );
     let runs = all_runs(store, &laws, counts.laws);
     let start = index.start;
     let lowest = index.lowest;
     let highest = index.highest;
     let names = index.names;
-    run_sheet(store, &laws, &owners, runs, &start, &lowest, &highest, counts.fluents, &names, &crews, counts.entries, counts.agents, sheet, n, levels)
+    run_sheet(
+        store,
+        &laws,
+        &owners,
+        runs,
+        &start,
+        &lowest,
+        &highest,
+        counts.fluents,
+        &names,
+        &crews,
+        counts.entries,
+        counts.agents,
+        sheet,
+        n,
+        levels,
+    )
 }
 
 // By an index: "8, 9", then the states go to the caller's buffer once.

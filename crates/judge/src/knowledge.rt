@@ -10,7 +10,6 @@ ghost use Rattle.bmap.specs.Limits.{mostAgents, mostFluents, mostLaws};
 ghost use Rattle.bmap.specs.Domain.{Domain, Law};
 ghost use Rattle.judge.specs.Masks.{unionFrom, maskFrom};
 ghost use Rattle.judge.specs.Told.{Says, Lawful, Owned, Knowing, ownerOf};
-
 use crate::acting::pushed;
 use crate::acting::taken_in;
 use crate::reading::EXECUTABLE;
@@ -89,7 +88,13 @@ fn crew_of(crews: &[u16], e: u8, agents: usize) -> u16
 }
 
 // The entry of an executability law that its crew may read.
-fn owner_of(frame: &[u8], table: &[u16; Counts::FLUENTS], w: usize, crews: &[u16], agents: usize) -> u8
+fn owner_of(
+    frame: &[u8],
+    table: &[u16; Counts::FLUENTS],
+    w: usize,
+    crews: &[u16],
+    agents: usize,
+) -> u8
     requires { ⌜ (w ≤ mostFluents) × ((length (now table) ≡ mostFluents) × (agents ≤ mostAgents)) ⌝ }
     ensures { λ r. ⌜ ((d : Domain) (l : Law) → Says d (now (frame .entry)) l → Knowing d (now (table .entry)) w (now (crews .entry)) agents → r ≡ ownerOf d l) ⌝ }
 {
@@ -104,7 +109,15 @@ fn owner_of(frame: &[u8], table: &[u16; Counts::FLUENTS], w: usize, crews: &[u16
 }
 
 // The owner of each law.
-pub fn all_owners(store: &[u8], laws: &[u16], n: usize, table: &[u16; Counts::FLUENTS], w: usize, crews: &[u16], agents: usize) -> [u8; Counts::LAWS]
+pub fn all_owners(
+    store: &[u8],
+    laws: &[u16],
+    n: usize,
+    table: &[u16; Counts::FLUENTS],
+    w: usize,
+    crews: &[u16],
+    agents: usize,
+) -> [u8; Counts::LAWS]
     requires { ⌜ (n ≤ mostLaws) × ((w ≤ mostFluents) × ((length (now table) ≡ mostFluents) × (agents ≤ mostAgents))) ⌝ }
     ensures { λ r. ⌜ (length r ≡ mostLaws) × ((d : Domain) → Lawful d (now (store .entry)) (now (laws .entry)) n → Knowing d (now (table .entry)) w (now (crews .entry)) agents → Owned d r) ⌝ }
 {

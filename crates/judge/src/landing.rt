@@ -10,7 +10,6 @@ ghost use Rattle.bmap.specs.Judge.{Setting, levelAfter, stateAfter};
 ghost use Rattle.judge.specs.States.{stateAt, leaving, Kept};
 ghost use Rattle.judge.specs.Settings.{settingsOf};
 ghost use Rattle.judge.specs.Landing.{Ranged, Laid, ranged, fitOf};
-
 use crate::verdict::Check;
 use crate::verdict::Fault;
 use bmap::Counts;
@@ -40,7 +39,14 @@ fn put(new: &mut [i32; Counts::FLUENTS], f: u8, v: i32)
 }
 
 // "Fluents that no law set keep their value": the settings over the old levels, the oldest first.
-pub fn new_levels(levels: &[i16], j: usize, w: usize, fluents: &[u8; Counts::LAWS], values: &[i32; Counts::LAWS], m: usize) -> [i32; Counts::FLUENTS]
+pub fn new_levels(
+    levels: &[i16],
+    j: usize,
+    w: usize,
+    fluents: &[u8; Counts::LAWS],
+    values: &[i32; Counts::LAWS],
+    m: usize,
+) -> [i32; Counts::FLUENTS]
     requires { ⌜ (j ≤ mostSteps) × ((w ≤ mostFluents) × ((length (now levels) ≡ levelsSize) × (m ≤ mostLaws))) ⌝ }
     ensures { λ r. ⌜ (length r ≡ mostFluents) × Laid w r (settingsOf m (now (fluents .entry)) (now (values .entry))) (stateAt w (now (levels .entry)) j) ⌝ }
 {
@@ -70,7 +76,14 @@ fn fitted(lowest: i16, v: i32, highest: i16) -> Fit
 }
 
 // 5: "each fluent by number, new value outside its range"; what is inside is stored as state j + 1.
-pub fn put_state(lowest: &[i16], highest: &[i16], w: usize, new: &[i32; Counts::FLUENTS], levels: &mut [i16], j: usize) -> Check
+pub fn put_state(
+    lowest: &[i16],
+    highest: &[i16],
+    w: usize,
+    new: &[i32; Counts::FLUENTS],
+    levels: &mut [i16],
+    j: usize,
+) -> Check
     requires { ⌜ (j < mostSteps) × ((w ≤ mostFluents) × (((w ≤ length (now lowest)) × (w ≤ length (now highest))) × (length (now levels) ≡ levelsSize))) ⌝ }
     ensures { λ r. ⌜ Kept j (now (levels .entry)) (now (levels .exit)) × ((d : Domain) (settings : List Setting) (old : State) → Ranged d (now (lowest .entry)) (now (highest .entry)) w → Laid w (now (new .entry)) settings old
         → leaving r (stateAt w (now (levels .exit)) (j + 1)) ≡ ranged d (stateAfter d settings old)) ⌝ }

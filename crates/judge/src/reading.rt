@@ -12,7 +12,6 @@ ghost use Rattle.number.specs.Answer.{truthOf};
 ghost use Rattle.judge.specs.Settings.{settingFrom};
 ghost use Rattle.judge.specs.Told.{Says, Seen, Occurring, Within, Ordered, frameOf, conOf, placeOf, asksOf};
 ghost use Rattle.judge.specs.Answer.{wantsOf};
-
 use crate::acting::has_entry;
 use index::law_at;
 use law::Evaluated;
@@ -22,9 +21,13 @@ use number::Value;
 
 // The kinds of laws.
 pub const EXECUTABLE: u8 = 0xA5;
+
 pub const EFFECT: u8 = 0xA6;
+
 pub const STATIC: u8 = 0xA7;
+
 pub const CONCURRENCY: u8 = 0xA8;
+
 pub const GOAL: u8 = 0xA9;
 
 pub fn byte(s: &[u8], i: usize) -> u8

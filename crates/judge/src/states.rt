@@ -8,7 +8,6 @@ ghost use Rattle.bmap.specs.Plain.{flat};
 ghost use Rattle.bmap.specs.Limits.{mostFluents, mostSteps, levelsSize};
 ghost use Rattle.bmap.specs.Buffer.{over};
 ghost use Rattle.judge.specs.States.{statesOf};
-
 use bmap::Counts;
 
 // So many levels, from a place of one buffer to a place of another.

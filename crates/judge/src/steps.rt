@@ -11,7 +11,6 @@ ghost use Rattle.judge.specs.Answer.{verdictOf};
 ghost use Rattle.judge.specs.States.{stateAt, statesOf, leaving, Kept};
 ghost use Rattle.judge.specs.Told.{Belonging, Occurring, Acted};
 ghost use Rattle.judge.specs.Prepared.{Prepared, Entered, landed, judgedOf};
-
 use crate::acting::Acting;
 use crate::acting::who_acts;
 use crate::checks::check_agents;
@@ -25,15 +24,26 @@ use crate::reading::CONCURRENCY;
 use crate::reading::GOAL;
 use crate::reading::Runs;
 use crate::reading::STATIC;
+use crate::states::copy_levels;
 use crate::verdict::Check;
 use crate::verdict::Fault;
 use crate::verdict::Verdict;
-use crate::states::copy_levels;
 use bmap::Counts;
 use bmap::Sheet;
 
 // Checks 4 to 6: what the effect laws set, the new state as state j + 1, the static laws on it.
-fn land(store: &[u8], laws: &[u16], runs: Runs, lowest: &[i16], highest: &[i16], w: usize, entries: u64, occurred: &[u64], levels: &mut [i16], j: usize) -> Check
+fn land(
+    store: &[u8],
+    laws: &[u16],
+    runs: Runs,
+    lowest: &[i16],
+    highest: &[i16],
+    w: usize,
+    entries: u64,
+    occurred: &[u64],
+    levels: &mut [i16],
+    j: usize,
+) -> Check
     requires { ⌜ ((j < mostSteps) × (runs .effect .to ≤ mostLaws)) × ((w ≤ mostFluents) × (((w ≤ length (now lowest)) × (w ≤ length (now highest))) × (length (now levels) ≡ levelsSize))) ⌝ }
     ensures { λ r. ⌜ Kept j (now (levels .entry)) (now (levels .exit)) × ((d : Domain) (owners : List ℕ) (n count : ℕ) (sheet : List Names) (names : Names)
         → Prepared d (now (store .entry)) (now (laws .entry)) owners n runs (now (lowest .entry)) (now (highest .entry)) w count → Occurring d names entries → Acted d sheet (now (occurred .entry)) (j + 1)
@@ -42,7 +52,18 @@ fn land(store: &[u8], laws: &[u16], runs: Runs, lowest: &[i16], highest: &[i16],
     let mut fluents = [0u8; Counts::LAWS];
     let mut values = [0i32; Counts::LAWS];
     let effect = runs.effect;
-    match settle(store, laws, effect.from, effect.to, entries, levels, occurred, j, &mut fluents, &mut values) {
+    match settle(
+        store,
+        laws,
+        effect.from,
+        effect.to,
+        entries,
+        levels,
+        occurred,
+        j,
+        &mut fluents,
+        &mut values,
+    ) {
         Settled::Clash(fault, n) => Check::Failed(fault, n),
         Settled::Count(m) => {
             let new = new_levels(levels, j, w, &fluents, &values, m);
@@ -50,13 +71,37 @@ fn land(store: &[u8], laws: &[u16], runs: Runs, lowest: &[i16], highest: &[i16],
                 return Check::Failed(fault, n);
             }
             let fixed = runs.fixed;
-            check_laws(store, laws, fixed.from, fixed.to, STATIC, Fault::Static, levels, occurred, j + 1)
+            check_laws(
+                store,
+                laws,
+                fixed.from,
+                fixed.to,
+                STATIC,
+                Fault::Static,
+                levels,
+                occurred,
+                j + 1,
+            )
         }
     }
 }
 
 // The step from state j: "First fault wins."
-fn take_step(store: &[u8], laws: &[u16], owners: &[u8], runs: Runs, lowest: &[i16], highest: &[i16], w: usize, count: usize, names: &[u8], acting: Acting, occurred: &[u64], levels: &mut [i16], j: usize) -> Check
+fn take_step(
+    store: &[u8],
+    laws: &[u16],
+    owners: &[u8],
+    runs: Runs,
+    lowest: &[i16],
+    highest: &[i16],
+    w: usize,
+    count: usize,
+    names: &[u8],
+    acting: Acting,
+    occurred: &[u64],
+    levels: &mut [i16],
+    j: usize,
+) -> Check
     requires { ⌜ ((j < mostSteps) × (runs .effect .to ≤ mostLaws)) × (((length (now names) ≤ mostAgents) × (count ≤ mostEntries)) × ((w ≤ mostFluents) × (((w ≤ length (now lowest)) × (w ≤ length (now highest))) × (length (now levels) ≡ levelsSize)))) ⌝ }
     ensures { λ r. ⌜ Kept j (now (levels .entry)) (now (levels .exit)) × ((d : Domain) (n : ℕ) (sheet : List Names)
         → Prepared d (now (store .entry)) (now (laws .entry)) (now (owners .entry)) n runs (now (lowest .entry)) (now (highest .entry)) w count
@@ -67,14 +112,46 @@ fn take_step(store: &[u8], laws: &[u16], owners: &[u8], runs: Runs, lowest: &[i1
         return Check::Failed(fault, n);
     }
     let own = runs.executable;
-    if let Check::Failed(fault, n) = check_entries(store, laws, owners, own.from, own.to, acting.entries, count, levels, occurred, j) {
+    if let Check::Failed(fault, n) = check_entries(
+        store,
+        laws,
+        owners,
+        own.from,
+        own.to,
+        acting.entries,
+        count,
+        levels,
+        occurred,
+        j,
+    ) {
         return Check::Failed(fault, n);
     }
     let together = runs.concurrency;
-    if let Check::Failed(fault, n) = check_laws(store, laws, together.from, together.to, CONCURRENCY, Fault::Concurrency, levels, occurred, j) {
+    if let Check::Failed(fault, n) = check_laws(
+        store,
+        laws,
+        together.from,
+        together.to,
+        CONCURRENCY,
+        Fault::Concurrency,
+        levels,
+        occurred,
+        j,
+    ) {
         return Check::Failed(fault, n);
     }
-    land(store, laws, runs, lowest, highest, w, acting.entries, occurred, levels, j)
+    land(
+        store,
+        laws,
+        runs,
+        lowest,
+        highest,
+        w,
+        acting.entries,
+        occurred,
+        levels,
+        j,
+    )
 }
 
 // A verdict, and how many states were reached.
@@ -84,7 +161,23 @@ pub struct Ran {
 }
 
 // The steps in turn, from state 0 of the history; the masks of those that were taken are kept for code 29.
-fn run_steps(store: &[u8], laws: &[u16], owners: &[u8], runs: Runs, lowest: &[i16], highest: &[i16], w: usize, actions: &[u8], crews: &[u16], count: usize, agents: usize, sheet: &[u8], n: usize, levels: &mut [i16], occurred: &mut [u64]) -> Ran
+fn run_steps(
+    store: &[u8],
+    laws: &[u16],
+    owners: &[u8],
+    runs: Runs,
+    lowest: &[i16],
+    highest: &[i16],
+    w: usize,
+    actions: &[u8],
+    crews: &[u16],
+    count: usize,
+    agents: usize,
+    sheet: &[u8],
+    n: usize,
+    levels: &mut [i16],
+    occurred: &mut [u64],
+) -> Ran
     requires { ⌜ ((n ≤ mostSteps) × ((runs .effect .to ≤ mostLaws) × (length (now sheet) ≡ n * agents))) × (((agents ≤ mostAgents) × ((count ≤ mostEntries) × ((count ≤ length (now actions)) × (count ≤ length (now crews)))))
         × ((w ≤ mostFluents) × (((w ≤ length (now lowest)) × (w ≤ length (now highest))) × ((length (now levels) ≡ levelsSize) × (length (now occurred) ≡ mostSteps + 1))))) ⌝ }
     ensures { λ r. ⌜ ((r .reached ≤ n + 1) × ((verdictOf (r .verdict) ≡ accepted → r .reached ≡ n + 1) × (length (now (levels .exit)) ≡ levelsSize))) × ((d : Domain) (l : ℕ)
@@ -97,7 +190,21 @@ fn run_steps(store: &[u8], laws: &[u16], owners: &[u8], runs: Runs, lowest: &[i1
         let names = &rest[..agents];
         let acting = who_acts(names, actions, crews, count);
         occurred[j + 1] = acting.entries;
-        if let Check::Failed(fault, number) = take_step(store, laws, owners, runs, lowest, highest, w, count, names, acting, occurred, levels, j) {
+        if let Check::Failed(fault, number) = take_step(
+            store,
+            laws,
+            owners,
+            runs,
+            lowest,
+            highest,
+            w,
+            count,
+            names,
+            acting,
+            occurred,
+            levels,
+            j,
+        ) {
             return Ran {
                 verdict: Verdict::Broken {
                     fault,
@@ -117,7 +224,23 @@ fn run_steps(store: &[u8], laws: &[u16], owners: &[u8], runs: Runs, lowest: &[i1
 }
 
 // The static laws on state 0, the steps, the goals after the last.
-pub fn run_sheet(store: &[u8], laws: &[u16], owners: &[u8], runs: Runs, start: &[i16], lowest: &[i16], highest: &[i16], w: usize, actions: &[u8], crews: &[u16], count: usize, agents: usize, sheet: &[u8], n: usize, levels: &mut [i16]) -> Ran
+pub fn run_sheet(
+    store: &[u8],
+    laws: &[u16],
+    owners: &[u8],
+    runs: Runs,
+    start: &[i16],
+    lowest: &[i16],
+    highest: &[i16],
+    w: usize,
+    actions: &[u8],
+    crews: &[u16],
+    count: usize,
+    agents: usize,
+    sheet: &[u8],
+    n: usize,
+    levels: &mut [i16],
+) -> Ran
     requires { ⌜ ((n ≤ mostSteps) × ((runs .effect .to ≤ mostLaws) × (length (now sheet) ≡ n * agents))) × (((agents ≤ mostAgents) × ((count ≤ mostEntries) × ((count ≤ length (now actions)) × (count ≤ length (now crews)))))
         × ((w ≤ mostFluents) × (((w ≤ length (now lowest)) × (w ≤ length (now highest))) × ((w ≤ length (now start)) × (length (now levels) ≡ levelsSize))))) ⌝ }
     ensures { λ r. ⌜ ((r .reached ≤ mostSteps + 1) × (length (now (levels .exit)) ≡ levelsSize)) × ((d : Domain) (l : ℕ)
@@ -127,7 +250,17 @@ pub fn run_sheet(store: &[u8], laws: &[u16], owners: &[u8], runs: Runs, start: &
     let mut occurred = [0u64; Sheet::STEPS + 1];
     copy_levels(start, 0, w, levels, 0);
     let fixed = runs.fixed;
-    if let Check::Failed(fault, number) = check_laws(store, laws, fixed.from, fixed.to, STATIC, Fault::Static, levels, &occurred, 0) {
+    if let Check::Failed(fault, number) = check_laws(
+        store,
+        laws,
+        fixed.from,
+        fixed.to,
+        STATIC,
+        Fault::Static,
+        levels,
+        &occurred,
+        0,
+    ) {
         return Ran {
             verdict: Verdict::Broken {
                 fault,
@@ -137,13 +270,39 @@ pub fn run_sheet(store: &[u8], laws: &[u16], owners: &[u8], runs: Runs, start: &
             reached: 0,
         };
     }
-    let ran = run_steps(store, laws, owners, runs, lowest, highest, w, actions, crews, count, agents, sheet, n, levels, &mut occurred);
+    let ran = run_steps(
+        store,
+        laws,
+        owners,
+        runs,
+        lowest,
+        highest,
+        w,
+        actions,
+        crews,
+        count,
+        agents,
+        sheet,
+        n,
+        levels,
+        &mut occurred,
+    );
     let verdict = ran.verdict;
     let Verdict::Accepted = verdict else {
         return ran;
     };
     let goal = runs.goal;
-    if let Check::Failed(fault, number) = check_laws(store, laws, goal.from, goal.to, GOAL, Fault::Goal, levels, &occurred, n) {
+    if let Check::Failed(fault, number) = check_laws(
+        store,
+        laws,
+        goal.from,
+        goal.to,
+        GOAL,
+        Fault::Goal,
+        levels,
+        &occurred,
+        n,
+    ) {
         return Ran {
             verdict: Verdict::Broken {
                 fault,

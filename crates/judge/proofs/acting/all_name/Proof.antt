@@ -38,10 +38,13 @@ loop-less : tie.Need-loop-less Inv-loop μ-loop
 loop-less c = search needs
 
 loop-again : tie.Need-loop-again Inv-loop μ-loop
-loop-again c = let s = c .before .before .before .before .before .args in (search needs, c .before .before .before .loop .inv .1 ∙ all-on _ _ _ (c .before .before .loop-test .taken) (⊎-elim
+loop-again c = let s = c .before .before .before .before .before .args in (
+  search needs,
+  c .before .before .before .loop .inv .1 ∙ all-on _ _ _ (c .before .before .loop-test .taken) (⊎-elim
       (λ w. follows-in (s .names .now) (s .action) (s .crew) (c .before .before .before .loop .a) (c .before .has-agent .ensures) (w .0 .taken) (w .2 .left))
       (λ w. follows-out (s .names .now) (s .action) (s .crew) (c .before .before .before .loop .a) (c .before .has-agent .ensures) (w .left))
-      (c .if1 .came)))
+      (c .if1 .came)),
+)
 
 returns-2 : tie.Need-returns-2 Inv-loop μ-loop
 unfolding joins

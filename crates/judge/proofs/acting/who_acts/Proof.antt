@@ -53,9 +53,13 @@ loop-less : tie.Need-loop-less Inv-loop μ-loop
 loop-less c = search needs
 
 loop-again : tie.Need-loop-again Inv-loop μ-loop
-loop-again c = let s = c .before .before .before .before .before .before .before .before .before .before .before .args in let p = joinsAt (s .names .now) (s .actions .now) (s .crews .now) in
-    (omega arith, (c .before .before .pushed .ensures ∙ mask-more p (s .n) (c .before .before .before .before .before .before .before .loop .i) (c .before .before .before .before .before .before .loop-test .taken) (c .before .before .before .before .before .before .before .loop .inv .0) (c .before .before .before .before .before .before .before .loop .inv .1 .0) (c .before .before .before .all-name .ensures),
-    c .taken-in .ensures ∙ union-more p (s .crews .now) (s .n) (c .before .before .before .before .before .before .before .loop .i) (c .before .before .before .before .before .before .loop-test .taken) (c .before .before .before .before .before .before .before .loop .inv .0) (c .before .before .before .before .before .before .before .loop .inv .1 .1) refl (c .before .before .before .all-name .ensures)))
+loop-again c = let s = c .before .before .before .before .before .before .before .before .before .before .before .args in let p = joinsAt (s .names .now) (s .actions .now) (s .crews .now) in (
+  omega arith,
+  (
+    c .before .before .pushed .ensures ∙ mask-more p (s .n) (c .before .before .before .before .before .before .before .loop .i) (c .before .before .before .before .before .before .loop-test .taken) (c .before .before .before .before .before .before .before .loop .inv .0) (c .before .before .before .before .before .before .before .loop .inv .1 .0) (c .before .before .before .all-name .ensures),
+    c .taken-in .ensures ∙ union-more p (s .crews .now) (s .n) (c .before .before .before .before .before .before .before .loop .i) (c .before .before .before .before .before .before .loop-test .taken) (c .before .before .before .before .before .before .before .loop .inv .0) (c .before .before .before .before .before .before .before .loop .inv .1 .1) refl (c .before .before .before .all-name .ensures),
+  ),
+)
 
 returns : tie.Need-returns Inv-loop μ-loop
 returns c = let s = c .before .before .before .before .before .args in ap (λ (e : ℕ). record { entries = e; agents = c .before .loop .agents }) (mask-whole _ (s .n) (c .before .loop .i) (c .loop-test .left) (c .before .loop .inv .1 .0)) ∙ ap (λ (a : ℕ). record { entries = maskFrom (joinsAt (s .names .now) (s .actions .now) (s .crews .now)) 0 (s .n); agents = a }) (union-whole _ _ (s .n) (c .before .loop .i) (c .loop-test .left) (c .before .loop .inv .1 .1))

@@ -43,11 +43,14 @@ loop-less : tie.Need-loop-less Inv-loop μ-loop
 loop-less c = search needs
 
 loop-again : tie.Need-loop-again Inv-loop μ-loop
-loop-again c = let s = c .before .before .before .before .before .args in let a = c .before .before .before .loop .a in (search needs, λ d b. let f = placed d (s .names .now) in
-    c .before .before .before .loop .inv .1 d b ∙ on (λ i l. eachFrom i f l) (s .names .now) 0 a (c .before .before .loop-test .taken) (each-on f a _ _ (⊎-elim
+loop-again c = let s = c .before .before .before .before .before .args in let a = c .before .before .before .loop .a in (
+  search needs,
+  λ d b. let f = placed d (s .names .now) in
+      c .before .before .before .loop .inv .1 d b ∙ on (λ i l. eachFrom i f l) (s .names .now) 0 a (c .before .before .loop-test .taken) (each-on f a _ _ (⊎-elim
       (λ w. placed-if d (s .names .now) (s .agents) a b (c .before .before .loop-test .taken) (w .0 .taken) (w .1 .ensures) (not-false (w .1 .result) (w .2 .left)))
       (λ w. placed-idle d (s .names .now) (s .agents) a (w .left))
-      (c .if1 .came))))
+      (c .if1 .came))),
+)
 
 returns-2 : tie.Need-returns-2 Inv-loop μ-loop
 returns-2 c = λ d b. let s = c .before .before .before .args in let f = placed d (s .names .now) in let a = c .before .loop .a in

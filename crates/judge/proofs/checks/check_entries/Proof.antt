@@ -40,7 +40,7 @@ returns : tie.Need-returns Inv-loop μ-loop
 returns c = λ d h n names lawful within owned occurring count seen. let a = c .before .before .before .before .before .before .before .before .before .before .before .before .args in let f = mayOccur d h (a .j) names in let i = c .before .before .before .before .before .before .before .loop .i in
     let p : i < length (d .entries) = omega (arith, c .before .before .before .before .before .before .loop-test .taken) in
     sym (c .before .before .before .before .before .before .before .loop .inv d h n names lawful within owned occurring count seen ∙ stops (λ k r. eachFrom k f r) (d .entries) noEntry i p (each-stop f i _ _
-      (occurs-may d h (a .j) names i _ (sym (occurring i p ∙ (sym (c .before .before .before .before .before .has-entry .ensures) ∙ c .before .before .before .before .if1 .taken))) ∙ (sym (c .before .before .before .check-entry .ensures d h n lawful within owned seen) ∙ ap passOf (c .before .fault .given .1)))))
+    (occurs-may d h (a .j) names i _ (sym (occurring i p ∙ (sym (c .before .before .before .before .before .has-entry .ensures) ∙ c .before .before .before .before .if1 .taken))) ∙ (sym (c .before .before .before .check-entry .ensures d h n lawful within owned seen) ∙ ap passOf (c .before .fault .given .1)))))
 
 enum-told : tie.Need-enum-told Inv-loop μ-loop
 enum-told c = search needs
@@ -55,9 +55,9 @@ loop-again : tie.Need-loop-again Inv-loop μ-loop
 loop-again c = λ d h n names lawful within owned occurring count seen. let a = c .before .before .before .before .before .before .before .before .args in let f = mayOccur d h (a .j) names in let i = c .before .before .before .loop .i in
     let p : i < length (d .entries) = omega (arith, c .before .before .loop-test .taken) in
     c .before .before .before .loop .inv d h n names lawful within owned occurring count seen ∙ on (λ k r. eachFrom k f r) (d .entries) noEntry i p (each-on f i _ _ (⊎-elim
-      (λ w. occurs-may d h (a .j) names i _ (sym (occurring i p ∙ (sym (c .before .has-entry .ensures) ∙ w .0 .taken))) ∙ (sym (w .1 .ensures d h n lawful within owned seen) ∙ ap passOf (w .3 .given .1)))
-      (λ w. occurs-not d h (a .j) names i _ (sym (occurring i p ∙ (sym (c .before .has-entry .ensures) ∙ w .left))))
-      (c .if1 .came)))
+    (λ w. occurs-may d h (a .j) names i _ (sym (occurring i p ∙ (sym (c .before .has-entry .ensures) ∙ w .0 .taken))) ∙ (sym (w .1 .ensures d h n lawful within owned seen) ∙ ap passOf (w .3 .given .1)))
+    (λ w. occurs-not d h (a .j) names i _ (sym (occurring i p ∙ (sym (c .before .has-entry .ensures) ∙ w .left))))
+    (c .if1 .came)))
 
 returns-2 : tie.Need-returns-2 Inv-loop μ-loop
 returns-2 c = λ d h n names lawful within owned occurring count seen. let a = c .before .before .before .before .before .before .args in let f = mayOccur d h (a .j) names in

@@ -43,7 +43,7 @@ returns : tie.Need-returns Inv-loop μ-loop
 returns c = λ d h s n kind lawful within seen. let a = c .before .before .before .before .before .before .before .before .before .before .args in let f = holds s (kindOf (a .fault)) h (a .j) in let l = c .before .before .before .before .before .before .loop .l in
     let i = run-law d _ _ n (a .kind) (a .from) (a .to) l lawful within (c .before .before .before .before .before .loop-test .taken) in
     sym (c .before .before .before .before .before .before .loop .inv d h s n kind lawful within seen ∙ stops (λ k r. eachFrom k f r) (d .laws) noLaw l i (each-stop f l _ _
-      (sym (c .before .before .before .check-law .ensures d h s (lawNumber d l) kind (said d (lawNumber d l) (c .before .before .before .before .law-at .ensures) (run-says d _ _ n (a .kind) (a .from) (a .to) l lawful within (c .before .before .before .before .before .loop-test .taken))) seen) ∙ ap passOf (c .before .found .given .1))))
+    (sym (c .before .before .before .check-law .ensures d h s (lawNumber d l) kind (said d (lawNumber d l) (c .before .before .before .before .law-at .ensures) (run-says d _ _ n (a .kind) (a .from) (a .to) l lawful within (c .before .before .before .before .before .loop-test .taken))) seen) ∙ ap passOf (c .before .found .given .1))))
 
 enum-told : tie.Need-enum-told Inv-loop μ-loop
 enum-told c = search needs
@@ -58,7 +58,7 @@ loop-again : tie.Need-loop-again Inv-loop μ-loop
 loop-again c = λ d h s n kind lawful within seen. let a = c .before .before .before .before .before .before .before .before .before .args in let f = holds s (kindOf (a .fault)) h (a .j) in let l = c .before .before .before .before .before .loop .l in
     let i = run-law d _ _ n (a .kind) (a .from) (a .to) l lawful within (c .before .before .before .before .loop-test .taken) in
     c .before .before .before .before .before .loop .inv d h s n kind lawful within seen ∙ on (λ k r. eachFrom k f r) (d .laws) noLaw l i (each-on f l _ _
-      (sym (c .before .before .check-law .ensures d h s (lawNumber d l) kind (said d (lawNumber d l) (c .before .before .before .law-at .ensures) (run-says d _ _ n (a .kind) (a .from) (a .to) l lawful within (c .before .before .before .before .loop-test .taken))) seen) ∙ ap passOf (c .enum-told .given .1)))
+    (sym (c .before .before .check-law .ensures d h s (lawNumber d l) kind (said d (lawNumber d l) (c .before .before .before .law-at .ensures) (run-says d _ _ n (a .kind) (a .from) (a .to) l lawful within (c .before .before .before .before .loop-test .taken))) seen) ∙ ap passOf (c .enum-told .given .1)))
 
 returns-2 : tie.Need-returns-2 Inv-loop μ-loop
 returns-2 c = λ d h s n kind lawful within seen. let a = c .before .before .before .before .before .args in let f = holds s (kindOf (a .fault)) h (a .j) in

@@ -34,7 +34,7 @@ returns-2 c = λ d h n lawful p owned seen. let s = c .before .before .before .b
     let own = c .before .before .before .byte .ensures ∙ owned (s .l) (omega (arith, lawful .count)) in
     let place = owned-place d (lawNumber d (s .l)) own (c .before .before .if1 .left) (c .before .before .before .before .before .before .before .before .pre) in
     c .constraint-of .ensures d h (lawNumber d (s .l)) (said d (lawNumber d (s .l)) (c .before .law-at .ensures) (lawful .law (s .l) p)) (place .0)
-      (subst (λ (b : Bool). Seen b d h (s .levels .now) (s .occurred .now) (s .j)) (place .1) seen)
+    (subst (λ (b : Bool). Seen b d h (s .levels .now) (s .occurred .now) (s .j)) (place .1) seen)
     ∙ sym (permits-mine d h (s .j) (s .i) (lawNumber d (s .l)) own (c .before .before .if1 .left) (c .before .before .before .before .before .before .before .before .pre))
 
 pub try-law-spec : {M : Type 1} → statement M

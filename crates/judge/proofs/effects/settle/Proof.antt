@@ -50,9 +50,15 @@ abbrev μ-laws : tie.MeasureT-laws
 
 laws-holds : tie.Need-laws-holds Inv-loop μ-loop Inv-laws μ-laws
 unfolding settingsOf
-laws-holds c = let s = c .before .before .before .args in ((refl, c .before .before .before .pre .1), ((search needs, search needs), λ d h n names lawful within occurring seen.
-    run-starts (λ k r. settled d h (s .j) names k [] r) d (s .store .now) (s .laws .now) n 0xA6 (s .from) (s .to) lawful within
-    (λ k l r w q. settled-idle d h (s .j) names k [] l r (sets-none d h (s .j) names _ l w q))))
+laws-holds c = let s = c .before .before .before .args in (
+  (refl, c .before .before .before .pre .1),
+  (
+    (search needs, search needs),
+    λ d h n names lawful within occurring seen.
+        run-starts (λ k r. settled d h (s .j) names k [] r) d (s .store .now) (s .laws .now) n 0xA6 (s .from) (s .to) lawful within
+        (λ k l r w q. settled-idle d h (s .j) names k [] l r (sets-none d h (s .j) names _ l w q)),
+  ),
+)
 
 law-at-requires : tie.Need-law-at-requires Inv-loop μ-loop Inv-laws μ-laws
 law-at-requires c κs = search needs
@@ -64,10 +70,13 @@ enum-told : tie.Need-enum-told Inv-loop μ-loop Inv-laws μ-laws
 enum-told c = search needs
 
 returns : tie.Need-returns Inv-loop μ-loop Inv-laws μ-laws
-returns c = let s = c .before .before .before .before .before .before .before .before .before .args in (omega arith, λ d h n names lawful within occurring seen.
-    sym (c .before .before .before .before .before .laws .inv .1 .1 d h n names lawful within occurring seen
-    ∙ settled-blank d h (s .j) names (d .laws) (c .before .before .before .before .before .laws .l) _ (run-law d _ _ n 0xA6 (s .from) (s .to) (c .before .before .before .before .before .laws .l) lawful within (c .before .before .before .before .laws-test .taken))
-      (sym (c .before .before .wanted .ensures d h (lawNumber d (c .before .before .before .before .before .laws .l)) names (said d (lawNumber d (c .before .before .before .before .before .laws .l)) (c .before .before .before .law-at .ensures) (run-says d _ _ n 0xA6 (s .from) (s .to) (c .before .before .before .before .before .laws .l) lawful within (c .before .before .before .before .laws-test .taken))) occurring seen) ∙ ap wantsOf (c .enum-told .given .1))))
+returns c = let s = c .before .before .before .before .before .before .before .before .before .args in (
+  omega arith,
+  λ d h n names lawful within occurring seen.
+      sym (c .before .before .before .before .before .laws .inv .1 .1 d h n names lawful within occurring seen
+      ∙ settled-blank d h (s .j) names (d .laws) (c .before .before .before .before .before .laws .l) _ (run-law d _ _ n 0xA6 (s .from) (s .to) (c .before .before .before .before .before .laws .l) lawful within (c .before .before .before .before .laws-test .taken))
+      (sym (c .before .before .wanted .ensures d h (lawNumber d (c .before .before .before .before .before .laws .l)) names (said d (lawNumber d (c .before .before .before .before .before .laws .l)) (c .before .before .before .law-at .ensures) (run-says d _ _ n 0xA6 (s .from) (s .to) (c .before .before .before .before .before .laws .l) lawful within (c .before .before .before .before .laws-test .taken))) occurring seen) ∙ ap wantsOf (c .enum-told .given .1))),
+)
 
 enum-known-f : tie.Need-enum-known-f Inv-loop μ-loop Inv-laws μ-laws
 enum-known-f c = search needs
@@ -94,8 +103,14 @@ loop-less : tie.Need-loop-less Inv-loop μ-loop Inv-laws μ-laws
 loop-less c = search needs
 
 loop-again : tie.Need-loop-again Inv-loop μ-loop Inv-laws μ-laws
-loop-again c = (c .before .before .before .before .before .before .loop .inv .0, (omega arith, c .before .before .before .before .before .before .loop .inv .1 .1 ∙ settings-same _ _ _ _ (c .before .before .before .before .before .before .loop .i) (c .before .before .before .before .before .loop-test .taken) (c .before .before .before .if1 .taken)
-    (same-back (getD (c .before .before .before .before .before .before .before .before .before .before .before .before .before .laws .values) (c .before .before .before .before .before .before .loop .i - 1) (pos 0)) _ (c .before .before .same-level-arg .given) (c .before .same-level .ensures) (not-false _ (c .if2 .left)))))
+loop-again c = (
+  c .before .before .before .before .before .before .loop .inv .0,
+  (
+    omega arith,
+    c .before .before .before .before .before .before .loop .inv .1 .1 ∙ settings-same _ _ _ _ (c .before .before .before .before .before .before .loop .i) (c .before .before .before .before .before .loop-test .taken) (c .before .before .before .if1 .taken)
+        (same-back (getD (c .before .before .before .before .before .before .before .before .before .before .before .before .before .laws .values) (c .before .before .before .before .before .before .loop .i - 1) (pos 0)) _ (c .before .before .same-level-arg .given) (c .before .same-level .ensures) (not-false _ (c .if2 .left))),
+  ),
+)
 
 loop-less-2 : tie.Need-loop-less-2 Inv-loop μ-loop Inv-laws μ-laws
 loop-less-2 c = search needs
@@ -126,20 +141,28 @@ laws-less c = search needs
 
 laws-again : tie.Need-laws-again Inv-loop μ-loop Inv-laws μ-laws
 laws-again c = let s = c .before .before .before .before .before .before .before .before .args in let l = c .before .before .before .before .laws .l in let m = c .before .before .before .before .laws .m in let fs = c .before .before .before .before .laws .fluents in let vs = c .before .before .before .before .laws .values in ⊎-elim
-      (λ w. let v = toZ w32 (ofZ w32 (w .1 .given .0 .1 .0)) in let f = w .1 .given .0 .0 in
-        let put : settingsOf (c .match .m) (c .match .fluents) (c .match .values) ≡ setting f v ∷ settingsOf m fs vs = rw (w .8, w .5, w .6) (settings-put m f v fs vs (omega arith) (omega arith)) in
-        ((w .7 ∙ (w .3 .inv .0 ∙ c .before .before .before .before .laws .inv .0 .0), (ap length (w .5) ∙ (list.length-set fs m f ∙ c .before .before .before .before .laws .inv .0 .1 .0), ap length (w .6) ∙ (list.length-set vs m v ∙ c .before .before .before .before .laws .inv .0 .1 .1))), ((omega arith, omega arith),
+    (λ w. let v = toZ w32 (ofZ w32 (w .1 .given .0 .1 .0)) in let f = w .1 .given .0 .0 in
+    let put : settingsOf (c .match .m) (c .match .fluents) (c .match .values) ≡ setting f v ∷ settingsOf m fs vs = rw (w .8, w .5, w .6) (settings-put m f v fs vs (omega arith) (omega arith)) in (
+      (w .7 ∙ (w .3 .inv .0 ∙ c .before .before .before .before .laws .inv .0 .0), (ap length (w .5) ∙ (list.length-set fs m f ∙ c .before .before .before .before .laws .inv .0 .1 .0), ap length (w .6) ∙ (list.length-set vs m v ∙ c .before .before .before .before .laws .inv .0 .1 .1))),
+      (
+        (omega arith, omega arith),
         λ d h n names lawful within occurring seen. c .before .before .before .before .laws .inv .1 .1 d h n names lawful within occurring seen
-          ∙ settled-puts d h (s .j) names (d .laws) l (settingsOf m fs vs) (run-law d _ _ n 0xA6 (s .from) (s .to) l lawful within (c .before .before .before .laws-test .taken))
+            ∙ settled-puts d h (s .j) names (d .laws) l (settingsOf m fs vs) (run-law d _ _ n 0xA6 (s .from) (s .to) l lawful within (c .before .before .before .laws-test .taken))
             (sym (c .before .wanted .ensures d h (lawNumber d l) names (said d (lawNumber d l) (c .before .before .law-at .ensures) (run-says d _ _ n 0xA6 (s .from) (s .to) l lawful within (c .before .before .before .laws-test .taken))) occurring seen)
-              ∙ (ap wantsOf (w .1 .given .1) ∙ ap (λ (y : ℤ). value (some (setting f y))) (sym (back (w .1 .given .0 .1 .0) (w .2 .given .1 .0 .1)))))
-            (w .3 .inv .1 .1 ∙ settings-none _ _ _ (w .4 .left)) put)))
-      (λ w. let kept : settingsOf (c .match .m) (c .match .fluents) (c .match .values) ≡ settingsOf m fs vs = rw (w .5, w .2, w .3) in
-        ((w .4 ∙ c .before .before .before .before .laws .inv .0 .0, (ap length (w .2) ∙ c .before .before .before .before .laws .inv .0 .1 .0, ap length (w .3) ∙ c .before .before .before .before .laws .inv .0 .1 .1)), ((omega arith, omega arith),
+            ∙ (ap wantsOf (w .1 .given .1) ∙ ap (λ (y : ℤ). value (some (setting f y))) (sym (back (w .1 .given .0 .1 .0) (w .2 .given .1 .0 .1)))))
+            (w .3 .inv .1 .1 ∙ settings-none _ _ _ (w .4 .left)) put,
+      ),
+    ))
+    (λ w. let kept : settingsOf (c .match .m) (c .match .fluents) (c .match .values) ≡ settingsOf m fs vs = rw (w .5, w .2, w .3) in (
+      (w .4 ∙ c .before .before .before .before .laws .inv .0 .0, (ap length (w .2) ∙ c .before .before .before .before .laws .inv .0 .1 .0, ap length (w .3) ∙ c .before .before .before .before .laws .inv .0 .1 .1)),
+      (
+        (omega arith, omega arith),
         λ d h n names lawful within occurring seen. c .before .before .before .before .laws .inv .1 .1 d h n names lawful within occurring seen
-          ∙ settled-leaves d h (s .j) names (d .laws) l (settingsOf m fs vs) (run-law d _ _ n 0xA6 (s .from) (s .to) l lawful within (c .before .before .before .laws-test .taken))
-            (sym (c .before .wanted .ensures d h (lawNumber d l) names (said d (lawNumber d l) (c .before .before .law-at .ensures) (run-says d _ _ n 0xA6 (s .from) (s .to) l lawful within (c .before .before .before .laws-test .taken))) occurring seen) ∙ ap wantsOf (w .1 .given .1)) kept)))
-      (c .match .came)
+            ∙ settled-leaves d h (s .j) names (d .laws) l (settingsOf m fs vs) (run-law d _ _ n 0xA6 (s .from) (s .to) l lawful within (c .before .before .before .laws-test .taken))
+            (sym (c .before .wanted .ensures d h (lawNumber d l) names (said d (lawNumber d l) (c .before .before .law-at .ensures) (run-says d _ _ n 0xA6 (s .from) (s .to) l lawful within (c .before .before .before .laws-test .taken))) occurring seen) ∙ ap wantsOf (w .1 .given .1)) kept,
+      ),
+    ))
+    (c .match .came)
 
 -- where the ways out of the loop over the laws meet: by its test, with all settled, or by the break, with the law at fault
 abbrev Whole : tie.Left-laws Inv-loop μ-loop Inv-laws μ-laws → (Domain → History → Names → Checked (List Setting)) → Type 0
@@ -149,17 +172,23 @@ answer : (c : tie.Left-laws Inv-loop μ-loop Inv-laws μ-laws)
     → ((c .before .before .before .before .before .args .to ≤ c .laws-test .bad) × Whole c (λ d h names. fine (settingsOf (c .before .laws .m) (c .before .laws .fluents) (c .before .laws .values))))
     ⊎ ((c .laws-test .bad < c .before .before .before .before .before .args .to) × Whole c (λ d h names. fault 4 (c .laws-test .bad)))
 answer c = let s = c .before .before .before .before .before .args in let l = c .before .laws .l in ⊎-elim
-    (λ w. inl (omega arith, λ d h n names lawful within occurring seen.
-      c .before .laws .inv .1 .1 d h n names lawful within occurring seen
-      ∙ run-ends (λ k r. settled d h (s .j) names k (settingsOf (c .before .laws .m) (c .before .laws .fluents) (c .before .laws .values)) r) d (s .store .now) (s .laws .now) n 0xA6 (s .from) (s .to) lawful within
-        (λ k l r w q. settled-idle d h (s .j) names k _ l r (sets-none d h (s .j) names _ l w q)) l (w .0 .left) (λ k. settled-none d h (s .j) names k _)))
-    (λ w. inr (omega arith, λ d h n names lawful within occurring seen.
-      c .before .laws .inv .1 .1 d h n names lawful within occurring seen
-      ∙ (settled-clash d h (s .j) names (d .laws) l _ (run-law d _ _ n 0xA6 (s .from) (s .to) l lawful within (w .0 .taken))
-        (sym (w .2 .ensures d h (lawNumber d l) names (said d (lawNumber d l) (w .1 .ensures) (run-says d _ _ n 0xA6 (s .from) (s .to) l lawful within (w .0 .taken))) occurring seen)
+    (λ w. inl (
+      omega arith,
+      λ d h n names lawful within occurring seen.
+          c .before .laws .inv .1 .1 d h n names lawful within occurring seen
+          ∙ run-ends (λ k r. settled d h (s .j) names k (settingsOf (c .before .laws .m) (c .before .laws .fluents) (c .before .laws .values)) r) d (s .store .now) (s .laws .now) n 0xA6 (s .from) (s .to) lawful within
+          (λ k l r w q. settled-idle d h (s .j) names k _ l r (sets-none d h (s .j) names _ l w q)) l (w .0 .left) (λ k. settled-none d h (s .j) names k _),
+    ))
+    (λ w. inr (
+      omega arith,
+      λ d h n names lawful within occurring seen.
+          c .before .laws .inv .1 .1 d h n names lawful within occurring seen
+          ∙ (settled-clash d h (s .j) names (d .laws) l _ (run-law d _ _ n 0xA6 (s .from) (s .to) l lawful within (w .0 .taken))
+          (sym (w .2 .ensures d h (lawNumber d l) names (said d (lawNumber d l) (w .1 .ensures) (run-says d _ _ n 0xA6 (s .from) (s .to) l lawful within (w .0 .taken))) occurring seen)
           ∙ (ap wantsOf (w .4 .given .1) ∙ ap (λ (y : ℤ). value (some (setting (w .4 .given .0 .0) y))) (sym (back (w .4 .given .0 .1 .0) (w .5 .given .1 .0 .1)))))
-        (w .6 .inv .1 .1 ∙ settings-clash _ _ _ _ (w .6 .i) (w .7 .taken) (w .9 .taken) (same-back (getD (c .before .laws .values) (w .6 .i - 1) (pos 0)) _ (w .10 .given) (w .11 .ensures) (not-true _ (w .12 .taken))))
-        ∙ ap (fault 4) (sym (w .13)))))
+          (w .6 .inv .1 .1 ∙ settings-clash _ _ _ _ (w .6 .i) (w .7 .taken) (w .9 .taken) (same-back (getD (c .before .laws .values) (w .6 .i - 1) (pos 0)) _ (w .10 .given) (w .11 .ensures) (not-true _ (w .12 .taken))))
+          ∙ ap (fault 4) (sym (w .13))),
+    ))
     (c .laws-test .came)
 
 returns-2 : tie.Need-returns-2 Inv-loop μ-loop Inv-laws μ-laws

@@ -40,8 +40,13 @@ loop-less : tie.Need-loop-less Inv-loop μ-loop
 loop-less c = search needs
 
 loop-again : tie.Need-loop-again Inv-loop μ-loop
-loop-again c = let s = c .before .before .before .before .before .args in (omega arith, (simp length-set (c .before .before .loop .inv .1 .0),
-    filled-more 0 (λ k. unionFrom (λ i. eqb (getD (s .known .now) i 0) k) (s .knowers .now) 0 (s .n)) (c .before .before .loop .table) (c .before .before .loop .f) (omega arith) (c .before .before .loop .inv .1 .1) (c .knowers-of .ensures)))
+loop-again c = let s = c .before .before .before .before .before .args in (
+  omega arith,
+  (
+    simp length-set (c .before .before .loop .inv .1 .0),
+    filled-more 0 (λ k. unionFrom (λ i. eqb (getD (s .known .now) i 0) k) (s .knowers .now) 0 (s .n)) (c .before .before .loop .table) (c .before .before .loop .f) (omega arith) (c .before .before .loop .inv .1 .1) (c .knowers-of .ensures),
+  ),
+)
 
 returns : tie.Need-returns Inv-loop μ-loop
 returns c = (c .before .loop .inv .1 .0, λ f p. c .before .loop .inv .1 .1 f (omega arith))

@@ -41,9 +41,15 @@ loop-less : tie.Need-loop-less Inv-loop μ-loop
 loop-less c = search needs
 
 loop-again : tie.Need-loop-again Inv-loop μ-loop
-loop-again c = let i = c .before .before .before .loop .i in (omega arith, (simp length-set (c .before .before .before .loop .inv .1 .0), λ d lawful knowing.
-    filled-more 0 (λ k. ownerOf d (lawNumber d k)) (c .before .before .before .loop .owners) i (omega arith) (c .before .before .before .loop .inv .1 .1 d lawful knowing)
-    (c .owner-of .ensures d (lawNumber d i) (said d (lawNumber d i) (c .before .law-at .ensures) (lawful .law i (c .before .before .loop-test .taken))) knowing)))
+loop-again c = let i = c .before .before .before .loop .i in (
+  omega arith,
+  (
+    simp length-set (c .before .before .before .loop .inv .1 .0),
+    λ d lawful knowing.
+        filled-more 0 (λ k. ownerOf d (lawNumber d k)) (c .before .before .before .loop .owners) i (omega arith) (c .before .before .before .loop .inv .1 .1 d lawful knowing)
+        (c .owner-of .ensures d (lawNumber d i) (said d (lawNumber d i) (c .before .law-at .ensures) (lawful .law i (c .before .before .loop-test .taken))) knowing),
+  ),
+)
 
 returns : tie.Need-returns Inv-loop μ-loop
 returns c = (c .before .loop .inv .1 .0, λ d lawful knowing k p. c .before .loop .inv .1 .1 d lawful knowing k (omega (arith, lawful .count, c .loop-test .left)))

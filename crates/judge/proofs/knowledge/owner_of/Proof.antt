@@ -35,13 +35,13 @@ returns-2 : tie.Need-returns-2
 returns-2 c = λ d l says knowing. let s = c .before .before .before .before .before .before .before .before .before .args in
     sym (ap (λ (t : Bool). if-else t (c .before .before .before .before .byte2 .result) 255) (c .if2 .taken))
     ∙ owner-is d (s .frame .now) (s .table .now) (s .w) (s .crews .now) (s .agents) l says (sym (c .before .before .before .before .before .before .byte .ensures) ∙ c .before .before .before .before .before .if1 .left) knowing (c .before .before .before .before .byte2 .ensures)
-      (c .before .before .known-to .ensures ∙ ap (λ (k : ℕ). maskFrom (shared k (s .table .now)) 0 (s .w)) (c .before .before .before .crew-of .ensures)) (c .before .names-only .ensures)
+    (c .before .before .known-to .ensures ∙ ap (λ (k : ℕ). maskFrom (shared k (s .table .now)) 0 (s .w)) (c .before .before .before .crew-of .ensures)) (c .before .names-only .ensures)
 
 returns-3 : tie.Need-returns-3
 returns-3 c = λ d l says knowing. let s = c .before .before .before .before .before .before .before .before .before .args in
     sym (ap (λ (t : Bool). if-else t (c .before .before .before .before .byte2 .result) 255) (c .if2 .left))
     ∙ owner-is d (s .frame .now) (s .table .now) (s .w) (s .crews .now) (s .agents) l says (sym (c .before .before .before .before .before .before .byte .ensures) ∙ c .before .before .before .before .before .if1 .left) knowing (c .before .before .before .before .byte2 .ensures)
-      (c .before .before .known-to .ensures ∙ ap (λ (k : ℕ). maskFrom (shared k (s .table .now)) 0 (s .w)) (c .before .before .before .crew-of .ensures)) (c .before .names-only .ensures)
+    (c .before .before .known-to .ensures ∙ ap (λ (k : ℕ). maskFrom (shared k (s .table .now)) 0 (s .w)) (c .before .before .before .crew-of .ensures)) (c .before .names-only .ensures)
 
 pub owner-of-spec : {M : Type 1} → statement M
 owner-of-spec =

@@ -48,8 +48,13 @@ loop-less : tie.Need-loop-less Inv-loop μ-loop
 loop-less c = search needs
 
 loop-again : tie.Need-loop-again Inv-loop μ-loop
-loop-again c = let s = c .before .before .before .before .before .before .before .args in let i = c .before .before .before .before .before .loop .i in (omega arith, (ap length (c .put .ensures) ∙ simp length-set (c .before .before .before .before .before .loop .inv .1 .0),
-    λ f p. ap (λ (l : List ℤ). getD l f (pos 0)) (c .put .ensures) ∙ laid-more (s .w) i (c .before .before .before .before .before .loop .new) (s .fluents .now) (s .values .now) (stateAt (s .w) (s .levels .now) (s .j)) (omega (arith, c .before .before .before .before .before .before .before .pre .1 .0)) refl (back (getD (s .values .now) i (pos 0)) (c .before .put-arg2 .given)) (c .before .before .before .before .before .loop .inv .1 .1) f p))
+loop-again c = let s = c .before .before .before .before .before .before .before .args in let i = c .before .before .before .before .before .loop .i in (
+  omega arith,
+  (
+    ap length (c .put .ensures) ∙ simp length-set (c .before .before .before .before .before .loop .inv .1 .0),
+    λ f p. ap (λ (l : List ℤ). getD l f (pos 0)) (c .put .ensures) ∙ laid-more (s .w) i (c .before .before .before .before .before .loop .new) (s .fluents .now) (s .values .now) (stateAt (s .w) (s .levels .now) (s .j)) (omega (arith, c .before .before .before .before .before .before .before .pre .1 .0)) refl (back (getD (s .values .now) i (pos 0)) (c .before .put-arg2 .given)) (c .before .before .before .before .before .loop .inv .1 .1) f p,
+  ),
+)
 
 returns : tie.Need-returns Inv-loop μ-loop
 returns c = let s = c .before .before .before .args in let z : c .before .loop .i ≡ s .m = omega arith in (c .before .loop .inv .1 .0, rw (← z) (c .before .loop .inv .1 .1))

@@ -51,9 +51,14 @@ loop-less : tie.Need-loop-less Inv-loop μ-loop
 loop-less c = search needs
 
 loop-again : tie.Need-loop-again Inv-loop μ-loop
-loop-again c = let s = c .before .before .before .args in (omega arith, (simp length-set (c .before .before .loop .inv .1 .0),
+loop-again c = let s = c .before .before .before .args in (
+  omega arith,
+  (
+    simp length-set (c .before .before .loop .inv .1 .0),
     filled-more (pos 0) (λ k. getD (s .levels .now) (mostFluents * s .j + k) (pos 0)) (c .before .before .loop .old) (c .before .before .loop .f) (omega arith) (c .before .before .loop .inv .1 .1)
-    (widened-back (getD (s .levels .now) (mostFluents * s .j + c .before .before .loop .f) (pos 0)) (c .old .given))))
+        (widened-back (getD (s .levels .now) (mostFluents * s .j + c .before .before .loop .f) (pos 0)) (c .old .given)),
+  ),
+)
 
 returns : tie.Need-returns Inv-loop μ-loop
 returns c = (c .before .loop .inv .1 .0, λ f p. c .before .loop .inv .1 .1 f (omega arith))

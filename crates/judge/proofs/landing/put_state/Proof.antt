@@ -63,12 +63,15 @@ same-length : tie.Need-same-length Inv-loop μ-loop
 same-length c = search needs
 
 returns : tie.Need-returns Inv-loop μ-loop
-returns c = let s = c .before .before .before .before .before .before .before .before .args in let f = c .before .before .before .before .before .before .before .loop .f in (record { states = c .before .before .before .before .before .before .before .loop .inv .1 .1 .0; long = c .before .before .before .before .before .before .before .loop .inv .1 .0 }, λ d settings old r l.
-    let g = inRange (stateAfter d settings old) in let both′ = c .before .before .before .before .before .before .before .loop .inv .1 .1 .1 d settings old r l in
-    ranged-fault d settings old (s .lowest .now) (s .highest .now) (s .w) r (stateAt (s .w) (c .before .before .before .before .before .before .before .loop .levels) (s .j + 1)) Range
-    (both′ .1 ∙ stops (λ k q. eachFrom k g q) (d .fluents) noFluent f (omega (arith, r .count, c .before .before .before .before .before .before .loop-test .taken)) (each-stop g f _ _
+returns c = let s = c .before .before .before .before .before .before .before .before .args in let f = c .before .before .before .before .before .before .before .loop .f in (
+  record { states = c .before .before .before .before .before .before .before .loop .inv .1 .1 .0; long = c .before .before .before .before .before .before .before .loop .inv .1 .0 },
+  λ d settings old r l.
+      let g = inRange (stateAfter d settings old) in let both′ = c .before .before .before .before .before .before .before .loop .inv .1 .1 .1 d settings old r l in
+      ranged-fault d settings old (s .lowest .now) (s .highest .now) (s .w) r (stateAt (s .w) (c .before .before .before .before .before .before .before .loop .levels) (s .j + 1)) Range
+      (both′ .1 ∙ stops (λ k q. eachFrom k g q) (d .fluents) noFluent f (omega (arith, r .count, c .before .before .before .before .before .before .loop-test .taken)) (each-stop g f _ _
       (range-is d settings old (s .lowest .now) (s .highest .now) (s .w) r f (c .before .before .before .before .before .before .loop-test .taken) (l f (c .before .before .before .before .before .before .loop-test .taken))
-        (unfit-told (getD (s .lowest .now) f (pos 0)) (getD (s .new .now) f (pos 0)) (getD (s .highest .now) f (pos 0)) (c .before .before .before .before .before .fitted-arg .given) (c .before .before .before .fitted-arg3 .given) (c .before .before .before .before .fitted-arg2 .given) (c .before .before .fitted .ensures) (c .enum-told .given .1))))))
+      (unfit-told (getD (s .lowest .now) f (pos 0)) (getD (s .new .now) f (pos 0)) (getD (s .highest .now) f (pos 0)) (c .before .before .before .before .before .fitted-arg .given) (c .before .before .before .fitted-arg3 .given) (c .before .before .before .before .fitted-arg2 .given) (c .before .before .fitted .ensures) (c .enum-told .given .1))))),
+)
 
 enum-known-z : tie.Need-enum-known-z Inv-loop μ-loop
 enum-known-z c = search needs
@@ -96,23 +99,33 @@ loop-less c = search needs
 
 loop-again : tie.Need-loop-again Inv-loop μ-loop
 loop-again c = let s = c .before .before .before .before .before .before .before .before .before .args in let f = c .before .before .before .before .before .before .before .before .loop .f in
-    let fit = fit-told (getD (s .lowest .now) f (pos 0)) (getD (s .new .now) f (pos 0)) (getD (s .highest .now) f (pos 0)) (c .before .before .before .before .before .before .fitted-arg .given) (c .before .before .before .before .fitted-arg3 .given) (c .before .before .before .before .before .fitted-arg2 .given) (c .before .before .before .fitted .ensures) (c .before .z .given .1) in
-    (omega arith, (simp length-set (c .before .before .before .before .before .before .before .before .loop .inv .1 .0),
-    (take-set-le (mostFluents * (s .j + 1)) (c .before .before .before .before .before .before .before .before .loop .levels) (mostFluents * (s .j + 1) + f) _ (omega arith) ∙ c .before .before .before .before .before .before .before .before .loop .inv .1 .1 .0,
-    λ d settings old r l. let g = inRange (stateAfter d settings old) in let both′ = c .before .before .before .before .before .before .before .before .loop .inv .1 .1 .1 d settings old r l in
-      (row-more (levelThen settings old) (mostFluents * (s .j + 1)) f _ (c .before .before .before .before .before .before .before .before .loop .levels) (omega arith) (both′ .0) (back16 (c .before .z .given .0 .0) (c .known-told .given .0 .1) ∙ (sym (fit .0) ∙ l f (c .before .before .before .before .before .before .before .loop-test .taken))),
-      both′ .1 ∙ on (λ k q. eachFrom k g q) (d .fluents) noFluent f (omega (arith, r .count, c .before .before .before .before .before .before .before .loop-test .taken)) (each-on g f _ _
-        (range-is d settings old (s .lowest .now) (s .highest .now) (s .w) r f (c .before .before .before .before .before .before .before .loop-test .taken) (l f (c .before .before .before .before .before .before .before .loop-test .taken)) (fit .1)))))))
+    let fit = fit-told (getD (s .lowest .now) f (pos 0)) (getD (s .new .now) f (pos 0)) (getD (s .highest .now) f (pos 0)) (c .before .before .before .before .before .before .fitted-arg .given) (c .before .before .before .before .fitted-arg3 .given) (c .before .before .before .before .before .fitted-arg2 .given) (c .before .before .before .fitted .ensures) (c .before .z .given .1) in (
+      omega arith,
+      (
+        simp length-set (c .before .before .before .before .before .before .before .before .loop .inv .1 .0),
+        (
+          take-set-le (mostFluents * (s .j + 1)) (c .before .before .before .before .before .before .before .before .loop .levels) (mostFluents * (s .j + 1) + f) _ (omega arith) ∙ c .before .before .before .before .before .before .before .before .loop .inv .1 .1 .0,
+          λ d settings old r l. let g = inRange (stateAfter d settings old) in let both′ = c .before .before .before .before .before .before .before .before .loop .inv .1 .1 .1 d settings old r l in (
+            row-more (levelThen settings old) (mostFluents * (s .j + 1)) f _ (c .before .before .before .before .before .before .before .before .loop .levels) (omega arith) (both′ .0) (back16 (c .before .z .given .0 .0) (c .known-told .given .0 .1) ∙ (sym (fit .0) ∙ l f (c .before .before .before .before .before .before .before .loop-test .taken))),
+            both′ .1 ∙ on (λ k q. eachFrom k g q) (d .fluents) noFluent f (omega (arith, r .count, c .before .before .before .before .before .before .before .loop-test .taken)) (each-on g f _ _
+                (range-is d settings old (s .lowest .now) (s .highest .now) (s .w) r f (c .before .before .before .before .before .before .before .loop-test .taken) (l f (c .before .before .before .before .before .before .before .loop-test .taken)) (fit .1))),
+          ),
+        ),
+      ),
+    )
 
 same-length-2 : tie.Need-same-length-2 Inv-loop μ-loop
 same-length-2 c = search needs
 
 returns-2 : tie.Need-returns-2 Inv-loop μ-loop
-returns-2 c = let s = c .before .before .args in (record { states = c .before .loop .inv .1 .1 .0; long = c .before .loop .inv .1 .0 }, λ d settings old r l.
-    let f = inRange (stateAfter d settings old) in let both′ = c .before .loop .inv .1 .1 .1 d settings old r l in
-    ranged-fine d settings old (s .lowest .now) (s .highest .now) (s .w) r (stateAt (s .w) (c .before .loop .levels) (s .j + 1))
-    (both′ .1 ∙ (ends (λ k q. eachFrom k f q) (d .fluents) noFluent (c .before .loop .f) (omega (arith, r .count, c .loop-test .left)) ∙ each-none f (c .before .loop .f)))
-    (row-whole (levelThen settings old) (mostFluents * (s .j + 1)) (c .before .loop .f) (s .w) (c .before .loop .levels) (omega arith) (both′ .0)))
+returns-2 c = let s = c .before .before .args in (
+  record { states = c .before .loop .inv .1 .1 .0; long = c .before .loop .inv .1 .0 },
+  λ d settings old r l.
+      let f = inRange (stateAfter d settings old) in let both′ = c .before .loop .inv .1 .1 .1 d settings old r l in
+      ranged-fine d settings old (s .lowest .now) (s .highest .now) (s .w) r (stateAt (s .w) (c .before .loop .levels) (s .j + 1))
+      (both′ .1 ∙ (ends (λ k q. eachFrom k f q) (d .fluents) noFluent (c .before .loop .f) (omega (arith, r .count, c .loop-test .left)) ∙ each-none f (c .before .loop .f)))
+      (row-whole (levelThen settings old) (mostFluents * (s .j + 1)) (c .before .loop .f) (s .w) (c .before .loop .levels) (omega arith) (both′ .0)),
+)
 
 pub put-state-spec : {M : Type 1} → statement M
 put-state-spec =

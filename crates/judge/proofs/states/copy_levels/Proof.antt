@@ -51,8 +51,13 @@ loop-less : tie.Need-loop-less Inv-loop μ-loop
 loop-less c = search needs
 
 loop-again : tie.Need-loop-again Inv-loop μ-loop
-loop-again c = let s = c .before .before .before .args in (omega arith, (simp length-set (c .before .before .loop .inv .1 .0),
-    copy-more (pos 0) (s .levels .now) (s .at) (s .from) (c .before .before .loop .f) (s .source .now) (c .before .before .loop .levels) (c .before .before .loop .inv .1 .1) (back16 (getD (s .source .now) (s .from + c .before .before .loop .f) (pos 0)) (c .levels .given)) (omega arith) (omega arith)))
+loop-again c = let s = c .before .before .before .args in (
+  omega arith,
+  (
+    simp length-set (c .before .before .loop .inv .1 .0),
+    copy-more (pos 0) (s .levels .now) (s .at) (s .from) (c .before .before .loop .f) (s .source .now) (c .before .before .loop .levels) (c .before .before .loop .inv .1 .1) (back16 (getD (s .source .now) (s .from + c .before .before .loop .f) (pos 0)) (c .levels .given)) (omega arith) (omega arith),
+  ),
+)
 
 same-length : tie.Need-same-length Inv-loop μ-loop
 same-length c = search needs

@@ -40,9 +40,19 @@ loop-less : tie.Need-loop-less Inv-loop μ-loop
 loop-less c = search needs
 
 loop-again : tie.Need-loop-again Inv-loop μ-loop
-loop-again c = let s = c .before .before .before .before .before .args in (omega arith, (omega arith, (c .before .copy-levels .kept .1 .1 .1 .0 ∙ c .before .before .before .before .loop .inv .1 .1 .0,
-    (omega (arith, flat-length (s .w) (c .before .before .before .before .loop .k) (s .history .now) (omega arith)),
-    c .before .copy-levels .ensures ∙ written-more (s .w) (c .before .before .before .before .loop .k) (s .history .now) (omega arith) (s .levels .now) (c .before .before .before .before .loop .levels) (c .before .before .before .before .loop .at) (c .before .before .before .before .loop .inv .1 .1 .1 .0) (c .before .before .before .before .loop .inv .1 .1 .1 .1)))))
+loop-again c = let s = c .before .before .before .before .before .args in (
+  omega arith,
+  (
+    omega arith,
+    (
+      c .before .copy-levels .kept .1 .1 .1 .0 ∙ c .before .before .before .before .loop .inv .1 .1 .0,
+      (
+        omega (arith, flat-length (s .w) (c .before .before .before .before .loop .k) (s .history .now) (omega arith)),
+        c .before .copy-levels .ensures ∙ written-more (s .w) (c .before .before .before .before .loop .k) (s .history .now) (omega arith) (s .levels .now) (c .before .before .before .before .loop .levels) (c .before .before .before .before .loop .at) (c .before .before .before .before .loop .inv .1 .1 .1 .0) (c .before .before .before .before .loop .inv .1 .1 .1 .1),
+      ),
+    ),
+  ),
+)
 
 same-length : tie.Need-same-length Inv-loop μ-loop
 same-length c = search needs

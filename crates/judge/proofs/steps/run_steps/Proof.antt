@@ -38,8 +38,14 @@ abbrev μ-loop : tie.MeasureT-loop
     n - j
 
 loop-holds : tie.Need-loop-holds Inv-loop μ-loop
-loop-holds c = let s = c .before .before .before .before .before .before .before .args in ((search needs, left-start (s .agents) (s .n) _ (c .before .before .before .before .before .before .before .pre .0 .1 .1)), (c .before .before .before .before .before .before .before .pre .1 .1 .1 .1, λ d l p entered agents.
-    (λ k e h i. absurd (omega arith), (rows-start (s .agents) (s .n) (s .sheet .now), ap (λ (r : List Names). carried d (rows (s .agents) (s .n) (s .sheet .now)) 0 (statesOf (s .w) 1 (s .levels .now)) r) (rows-start (s .agents) (s .n) (s .sheet .now))))))
+loop-holds c = let s = c .before .before .before .before .before .before .before .args in (
+  (search needs, left-start (s .agents) (s .n) _ (c .before .before .before .before .before .before .before .pre .0 .1 .1)),
+  (
+    c .before .before .before .before .before .before .before .pre .1 .1 .1 .1,
+    λ d l p entered agents.
+        (λ k e h i. absurd (omega arith), (rows-start (s .agents) (s .n) (s .sheet .now), ap (λ (r : List Names). carried d (rows (s .agents) (s .n) (s .sheet .now)) 0 (statesOf (s .w) 1 (s .levels .now)) r) (rows-start (s .agents) (s .n) (s .sheet .now)))),
+  ),
+)
 
 slice-aggregate-names : tie.Need-slice-aggregate-names Inv-loop μ-loop
 slice-aggregate-names c = sym (length-take-le (c .before .before .before .before .before .before .before .before .before .before .args .agents) (c .before .before .loop .rest .now) (row-there (c .before .before .before .before .before .before .before .before .before .before .args .agents) (c .before .before .before .before .before .before .before .before .before .before .args .n) (c .before .before .loop .j) (c .before .before .loop .rest .now) (c .before .loop-test .taken) (c .before .before .loop .inv .0 .1)))
@@ -75,16 +81,18 @@ same-length-2 : tie.Need-same-length-2 Inv-loop μ-loop
 same-length-2 c = simp length-set (c .before .before .before .before .before .before .before .before .before .before .loop .inv .1 .0 .1 ∙ sym (c .before .before .before .before .before .before .before .before .before .before .before .before .before .before .before .before .before .before .pre .1 .1 .1 .1 .1))
 
 returns : tie.Need-returns Inv-loop μ-loop
-returns c = let s = c .before .before .before .before .before .before .before .before .before .before .before .before .before .before .before .before .before .before .args in let j = c .before .before .before .before .before .before .before .before .before .before .loop .j in let rest = c .before .before .before .before .before .before .before .before .before .before .loop .rest .now in let levels = c .before .before .before .before .take-step .last .1 .1 .1 .1 .1 .1 .1 .1 .1 .1 .1 .0 in
-    ((omega (arith, c .before .before .before .before .before .before .before .before .before .loop-test .taken), (λ e. absurd (let z : _≡_ {A = ℕ} 0 1 = cc in omega arith), c .before .before .before .before .take-step .ensures .0 .long)), λ d l p entered agents.
-    let sheet = rows (s .agents) (s .n) (s .sheet .now) in let names = take (s .agents) rest in let going = c .before .before .before .before .before .before .before .before .before .before .loop .inv .1 .1 d l p entered agents in
-    let there = row-there (s .agents) (s .n) j rest (c .before .before .before .before .before .before .before .before .before .loop-test .taken) (c .before .before .before .before .before .before .before .before .before .before .loop .inv .0 .1) in
-    let long = length-take-le (s .agents) rest there ∙ sym agents in
-    let occurring = occurring-is d names (s .actions .now) (s .crews .now) (s .count) entered long (ap (λ (a : Acting). a .entries) (c .before .before .before .before .before .before .before .who-acts .ensures)) in
-    let belonging = belonging-is d names (s .actions .now) (s .crews .now) (s .count) entered long (ap (λ (a : Acting). a .agents) (c .before .before .before .before .before .before .before .who-acts .ensures)) in
-    let acted = acted-more d sheet (c .before .before .before .before .before .before .before .before .before .before .loop .occurred) j names (c .before .before .before .before .before .before .before .who-acts .result .entries) (omega (arith, c .before .before .before .before .before .before .before .before .before .before .loop .inv .1 .0 .1, c .before .before .before .before .before .before .before .before .before .loop-test .taken, c .before .before .before .before .before .before .before .before .before .before .before .before .before .before .before .before .before .before .pre .0 .0)) (row-names (s .agents) (s .n) j rest (c .before .before .before .before .before .before .before .before .before .loop-test .taken) sheet (going .1 .0)) occurring (going .0) in
-    sym (going .1 .1 ∙ carried-stop (s .agents) d sheet (s .n) j (statesOf (s .w) (j + 1) (c .before .before .before .before .before .before .before .before .before .before .loop .levels)) rest (c .before .before .before .before .before .before .before .before .before .loop-test .taken) (c .before .before .before .before .take-step .result) (stateAt (s .w) levels (j + 1)) (c .before .before .before .before .take-step .ensures .1 d l sheet p occurring belonging acted) (c .before .fault .given .1)
-      (states-kept (s .w) (32 * (j + 1)) (j + 1) (c .before .before .before .before .before .before .before .before .before .before .loop .levels) levels (c .before .before .before .before .take-step .ensures .0 .states) (c .before .before .before .before .before .before .before .before .before .before .before .before .before .before .before .before .before .before .pre .1 .1 .0) (omega arith))))
+returns c = let s = c .before .before .before .before .before .before .before .before .before .before .before .before .before .before .before .before .before .before .args in let j = c .before .before .before .before .before .before .before .before .before .before .loop .j in let rest = c .before .before .before .before .before .before .before .before .before .before .loop .rest .now in let levels = c .before .before .before .before .take-step .last .1 .1 .1 .1 .1 .1 .1 .1 .1 .1 .1 .0 in (
+  (omega (arith, c .before .before .before .before .before .before .before .before .before .loop-test .taken), (λ e. absurd (let z : _≡_ {A = ℕ} 0 1 = cc in omega arith), c .before .before .before .before .take-step .ensures .0 .long)),
+  λ d l p entered agents.
+      let sheet = rows (s .agents) (s .n) (s .sheet .now) in let names = take (s .agents) rest in let going = c .before .before .before .before .before .before .before .before .before .before .loop .inv .1 .1 d l p entered agents in
+      let there = row-there (s .agents) (s .n) j rest (c .before .before .before .before .before .before .before .before .before .loop-test .taken) (c .before .before .before .before .before .before .before .before .before .before .loop .inv .0 .1) in
+      let long = length-take-le (s .agents) rest there ∙ sym agents in
+      let occurring = occurring-is d names (s .actions .now) (s .crews .now) (s .count) entered long (ap (λ (a : Acting). a .entries) (c .before .before .before .before .before .before .before .who-acts .ensures)) in
+      let belonging = belonging-is d names (s .actions .now) (s .crews .now) (s .count) entered long (ap (λ (a : Acting). a .agents) (c .before .before .before .before .before .before .before .who-acts .ensures)) in
+      let acted = acted-more d sheet (c .before .before .before .before .before .before .before .before .before .before .loop .occurred) j names (c .before .before .before .before .before .before .before .who-acts .result .entries) (omega (arith, c .before .before .before .before .before .before .before .before .before .before .loop .inv .1 .0 .1, c .before .before .before .before .before .before .before .before .before .loop-test .taken, c .before .before .before .before .before .before .before .before .before .before .before .before .before .before .before .before .before .before .pre .0 .0)) (row-names (s .agents) (s .n) j rest (c .before .before .before .before .before .before .before .before .before .loop-test .taken) sheet (going .1 .0)) occurring (going .0) in
+      sym (going .1 .1 ∙ carried-stop (s .agents) d sheet (s .n) j (statesOf (s .w) (j + 1) (c .before .before .before .before .before .before .before .before .before .before .loop .levels)) rest (c .before .before .before .before .before .before .before .before .before .loop-test .taken) (c .before .before .before .before .take-step .result) (stateAt (s .w) levels (j + 1)) (c .before .before .before .before .take-step .ensures .1 d l sheet p occurring belonging acted) (c .before .fault .given .1)
+      (states-kept (s .w) (32 * (j + 1)) (j + 1) (c .before .before .before .before .before .before .before .before .before .before .loop .levels) levels (c .before .before .before .before .take-step .ensures .0 .states) (c .before .before .before .before .before .before .before .before .before .before .before .before .before .before .before .before .before .before .pre .1 .1 .0) (omega arith))),
+)
 
 enum-told : tie.Need-enum-told Inv-loop μ-loop
 enum-told c = search needs
@@ -106,19 +114,27 @@ loop-less c = search needs
 
 loop-again : tie.Need-loop-again Inv-loop μ-loop
 loop-again c = let s = c .before .before .before .before .before .before .before .before .before .before .before .before .before .before .before .before .before .before .args in let j = c .before .before .before .before .before .before .before .before .before .before .loop .j in let rest = c .before .before .before .before .before .before .before .before .before .before .loop .rest .now in let levels = c .before .before .before .before .take-step .last .1 .1 .1 .1 .1 .1 .1 .1 .1 .1 .1 .0 in
-    let part : take (length rest - s .agents) (drop (s .agents) rest) ≡ drop (s .agents) rest = rest-is (s .agents) rest in
-    ((omega (arith, c .before .before .before .before .before .before .before .before .before .loop-test .taken), ap length part ∙ row-left (s .agents) (s .n) j rest (c .before .before .before .before .before .before .before .before .before .loop-test .taken) (c .before .before .before .before .before .before .before .before .before .before .loop .inv .0 .1)),
-    ((c .before .before .before .before .take-step .ensures .0 .long, simp length-set (c .before .before .before .before .before .before .before .before .before .before .loop .inv .1 .0 .1)), λ d l p entered agents.
-    let sheet = rows (s .agents) (s .n) (s .sheet .now) in let names = take (s .agents) rest in let going = c .before .before .before .before .before .before .before .before .before .before .loop .inv .1 .1 d l p entered agents in
-    let there = row-there (s .agents) (s .n) j rest (c .before .before .before .before .before .before .before .before .before .loop-test .taken) (c .before .before .before .before .before .before .before .before .before .before .loop .inv .0 .1) in
-    let long = length-take-le (s .agents) rest there ∙ sym agents in
-    let occurring = occurring-is d names (s .actions .now) (s .crews .now) (s .count) entered long (ap (λ (a : Acting). a .entries) (c .before .before .before .before .before .before .before .who-acts .ensures)) in
-    let belonging = belonging-is d names (s .actions .now) (s .crews .now) (s .count) entered long (ap (λ (a : Acting). a .agents) (c .before .before .before .before .before .before .before .who-acts .ensures)) in
-    let acted = acted-more d sheet (c .before .before .before .before .before .before .before .before .before .before .loop .occurred) j names (c .before .before .before .before .before .before .before .who-acts .result .entries) (omega (arith, c .before .before .before .before .before .before .before .before .before .before .loop .inv .1 .0 .1, c .before .before .before .before .before .before .before .before .before .loop-test .taken, c .before .before .before .before .before .before .before .before .before .before .before .before .before .before .before .before .before .before .pre .0 .0)) (row-names (s .agents) (s .n) j rest (c .before .before .before .before .before .before .before .before .before .loop-test .taken) sheet (going .1 .0)) occurring (going .0) in
-    (acted, (row-on (s .agents) (s .n) j rest (c .before .before .before .before .before .before .before .before .before .loop-test .taken) sheet (going .1 .0) ∙ ap (rows (s .agents) (s .n - (j + 1))) (sym part),
-    going .1 .1 ∙ (carried-on (s .agents) d sheet (s .n) j (statesOf (s .w) (j + 1) (c .before .before .before .before .before .before .before .before .before .before .loop .levels)) rest (c .before .before .before .before .before .before .before .before .before .loop-test .taken) (c .before .before .before .before .take-step .result) (stateAt (s .w) levels (j + 1)) (c .before .before .before .before .take-step .ensures .1 d l sheet p occurring belonging acted) (c .before .enum-told .given .1)
-      (states-more (s .w) j (c .before .before .before .before .before .before .before .before .before .before .loop .levels) levels (c .before .before .before .before .take-step .ensures .0 .states) (c .before .before .before .before .before .before .before .before .before .before .before .before .before .before .before .before .before .before .pre .1 .1 .0))
-      ∙ ap (λ (r : List ℕ). carried d sheet (j + 1) (statesOf (s .w) (j + 1 + 1) levels) (rows (s .agents) (s .n - (j + 1)) r)) (sym part))))))
+    let part : take (length rest - s .agents) (drop (s .agents) rest) ≡ drop (s .agents) rest = rest-is (s .agents) rest in (
+      (omega (arith, c .before .before .before .before .before .before .before .before .before .loop-test .taken), ap length part ∙ row-left (s .agents) (s .n) j rest (c .before .before .before .before .before .before .before .before .before .loop-test .taken) (c .before .before .before .before .before .before .before .before .before .before .loop .inv .0 .1)),
+      (
+        (c .before .before .before .before .take-step .ensures .0 .long, simp length-set (c .before .before .before .before .before .before .before .before .before .before .loop .inv .1 .0 .1)),
+        λ d l p entered agents.
+            let sheet = rows (s .agents) (s .n) (s .sheet .now) in let names = take (s .agents) rest in let going = c .before .before .before .before .before .before .before .before .before .before .loop .inv .1 .1 d l p entered agents in
+            let there = row-there (s .agents) (s .n) j rest (c .before .before .before .before .before .before .before .before .before .loop-test .taken) (c .before .before .before .before .before .before .before .before .before .before .loop .inv .0 .1) in
+            let long = length-take-le (s .agents) rest there ∙ sym agents in
+            let occurring = occurring-is d names (s .actions .now) (s .crews .now) (s .count) entered long (ap (λ (a : Acting). a .entries) (c .before .before .before .before .before .before .before .who-acts .ensures)) in
+            let belonging = belonging-is d names (s .actions .now) (s .crews .now) (s .count) entered long (ap (λ (a : Acting). a .agents) (c .before .before .before .before .before .before .before .who-acts .ensures)) in
+            let acted = acted-more d sheet (c .before .before .before .before .before .before .before .before .before .before .loop .occurred) j names (c .before .before .before .before .before .before .before .who-acts .result .entries) (omega (arith, c .before .before .before .before .before .before .before .before .before .before .loop .inv .1 .0 .1, c .before .before .before .before .before .before .before .before .before .loop-test .taken, c .before .before .before .before .before .before .before .before .before .before .before .before .before .before .before .before .before .before .pre .0 .0)) (row-names (s .agents) (s .n) j rest (c .before .before .before .before .before .before .before .before .before .loop-test .taken) sheet (going .1 .0)) occurring (going .0) in (
+              acted,
+              (
+                row-on (s .agents) (s .n) j rest (c .before .before .before .before .before .before .before .before .before .loop-test .taken) sheet (going .1 .0) ∙ ap (rows (s .agents) (s .n - (j + 1))) (sym part),
+                going .1 .1 ∙ (carried-on (s .agents) d sheet (s .n) j (statesOf (s .w) (j + 1) (c .before .before .before .before .before .before .before .before .before .before .loop .levels)) rest (c .before .before .before .before .before .before .before .before .before .loop-test .taken) (c .before .before .before .before .take-step .result) (stateAt (s .w) levels (j + 1)) (c .before .before .before .before .take-step .ensures .1 d l sheet p occurring belonging acted) (c .before .enum-told .given .1)
+                    (states-more (s .w) j (c .before .before .before .before .before .before .before .before .before .before .loop .levels) levels (c .before .before .before .before .take-step .ensures .0 .states) (c .before .before .before .before .before .before .before .before .before .before .before .before .before .before .before .before .before .before .pre .1 .1 .0))
+                    ∙ ap (λ (r : List ℕ). carried d sheet (j + 1) (statesOf (s .w) (j + 1 + 1) levels) (rows (s .agents) (s .n - (j + 1)) r)) (sym part)),
+              ),
+            ),
+      ),
+    )
 
 add-t38 : tie.Need-add-t38 Inv-loop μ-loop
 add-t38 c = search needs
@@ -130,10 +146,13 @@ same-length-4 : tie.Need-same-length-4 Inv-loop μ-loop
 same-length-4 c = search needs
 
 returns-2 : tie.Need-returns-2 Inv-loop μ-loop
-returns-2 c = let s = c .before .before .before .before .before .before .before .before .before .args in let z : c .before .loop .j ≡ s .n = omega arith in ((search needs, (λ e. refl, c .before .loop .inv .1 .0 .0)), λ d l p entered agents.
-    let going = c .before .loop .inv .1 .1 d l p entered agents in
-    sym (going .1 .1 ∙ (carried-end (s .agents) d (rows (s .agents) (s .n) (s .sheet .now)) (s .n) (c .before .loop .j) (statesOf (s .w) (c .before .loop .j + 1) (c .before .loop .levels)) (c .before .loop .rest .now) (c .loop-test .left)
-      ∙ ap (λ (k : ℕ). record { states = statesOf (s .w) (k + 1) (c .before .loop .levels); verdict = accepted }) z)))
+returns-2 c = let s = c .before .before .before .before .before .before .before .before .before .args in let z : c .before .loop .j ≡ s .n = omega arith in (
+  (search needs, (λ e. refl, c .before .loop .inv .1 .0 .0)),
+  λ d l p entered agents.
+      let going = c .before .loop .inv .1 .1 d l p entered agents in
+      sym (going .1 .1 ∙ (carried-end (s .agents) d (rows (s .agents) (s .n) (s .sheet .now)) (s .n) (c .before .loop .j) (statesOf (s .w) (c .before .loop .j + 1) (c .before .loop .levels)) (c .before .loop .rest .now) (c .loop-test .left)
+      ∙ ap (λ (k : ℕ). record { states = statesOf (s .w) (k + 1) (c .before .loop .levels); verdict = accepted }) z)),
+)
 
 pub run-steps-spec : {M : Type 1} → statement M
 run-steps-spec =

@@ -121,6 +121,11 @@ uint8_t waroth_undo(struct waroth_session *session);
 /* Refusals: 17, 13. */
 uint8_t waroth_redo(struct waroth_session *session);
 
+/* Judges the session's sheet against a store; the session itself is passed, and stays as it is. Answers as waroth_judge.
+ * Refusals: 17, 10, 15, 16. The levels: as waroth_judge. */
+uint64_t waroth_verdict(struct waroth_session session, const uint8_t *store, size_t store_size, int16_t *levels,
+                        size_t levels_size);
+
 #ifdef __cplusplus
 }
 #endif

@@ -38,7 +38,7 @@ extern "C" {
     fn waroth_undo(session: *mut Session) -> u8;
     fn waroth_redo(session: *mut Session) -> u8;
     fn waroth_verdict(
-        session: *const Session,
+        session: Session,
         store: *const u8,
         length: usize,
         levels: *mut i16,
@@ -143,6 +143,7 @@ pub fn redo(session: &mut Session) -> Answer {
 
 pub fn verdict_of(session: &Session, store: &[u8], levels: &mut [i16]) -> Answer {
     let (room, to) = (levels.len(), levels.as_mut_ptr());
+    let session = session.clone();
     verdict(unsafe { waroth_verdict(session, store.as_ptr(), store.len(), to, room) })
 }
 

@@ -1,12 +1,15 @@
-// The editing session: enter, strike, amend, undo and redo, by value and on a session that is lent.
-// log.rt reads a log back into a sheet; kept.rt decides refusal 17; value.rt has the five calls by value, lent.rt those
-// that alter the session itself. Only bmap's types and check's comparison stand below.
+// The editing session: open, enter, strike, amend, undo, redo, verdict. log.rt reads a log back into a sheet; kept.rt decides
+// refusal 17; value.rt has the five changes by value, lent.rt those that alter the session itself; opening.rt takes the number
+// of agents from a store, judging.rt hands the sheet to the judge.
+// It stands on `domain` for a store and on `judge`; the desk stands on it.
+mod judging;
 mod kept;
 mod lent;
 mod log;
 mod opening;
 mod value;
 
+pub use judging::verdict;
 pub use kept::is_open;
 pub use lent::amend;
 pub use lent::enter;

@@ -16,5 +16,6 @@ pub use edits::waroth_redo;
 pub use edits::waroth_strike;
 pub use edits::waroth_undo;
 pub use judgements::waroth_judge;
+pub use judgements::waroth_verdict;
 pub use sheets::waroth_read_sheet;
 pub use sheets::waroth_write_sheet;

@@ -6,6 +6,7 @@ use waroth_reference::generate::{Answer, Call, Case, Outcome};
 use waroth_reference::Session;
 
 /// Room for what the program prints at most.
+#[cfg(program)]
 const OUTPUT: usize = 60_000;
 
 /// The answers and every buffer after the call; what was lent only to be read has to be as it was.
@@ -74,6 +75,9 @@ pub fn run_library(case: &Case) -> Result<Outcome, String> {
                 outcome.sessions.push((*session).clone());
             }
         }
+        #[cfg(not(program))]
+        Case::Program { .. } => return Err("the library has no program yet".into()),
+        #[cfg(program)]
         Case::Program { input } => {
             let mut output = Lent::of(&vec![0; OUTPUT]);
             let written = desk::answer(input, output.part());

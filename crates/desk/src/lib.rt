@@ -1,0 +1,21 @@
+// The library's calls for C and Rust, by numbers and slices: include/waroth.h says what each takes and leaves.
+// Each answers by one number, whose meaning is a definition in specs/; the calls themselves stand in the crates below.
+mod domains;
+mod edits;
+mod judgements;
+mod number;
+mod sheets;
+
+pub use domains::waroth_frame;
+pub use domains::waroth_read_domain;
+pub use domains::waroth_write_domain;
+pub use edits::waroth_amend;
+pub use edits::waroth_enter;
+pub use edits::waroth_open;
+pub use edits::waroth_redo;
+pub use edits::waroth_strike;
+pub use edits::waroth_undo;
+pub use judgements::waroth_judge;
+pub use judgements::waroth_verdict;
+pub use sheets::waroth_read_sheet;
+pub use sheets::waroth_write_sheet;

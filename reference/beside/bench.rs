@@ -1,0 +1,133 @@
+//! Both programs on the same inputs in one run: calls a second, and the ratio of the proved library to the second judge.
+//! Each figure is the best of several short runs, which other work on the machine disturbs least; the runs of the two
+//! take turns.
+
+#[allow(dead_code)]
+mod desk;
+mod inputs;
+
+use inputs::Input;
+use std::hint::black_box;
+use std::time::{Duration, Instant};
+use waroth_reference::generate::draft::sheet_text;
+use waroth_reference::generate::{random::Random, sheets, Answer};
+use waroth_reference::judge::{Verdict, LEVELS};
+use waroth_reference::sheet::SHEET_BYTES;
+use waroth_reference::store::STORE_BYTES;
+use waroth_reference::{judge, read_domain, read_sheet};
+
+const RUNS: usize = 9;
+const RUN: Duration = Duration::from_millis(60);
+
+/// Calls a second in one short run.
+fn rate(call: &mut dyn FnMut()) -> f64 {
+    let (start, mut calls) = (Instant::now(), 0u32);
+    while start.elapsed() < RUN {
+        for _ in 0..8 {
+            call();
+        }
+        calls += 8;
+    }
+    f64::from(calls) / start.elapsed().as_secs_f64()
+}
+
+fn compared(name: &str, mut library: impl FnMut(), mut peer: impl FnMut()) {
+    let mut best = [0f64; 2];
+    for _ in 0..RUNS {
+        best[0] = best[0].max(rate(&mut library));
+        best[1] = best[1].max(rate(&mut peer));
+    }
+    let [library, peer] = best;
+    let ratio = library / peer;
+    println!("{name:42} {library:12.0} {peer:12.0} {ratio:8.2}");
+}
+
+fn verdicts(input: &Input) {
+    let (store, sheet) = (input.draft.store(), &input.sheet);
+    let mut levels = vec![0; LEVELS];
+    assert_eq!(judge(&store, sheet, &mut levels), Ok(Verdict::Accepted));
+    let answer = desk::judge(&store, sheet, &mut levels);
+    assert_eq!(answer, Answer::Verdict(Verdict::Accepted));
+    let mut others = levels.clone();
+    compared(
+        &format!("verdicts: {}", input.name),
+        || {
+            black_box(desk::judge(black_box(&store), sheet, &mut levels));
+        },
+        || {
+            let _ = black_box(judge(black_box(&store), sheet, &mut others));
+        },
+    );
+}
+
+fn domain_texts(input: &Input) {
+    let text = input.draft.text();
+    let mut store = vec![0; STORE_BYTES];
+    let used = read_domain(&text, &mut store).expect("a domain that is read");
+    assert_eq!(desk::read_domain(&text, &mut store), Answer::Count(used));
+    let mut other = store.clone();
+    compared(
+        &format!("domain texts of {} bytes", text.len()),
+        || {
+            black_box(desk::read_domain(black_box(&text), &mut store));
+        },
+        || {
+            let _ = black_box(read_domain(black_box(&text), &mut other));
+        },
+    );
+}
+
+fn sheet_texts(input: &Input) {
+    let agents = input.draft.agents;
+    let text = sheet_text(&input.sheet, agents);
+    let mut buffer = [0; SHEET_BYTES];
+    let steps = read_sheet(&text, agents, &mut buffer).expect("a sheet that is read");
+    let answer = desk::read_sheet(&text, agents, &mut buffer);
+    assert_eq!(answer, Answer::Count(steps));
+    let mut other = buffer;
+    compared(
+        &format!("sheet texts of {steps} steps"),
+        || {
+            black_box(desk::read_sheet(black_box(&text), agents, &mut buffer));
+        },
+        || {
+            let _ = black_box(read_sheet(black_box(&text), agents, &mut other));
+        },
+    );
+}
+
+/// Undo and amend in turn, so that the log is full after each second edit.
+fn edits() {
+    let agents = 16;
+    let mut session = sheets::full(&mut Random::seeded(7), agents);
+    let names = [1; 16];
+    for _ in 0..2 {
+        assert_eq!(desk::undo(&mut session), Answer::Done);
+        assert_eq!(desk::amend(&mut session, 1, &names), Answer::Done);
+    }
+    let mut other = session.clone();
+    compared(
+        "session edits, undo and amend, full log",
+        || {
+            black_box(desk::undo(&mut session));
+            black_box(desk::amend(&mut session, 1, &names));
+        },
+        || {
+            let _ = black_box(other.undo());
+            let _ = black_box(other.amend(1, &names));
+        },
+    );
+    assert!(session == other, "the sessions differ");
+}
+
+fn main() {
+    println!("{:42} {:>12} {:>12} {:>8}", "a second", "library", "second", "ratio");
+    let full = inputs::full();
+    for input in [inputs::pool(), inputs::deep()] {
+        verdicts(&input);
+    }
+    verdicts(&full);
+    domain_texts(&inputs::long_text());
+    sheet_texts(&full);
+    edits();
+}

@@ -1,0 +1,113 @@
+//! What the benchmark runs on: accepted domains, and sheets of 64 steps for them that are accepted.
+
+use waroth_reference::generate::draft::{law, mask_frame, Draft};
+use waroth_reference::generate::laws::{constant, node};
+
+const STEPS: usize = 64;
+
+pub struct Input {
+    pub name: &'static str,
+    pub draft: Draft,
+    pub sheet: Vec<u8>,
+}
+
+fn fluent(number: usize) -> Vec<u8> {
+    vec![0x11, number as u8, 0]
+}
+
+fn at_least(expression: &[u8], least: i16) -> Vec<u8> {
+    node(0x25, &[expression, &constant(least)])
+}
+
+/// The paper's pool, and nobody acts.
+pub fn pool() -> Input {
+    Input {
+        name: "pool, 64 idle steps",
+        draft: Draft::pool(),
+        sheet: vec![0; 2 * STEPS],
+    }
+}
+
+/// As many of everything as is allowed; in each step each agent acts.
+pub fn full() -> Input {
+    let entries: Vec<_> = (0..64).map(|e| (1 + e / 16, 1 << (e % 16))).collect();
+    let mut draft = Draft::new(16, &[[-1000, 1000, 0]; 32], &entries);
+    for mask in [0x00FF, 0xFF00] {
+        for number in 0..32 {
+            draft.insert(mask_frame(0xA3, number, mask));
+        }
+    }
+    for entry in 0..64usize {
+        let condition = at_least(&fluent(entry % 32), -1000);
+        draft.insert(law(0xA5, &[&[entry as u8], &condition]));
+    }
+    for effect in 0..40u8 {
+        let raised = node(0x12, &[&fluent(effect as usize % 32), &constant(7)]);
+        let value = node(0x16, &[&raised, &constant(1000)]);
+        draft.insert(law(0xA6, &[&[effect], &[0x2A], &[effect % 32], &value]));
+    }
+    for number in 0..8usize {
+        let both = node(0x12, &[&fluent(number), &fluent(number + 8)]);
+        draft.insert(law(0xA7, &[&at_least(&both, -2000)]));
+        let never = node(0x28, &[&[0x29, number as u8, 0]]);
+        let either = node(0x27, &[&never, &at_least(&fluent(number), -1000)]);
+        draft.insert(law(0xA8, &[&either]));
+        draft.insert(law(0xA9, &[&at_least(&fluent(number), -1000)]));
+    }
+    let mut sheet = Vec::new();
+    for step in 0..STEPS {
+        sheet.extend((0..16).map(|agent| 1 + ((agent + step) % 4) as u8));
+    }
+    let name = "full, 64 steps";
+    Input { name, draft, sheet }
+}
+
+/// An expression of this depth over one fluent, a reified constraint at every third.
+fn nested(depth: usize) -> Vec<u8> {
+    match depth {
+        1 => fluent(0),
+        _ if depth % 3 == 0 => node(0x19, &[&at_least(&nested(depth - 2), 0)]),
+        _ => node(0x12, &[&nested(depth - 1), &constant(1)]),
+    }
+}
+
+/// Laws that are nested 16 deep, 60 of them, and nobody acts.
+pub fn deep() -> Input {
+    let mut draft = Draft::new(1, &[[0, 100, 1]], &[(1, 1)]).free();
+    for _ in 0..60 {
+        let side = at_least(&nested(14), 0);
+        draft.insert(law(0xA7, &[&node(0x26, &[&side, &side])]));
+    }
+    Input {
+        name: "deep laws, 64 steps",
+        draft,
+        sheet: vec![0; STEPS],
+    }
+}
+
+/// "And" over so many comparisons, in halves.
+fn joined(comparisons: usize) -> Vec<u8> {
+    match comparisons {
+        1 => at_least(&fluent(31), 0),
+        _ => {
+            let half = comparisons / 2;
+            node(0x26, &[&joined(half), &joined(comparisons - half)])
+        }
+    }
+}
+
+/// A domain with the longest text: every law fills its line.
+pub fn long_text() -> Input {
+    let Input { mut draft, .. } = full();
+    draft.frames.retain(|frame| frame[0] < 0xA5);
+    let constraint = joined(15);
+    for entry in 0..64 {
+        draft.insert(law(0xA5, &[&[entry], &constraint]));
+        draft.insert(law(0xA7, &[&constraint]));
+    }
+    Input {
+        name: "longest text",
+        draft,
+        sheet: Vec::new(),
+    }
+}

@@ -1,0 +1,270 @@
+//! Cases made for one answer each: every refusal by every cause that the
+//! paper's table names, every kind of fault, and the edges of every limit.
+
+use super::calls::CALLS;
+use super::case::{Call, Case};
+use super::draft::{sheet_text, text_of, Draft};
+use super::faults::LINE_FAULTS;
+use super::random::Random;
+use super::sheets::{self, SESSION_FAULTS};
+use super::texts::{damaged_line, CHARACTER_FAULTS, ORDER_FAULTS, SHEET_FAULTS};
+use super::verdicts::{trials, Trial};
+use crate::judge::LEVELS;
+use crate::refusal::*;
+use crate::session::Session;
+use crate::sheet::SHEET_BYTES;
+use crate::store::STORE_BYTES;
+use std::rc::Rc;
+
+#[derive(Clone, Copy, PartialEq, Eq, Debug)]
+pub enum Expect {
+    /// The last call is refused with this number.
+    Refused(u8),
+    /// The verdict is this kind of fault.
+    Broken(u8),
+    /// The verdict is Accepted.
+    Accepted,
+    /// The last call is not refused.
+    Fine,
+}
+
+pub struct Aim {
+    pub label: String,
+    pub expect: Expect,
+    pub make: Box<dyn Fn(&mut Random) -> Case>,
+}
+
+/// Contents of a buffer that is long enough, sometimes exactly.
+pub fn enough(r: &mut Random, named: usize) -> Vec<u8> {
+    let more = if r.one_in(3) { r.from_to(1, 40) } else { 0 };
+    r.bytes(named + more)
+}
+
+pub fn too_short(r: &mut Random, named: usize) -> Vec<u8> {
+    let length = match r.below(4) {
+        0 => 0,
+        1 => r.below(named),
+        _ => named - 1,
+    };
+    r.bytes(length)
+}
+
+pub fn enough_levels(r: &mut Random) -> Vec<i16> {
+    let more = if r.one_in(3) { r.from_to(1, 40) } else { 0 };
+    r.values(LEVELS + more)
+}
+
+pub fn too_few_levels(r: &mut Random) -> Vec<i16> {
+    let length = *r.pick(&[0, 1, LEVELS - 1]);
+    r.values(length)
+}
+
+/// Bytes with some zeros after them, or none.
+pub fn stored(r: &mut Random, mut bytes: Vec<u8>) -> Vec<u8> {
+    let length = match r.below(4) {
+        0 => bytes.len(),
+        1 => bytes.len() + r.below(200),
+        _ => STORE_BYTES.max(bytes.len()),
+    };
+    bytes.resize(length, 0);
+    bytes
+}
+
+/// A session and one call on it.
+pub fn on(session: Session, call: Call) -> Case {
+    Case::Session {
+        session: Box::new(session),
+        calls: vec![call],
+    }
+}
+
+/// Some call that reads the store.
+pub fn over_store(r: &mut Random, store: Vec<u8>) -> Case {
+    match r.below(6) {
+        0 => Case::WriteDomain {
+            store,
+            text: r.bytes(40_000),
+        },
+        1 => Case::Frames { store },
+        2 => Case::Judge {
+            store,
+            sheet: vec![],
+            levels: enough_levels(r),
+        },
+        3 => {
+            let calls = r.below(8);
+            on(sheets::session(r, 3, calls), Call::Open { store })
+        }
+        4 => Case::Accepted { store },
+        _ => {
+            let agents = store.get(2).map_or(1, |&n| n.clamp(1, 16)) as usize;
+            let levels = enough_levels(r);
+            on(sheets::opened(agents), Call::Verdict { store, levels })
+        }
+    }
+}
+
+/// Some call on the session; edits are in order as far as that can be known.
+fn any_call(r: &mut Random, session: &Session) -> Call {
+    let agents = session.agents.clamp(1, 16) as usize;
+    let names = sheets::names(r, agents);
+    match r.below(6) {
+        0 => Call::Enter { names },
+        1 => Call::Strike,
+        2 => Call::Amend { step: 1, names },
+        3 => Call::Undo,
+        4 => Call::Redo,
+        _ => Call::Verdict {
+            store: Draft::pool().store(),
+            levels: enough_levels(r),
+        },
+    }
+}
+
+use Expect::{Fine, Refused};
+
+fn refused_or_fine(number: u8) -> Expect {
+    match number {
+        0 => Fine,
+        _ => Refused(number),
+    }
+}
+
+#[derive(Default)]
+struct Aims(Vec<Aim>);
+
+impl Aims {
+    fn add(&mut self, label: String, expect: Expect, make: impl Fn(&mut Random) -> Case + 'static) {
+        let make = Box::new(make);
+        self.0.push(Aim {
+            label,
+            expect,
+            make,
+        });
+    }
+
+    /// A domain text, read by the reader and by the program.
+    fn domain_text(
+        &mut self,
+        label: &str,
+        number: u8,
+        text: impl Fn(&mut Random) -> Vec<u8> + Copy + 'static,
+    ) {
+        let expect = refused_or_fine(number);
+        self.add(format!("read_domain: {label}"), expect, move |r| {
+            Case::ReadDomain {
+                text: text(r),
+                store: enough(r, STORE_BYTES),
+            }
+        });
+        // For the program a B1 line ends the domain.
+        if label != "B1 in a domain" {
+            self.add(format!("program: {label}"), expect, move |r| {
+                Case::Program { input: text(r) }
+            });
+        }
+    }
+
+    /// A sheet text for so many agents, read by the reader and, after a
+    /// domain, by the program.
+    fn sheet_text(
+        &mut self,
+        label: &str,
+        number: u8,
+        text: impl Fn(&mut Random, usize) -> Vec<u8> + Copy + 'static,
+    ) {
+        let expect = refused_or_fine(number);
+        self.add(format!("read_sheet: {label}"), expect, move |r| {
+            let agents = r.from_to(1, 16);
+            Case::ReadSheet {
+                text: text(r, agents),
+                agents,
+                buffer: enough(r, SHEET_BYTES),
+            }
+        });
+        self.add(format!("program: sheet with {label}"), expect, move |r| {
+            let agents = r.from_to(1, 16);
+            let mut input = Draft::new(agents, &[[0, 9, 5]], &[(1, 1)]).free().text();
+            input.extend(text(r, agents));
+            Case::Program { input }
+        });
+    }
+
+    /// A trial, before the judge, as a session and as a program's input.
+    fn trial(&mut self, (label, kind, make): Trial) {
+        let expect = match kind {
+            0 => Expect::Accepted,
+            _ => Expect::Broken(kind),
+        };
+        let make = Rc::new(make);
+        let again = make.clone();
+        self.add(format!("judge: {label}"), expect, move |r| {
+            let (draft, sheet) = again(r);
+            let bytes = draft.bytes();
+            Case::Judge {
+                store: stored(r, bytes),
+                sheet,
+                levels: enough_levels(r),
+            }
+        });
+        let again = make.clone();
+        self.add(format!("verdict: {label}"), expect, move |r| {
+            let (draft, sheet) = again(r);
+            let store = draft.bytes();
+            let levels = enough_levels(r);
+            let session = sheets::session_of(&sheet, draft.agents);
+            on(session, Call::Verdict { store, levels })
+        });
+        self.add(format!("program: {label}"), expect, move |r| {
+            let (draft, sheet) = make(r);
+            let mut input = draft.text();
+            input.extend(sheet_text(&sheet, draft.agents));
+            Case::Program { input }
+        });
+    }
+}
+
+/// All aims, in a fixed order.
+pub fn aims() -> Vec<Aim> {
+    let mut aims = Aims::default();
+    for &(label, number, lines) in LINE_FAULTS.iter().chain(ORDER_FAULTS) {
+        aims.domain_text(label, number, move |r| text_of(&lines(r)));
+        // A frame of kind 00 at the end of a store is just zeros.
+        if label != "kind 00" {
+            let expect = refused_or_fine(if number == 0 { 0 } else { STORE });
+            aims.add(format!("store: {label}"), expect, move |r| {
+                let bytes = lines(r).concat();
+                let store = stored(r, bytes);
+                over_store(r, store)
+            });
+        }
+    }
+    for &(label, spoil) in CHARACTER_FAULTS {
+        aims.domain_text(label, LINE, move |r| {
+            let text = Draft::random(r).text();
+            spoil(r, text)
+        });
+        aims.sheet_text(label, LINE, move |r, agents| {
+            let steps = r.from_to(1, 64);
+            let text = sheet_text(&r.bytes(steps * agents), agents);
+            spoil(r, text)
+        });
+    }
+    for &(label, number, steps, spoil) in SHEET_FAULTS {
+        aims.sheet_text(label, number, move |r, agents| {
+            text_of(&damaged_line(r, agents, steps, spoil))
+        });
+    }
+    for &(label, session) in SESSION_FAULTS {
+        aims.add(format!("session: {label}"), Refused(SESSION), move |r| {
+            let session = session(r);
+            let call = any_call(r, &session);
+            on(session, call)
+        });
+    }
+    for &(label, expect, make) in CALLS {
+        aims.add(label.to_string(), expect, make);
+    }
+    trials().into_iter().for_each(|trial| aims.trial(trial));
+    aims.0
+}

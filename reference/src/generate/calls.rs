@@ -1,0 +1,352 @@
+//! Cases of each call made for one refusal, or for the edge just before it.
+
+use super::aims::Expect::{self, Fine, Refused};
+use super::aims::{enough, enough_levels, on, over_store, stored, too_few_levels, too_short};
+use super::case::{Call, Case};
+use super::draft::{frame, text_of, Draft};
+use super::faults::roomy;
+use super::random::Random;
+use super::sheets;
+use crate::line::line_length;
+use crate::refusal::*;
+use crate::sheet::SHEET_BYTES;
+use crate::store::STORE_BYTES;
+
+pub type CallAim = (&'static str, Expect, fn(&mut Random) -> Case);
+
+pub const CALLS: &[CallAim] = &[
+    ("read_domain: store short", Refused(BUFFER), |r| {
+        Case::ReadDomain {
+            text: if r.one_in(2) {
+                r.bytes(20)
+            } else {
+                Draft::random(r).text()
+            },
+            store: too_short(r, STORE_BYTES),
+        }
+    }),
+    ("read_sheet: buffer short", Refused(BUFFER), |r| {
+        Case::ReadSheet {
+            text: if r.one_in(2) { r.bytes(20) } else { vec![] },
+            agents: r.below(20),
+            buffer: too_short(r, SHEET_BYTES),
+        }
+    }),
+    ("read_sheet: agents not 1 to 16", Refused(PAYLOAD), |r| {
+        Case::ReadSheet {
+            text: if r.one_in(2) { r.bytes(20) } else { vec![] },
+            agents: *r.pick(&[0, 17, 255, 256, 257, usize::MAX]),
+            buffer: enough(r, SHEET_BYTES),
+        }
+    }),
+    ("write_sheet: agents not 1 to 16", Refused(PAYLOAD), |r| {
+        Case::WriteSheet {
+            sheet: r.bytes(17),
+            agents: *r.pick(&[0, 17, 255, 256, 257, usize::MAX]),
+            text: r.bytes(50),
+        }
+    }),
+    ("write_sheet: not whole steps", Refused(NOT_WHOLE), |r| {
+        let agents = r.from_to(2, 16);
+        let length = r.from_to(0, 80) * agents + r.from_to(1, agents - 1);
+        Case::WriteSheet {
+            sheet: r.bytes(length),
+            agents,
+            text: r.bytes(50),
+        }
+    }),
+    ("write_sheet: 65 steps", Refused(STEP_65), |r| {
+        let agents = r.from_to(1, 16);
+        Case::WriteSheet {
+            sheet: r.bytes(65 * agents),
+            agents,
+            text: r.bytes(50),
+        }
+    }),
+    ("write_sheet: text short", Refused(BUFFER), |r| {
+        let (agents, steps) = (r.from_to(1, 16), r.from_to(1, 64));
+        let text = too_short(r, steps * line_length(2 + agents));
+        Case::WriteSheet {
+            sheet: r.bytes(steps * agents),
+            agents,
+            text,
+        }
+    }),
+    ("write_sheet: text just long enough", Fine, |r| {
+        let (agents, steps) = (r.from_to(1, 16), *r.pick(&[0, 1, 63, 64]));
+        let text = enough(r, steps * line_length(2 + agents));
+        Case::WriteSheet {
+            sheet: r.bytes(steps * agents),
+            agents,
+            text,
+        }
+    }),
+    ("write_domain: text short", Refused(BUFFER), |r| {
+        let draft = Draft::random(r);
+        let text = too_short(r, draft.text().len());
+        Case::WriteDomain {
+            store: stored(r, draft.bytes()),
+            text,
+        }
+    }),
+    ("write_domain: text just long enough", Fine, |r| {
+        let draft = Draft::random(r);
+        let text = enough(r, draft.text().len());
+        Case::WriteDomain {
+            store: stored(r, draft.bytes()),
+            text,
+        }
+    }),
+    ("judge: levels short", Refused(BUFFER), |r| {
+        let store = if r.one_in(2) {
+            r.bytes(30)
+        } else {
+            Draft::pool().store()
+        };
+        let sheet = r.bytes(3);
+        Case::Judge {
+            store,
+            sheet,
+            levels: too_few_levels(r),
+        }
+    }),
+    ("judge: not whole steps", Refused(NOT_WHOLE), |r| {
+        let length = 1 + 2 * r.below(80);
+        Case::Judge {
+            store: Draft::pool().store(),
+            sheet: vec![0; length],
+            levels: enough_levels(r),
+        }
+    }),
+    ("judge: 65 steps", Refused(STEP_65), |r| {
+        let length = 130 + 2 * r.below(10);
+        Case::Judge {
+            store: Draft::pool().store(),
+            sheet: vec![0; length],
+            levels: enough_levels(r),
+        }
+    }),
+    ("verdict: levels short", Refused(BUFFER), |r| {
+        let store = if r.one_in(2) {
+            r.bytes(30)
+        } else {
+            Draft::pool().store()
+        };
+        let levels = too_few_levels(r);
+        on(
+            sheets::opened(r.from_to(1, 16)),
+            Call::Verdict { store, levels },
+        )
+    }),
+    (
+        "verdict: another number of agents",
+        Refused(AGENTS_DIFFER),
+        |r| {
+            let agents = *r.pick(&[1, 3, 16]);
+            let session = sheets::session(r, agents, 5);
+            let levels = enough_levels(r);
+            on(
+                session,
+                Call::Verdict {
+                    store: Draft::pool().store(),
+                    levels,
+                },
+            )
+        },
+    ),
+    ("store: nonzero after the zeros", Refused(STORE), |r| {
+        let mut store = Draft::random(r).bytes();
+        let more = r.from_to(1, 3000);
+        store.resize(store.len() + more, 0);
+        store.push(r.from_to(1, 255) as u8);
+        let more = r.below(50);
+        store.resize(store.len() + more, 0);
+        over_store(r, store)
+    }),
+    ("store: cut off", Refused(STORE), |r| {
+        let mut store = Draft::random(r).bytes();
+        // Whatever follows the last A5 may be missing; cut inside a frame.
+        store.pop();
+        over_store(r, store)
+    }),
+    ("store: arbitrary bytes", Refused(STORE), |r| {
+        let length = *r.pick(&[1, 2, 30, 1000, STORE_BYTES]);
+        let store = if r.one_in(2) {
+            r.bytes(length)
+        } else {
+            r.likely_bytes(length)
+        };
+        over_store(r, store)
+    }),
+    ("enter: log full", Refused(LOG_FULL), |r| {
+        let agents = r.from_to(1, 16);
+        let length = if r.one_in(3) { agents + 1 } else { agents };
+        on(
+            sheets::full(r, agents),
+            Call::Enter {
+                names: r.bytes(length),
+            },
+        )
+    }),
+    ("strike: log full", Refused(LOG_FULL), |r| {
+        on(sheets::full(r, 3), Call::Strike)
+    }),
+    ("amend: log full", Refused(LOG_FULL), |r| {
+        let (agents, step) = (r.from_to(1, 16), r.below(3) as u64);
+        on(
+            sheets::full(r, agents),
+            Call::Amend {
+                step,
+                names: r.bytes(agents),
+            },
+        )
+    }),
+    ("enter: 200th edit", Fine, |r| {
+        let mut session = sheets::full(r, 2);
+        let _ = session.undo();
+        match session.steps {
+            64 => on(session, Call::Strike),
+            _ => on(session, Call::Enter { names: r.bytes(2) }),
+        }
+    }),
+    ("enter: step of another length", Refused(NOT_WHOLE), |r| {
+        let agents = r.from_to(1, 16);
+        let length = *r.pick(&[0, agents - 1, agents + 1, 17, 300]);
+        let calls = r.below(20);
+        on(
+            sheets::session(r, agents, calls),
+            Call::Enter {
+                names: r.bytes(length),
+            },
+        )
+    }),
+    ("enter: 65th step", Refused(STEP_65), |r| {
+        let agents = r.from_to(1, 16);
+        let sheet = r.bytes(64 * agents);
+        on(
+            sheets::session_of(&sheet, agents),
+            Call::Enter {
+                names: r.bytes(agents),
+            },
+        )
+    }),
+    ("enter: 64th step", Fine, |r| {
+        let agents = r.from_to(1, 16);
+        let sheet = r.bytes(63 * agents);
+        on(
+            sheets::session_of(&sheet, agents),
+            Call::Enter {
+                names: r.bytes(agents),
+            },
+        )
+    }),
+    ("strike: empty sheet", Refused(NO_STEP), |r| {
+        on(sheets::opened(r.from_to(1, 16)), Call::Strike)
+    }),
+    ("strike: sheet struck empty", Refused(NO_STEP), |r| {
+        let mut session = sheets::session_of(&[1, 2], 2);
+        let _ = session.strike();
+        on(
+            session,
+            [
+                Call::Strike,
+                Call::Amend {
+                    step: 1,
+                    names: vec![0; 2],
+                },
+            ][r.below(2)]
+            .clone(),
+        )
+    }),
+    ("amend: step of another length", Refused(NOT_WHOLE), |r| {
+        let length = *r.pick(&[0, 3, 5, 300]);
+        let step = r.below(5) as u64;
+        on(
+            sheets::session(r, 4, 10),
+            Call::Amend {
+                step,
+                names: r.bytes(length),
+            },
+        )
+    }),
+    ("amend: step not there", Refused(NO_STEP), |r| {
+        let calls = r.below(20);
+        let session = sheets::session(r, 4, calls);
+        let step = *r.pick(&[0, session.steps + 1, 65, 256, 257, u64::MAX]);
+        on(
+            session,
+            Call::Amend {
+                step,
+                names: r.bytes(4),
+            },
+        )
+    }),
+    ("amend: step to itself", Fine, |r| {
+        let sheet = r.bytes(3 * 64);
+        let step = r.from_to(1, 64);
+        let names = sheet[3 * (step - 1)..3 * step].to_vec();
+        on(
+            sheets::session_of(&sheet, 3),
+            Call::Amend {
+                step: step as u64,
+                names,
+            },
+        )
+    }),
+    ("undo: no standing edit", Refused(NO_UNDO), |r| {
+        let mut session = sheets::session_of(&r.bytes(9), 3);
+        if r.one_in(3) {
+            session = sheets::opened(3);
+        }
+        while session.undo().is_ok() {}
+        on(session, Call::Undo)
+    }),
+    ("redo: no undone edit", Refused(NO_REDO), |r| {
+        let mut session = sheets::session(r, 3, 12);
+        while session.redo().is_ok() {}
+        on(session, Call::Redo)
+    }),
+    ("redo: undone edits dropped", Refused(NO_REDO), |r| {
+        let mut session = sheets::session_of(&r.bytes(9), 3);
+        let _ = session.undo();
+        let _ = session.enter(&r.bytes(3));
+        on(session, Call::Redo)
+    }),
+    ("open: over an open session", Fine, |r| {
+        let store = Draft::random(r).bytes();
+        on(
+            sheets::session(r, 2, 30),
+            Call::Open {
+                store: stored(r, store),
+            },
+        )
+    }),
+    ("program: input over 60,000 bytes", Refused(INPUT), |r| {
+        let mut input = if r.one_in(2) {
+            Draft::pool().text()
+        } else {
+            vec![]
+        };
+        let length = r.from_to(60_001, 60_003);
+        input.resize(length, *r.pick(b"\nA1g"));
+        Case::Program { input }
+    }),
+    ("program: input of 60,000 bytes", Refused(LINE), |r| {
+        let mut input = Draft::pool().text();
+        input.resize(60_000, *r.pick(b"\nAg"));
+        Case::Program { input }
+    }),
+    (
+        "program: A line after the first B1 line",
+        Refused(KIND),
+        |r| {
+            let draft = roomy(r);
+            let mut input = draft.text();
+            input.extend(text_of(&[
+                frame(0xB1, &vec![0; draft.agents]),
+                frame(0xA9, &[0x2A]),
+            ]));
+            Case::Program { input }
+        },
+    ),
+];

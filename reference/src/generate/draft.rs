@@ -1,0 +1,267 @@
+//! Domains in the making: frames that can still be altered, and random ones.
+
+use super::laws::Ground;
+use super::random::Random;
+use crate::line::{line_length, write_line, MAX_PAYLOAD};
+use crate::store::STORE_BYTES;
+
+pub fn frame(kind: u8, payload: &[u8]) -> Vec<u8> {
+    let mut bytes = vec![kind, payload.len() as u8];
+    bytes.extend_from_slice(payload);
+    bytes
+}
+
+/// Frame of a law: numbers that stand before the constraint, then its parts.
+pub fn law(kind: u8, parts: &[&[u8]]) -> Vec<u8> {
+    frame(kind, &parts.concat())
+}
+
+pub fn agents_frame(agents: usize) -> Vec<u8> {
+    frame(0xA1, &[agents as u8])
+}
+
+pub fn fluent_frame(range: [i16; 3]) -> Vec<u8> {
+    frame(0xA2, &range.map(i16::to_be_bytes).concat())
+}
+
+/// A3 or A4: a number or name, and a mask.
+pub fn mask_frame(kind: u8, first: u8, mask: u16) -> Vec<u8> {
+    let [high, low] = mask.to_be_bytes();
+    frame(kind, &[first, high, low])
+}
+
+/// Lines of bytes as digits, whatever the bytes are.
+pub fn text_of(lines: &[Vec<u8>]) -> Vec<u8> {
+    let mut text = Vec::new();
+    for line in lines {
+        for byte in line {
+            text.extend(format!("{byte:02X}").bytes());
+        }
+        text.push(b'\n');
+    }
+    text
+}
+
+pub fn sheet_text(sheet: &[u8], agents: usize) -> Vec<u8> {
+    let mut text = vec![0; sheet.len() / agents * line_length(2 + agents)];
+    let mut place = 0;
+    for names in sheet.chunks_exact(agents) {
+        place += write_line(0xB1, names, &mut text[place..]);
+    }
+    text
+}
+
+#[derive(Clone)]
+pub struct Draft {
+    pub agents: usize,
+    pub fluents: Vec<[i16; 3]>,
+    pub entries: Vec<(u8, u16)>,
+    pub frames: Vec<Vec<u8>>,
+}
+
+impl Draft {
+    /// A domain that lacks only its laws.
+    pub fn new(agents: usize, fluents: &[[i16; 3]], entries: &[(u8, u16)]) -> Self {
+        let mut draft = Draft {
+            agents,
+            fluents: fluents.to_vec(),
+            entries: entries.to_vec(),
+            frames: vec![agents_frame(agents)],
+        };
+        draft
+            .frames
+            .extend(fluents.iter().map(|&f| fluent_frame(f)));
+        for &(name, crew) in entries {
+            draft.insert(mask_frame(0xA4, name, crew));
+        }
+        draft
+    }
+
+    /// The paper's river of one pool.
+    pub fn pool() -> Self {
+        let mut draft = Draft::new(2, &[[200, 320, 300]], &[(1, 1), (2, 2)]);
+        draft.insert(mask_frame(0xA3, 0, 3));
+        for entry in 0..2 {
+            draft.insert(frame(0xA5, &[entry, 0x24, 0x11, 0, 0, 0x10, 0, 0xDC]));
+        }
+        for (entry, outflow) in [(0, 14), (1, 6)] {
+            draft.insert(frame(
+                0xA6,
+                &[entry, 0x2A, 0, 0x13, 0x11, 0, 0, 0x10, 0, outflow],
+            ));
+        }
+        draft.insert(frame(0xA9, &[0x25, 0x11, 0, 0, 0x10, 1, 0x18]));
+        draft
+    }
+
+    /// Puts a frame behind the last one of its kind or a lower one.
+    pub fn insert(&mut self, frame: Vec<u8>) -> &mut Self {
+        let place = self.frames.partition_point(|held| held[0] <= frame[0]);
+        self.frames.insert(place, frame);
+        self
+    }
+
+    pub fn count(&self, kind: u8) -> usize {
+        self.frames.iter().filter(|held| held[0] == kind).count()
+    }
+
+    pub fn laws(&self) -> usize {
+        (0xA5..=0xA9).map(|kind| self.count(kind)).sum()
+    }
+
+    /// Every entry may always be taken up.
+    pub fn free(mut self) -> Self {
+        for entry in 0..self.entries.len() {
+            self.insert(frame(0xA5, &[entry as u8, 0x2A]));
+        }
+        self
+    }
+
+    pub fn everybody(&self) -> u16 {
+        (0xFFFFu32 >> (16 - self.agents)) as u16
+    }
+
+    pub fn ground(&self, entries: usize) -> Ground<'_> {
+        Ground {
+            fluents: &self.fluents,
+            entries,
+        }
+    }
+
+    pub fn bytes(&self) -> Vec<u8> {
+        self.frames.concat()
+    }
+
+    /// A store as the domain reader leaves it.
+    pub fn store(&self) -> Vec<u8> {
+        let mut store = self.bytes();
+        store.resize(STORE_BYTES, 0);
+        store
+    }
+
+    pub fn text(&self) -> Vec<u8> {
+        text_of(&self.frames)
+    }
+
+    /// A random accepted domain.
+    pub fn random(r: &mut Random) -> Self {
+        let big = r.one_in(12);
+        let agents = if big {
+            r.from_to(1, 16)
+        } else {
+            r.from_to(1, 4)
+        };
+        let fluents = if big {
+            r.from_to(1, 32)
+        } else {
+            r.from_to(1, 4)
+        };
+        let entries = if big {
+            r.from_to(1, 64)
+        } else {
+            r.from_to(1, 6)
+        };
+        let ranges: Vec<_> = (0..fluents).map(|_| range(r)).collect();
+        let everybody = (0xFFFFu32 >> (16 - agents)) as u16;
+        let mut crews = Vec::new();
+        for _ in 0..entries {
+            let name = match r.below(8) {
+                0 => r.from_to(1, 255),
+                _ => r.from_to(1, 4 + entries / 4),
+            } as u8;
+            let crew = match r.below(3) {
+                0 => r.draw() as u16 & everybody,
+                _ => 1 << r.below(agents),
+            };
+            if crew != 0 && !crews.contains(&(name, crew)) {
+                crews.push((name, crew));
+            }
+        }
+        if crews.is_empty() {
+            crews.push((r.from_to(1, 255) as u8, 1));
+        }
+        let mut draft = Draft::new(agents, &ranges, &crews);
+        draft.add_knowledge(r, everybody);
+        draft.add_laws(r, big);
+        draft
+    }
+
+    fn add_knowledge(&mut self, r: &mut Random, everybody: u16) {
+        for fluent in 0..self.fluents.len() as u8 {
+            let mask = match r.below(8) {
+                0 => 0,
+                1 => r.draw() as u16 & everybody,
+                _ => everybody,
+            };
+            // Several frames add up, so some masks come in two parts.
+            let part = if r.one_in(3) {
+                r.draw() as u16 & mask
+            } else {
+                0
+            };
+            for piece in [part, mask & !part] {
+                if piece != 0 {
+                    self.insert(mask_frame(0xA3, fluent, piece));
+                }
+            }
+        }
+    }
+
+    fn add_laws(&mut self, r: &mut Random, big: bool) {
+        let calm = !r.one_in(3);
+        let likely = |r: &mut Random, ground: &Ground| match calm && !r.one_in(12) {
+            true => ground.likely(r),
+            false => ground.wild(r, MAX_PAYLOAD - 1, Ground::constraint),
+        };
+        let entries = self.entries.len();
+        let mut laws = Vec::new();
+        for entry in 0..entries as u8 {
+            for _ in 0..if r.one_in(4) && entries < 40 { 2 } else { 1 } {
+                let condition = likely(r, &self.ground(entries));
+                laws.push(law(0xA5, &[&[entry], &condition]));
+            }
+        }
+        let effects = r.from_to(0, if big { 40 } else { 6 });
+        for _ in 0..effects {
+            let ground = self.ground(entries);
+            let entry = r.below(entries) as u8;
+            let fluent = r.below(self.fluents.len());
+            let condition = match r.below(3) {
+                0 => ground.wild(r, 50, Ground::constraint),
+                1 => vec![0x29, r.below(entries) as u8, super::laws::lag(r)],
+                _ => vec![0x2A],
+            };
+            let value = match calm && !r.one_in(10) {
+                true => ground.setting(r, fluent),
+                false => ground.wild(r, 50, Ground::expression),
+            };
+            let parts: [&[u8]; 4] = [&[entry], &condition, &[fluent as u8], &value];
+            laws.push(law(0xA6, &parts));
+        }
+        for (kind, usable) in [(0xA7, 0), (0xA8, entries), (0xA9, 0)] {
+            for _ in 0..r.below(if big { 8 } else { 3 }) {
+                laws.push(law(kind, &[&likely(r, &self.ground(usable))]));
+            }
+        }
+        laws.truncate(128);
+        laws.into_iter().for_each(|law| {
+            self.insert(law);
+        });
+    }
+}
+
+/// A random fluent: lowest, highest, start.
+fn range(r: &mut Random) -> [i16; 3] {
+    let mut bounds = match r.below(6) {
+        0 => [i16::MIN, i16::MAX, r.value()],
+        1 => [r.value(), r.value(), r.value()],
+        2 => [7; 3],
+        _ => {
+            let low = r.below(200) as i16 - 100;
+            let width = r.below(60);
+            [low, low + width as i16, low + r.below(width + 1) as i16]
+        }
+    };
+    bounds.sort();
+    [bounds[0], bounds[2], bounds[1]]
+}

@@ -1,0 +1,153 @@
+//! Random constraints and expressions as prefix bytes.
+
+use super::random::Random;
+use crate::law::MAX_DEPTH;
+
+/// What a random law may refer to.
+pub struct Ground<'a> {
+    /// Lowest, highest and start value of each fluent; at least one.
+    pub fluents: &'a [[i16; 3]],
+    /// Number of entries; code 29 is used only if there are some.
+    pub entries: usize,
+}
+
+pub fn constant(value: i16) -> Vec<u8> {
+    let [high, low] = value.to_be_bytes();
+    vec![0x10, high, low]
+}
+
+/// Prefix bytes of a code and its operands.
+pub fn node(code: u8, operands: &[&[u8]]) -> Vec<u8> {
+    let mut bytes = vec![code];
+    operands
+        .iter()
+        .for_each(|part| bytes.extend_from_slice(part));
+    bytes
+}
+
+/// A chain of one-operand codes around a part.
+pub fn wrapped(code: u8, times: usize, part: &[u8]) -> Vec<u8> {
+    let mut bytes = vec![code; times];
+    bytes.extend_from_slice(part);
+    bytes
+}
+
+pub fn lag(r: &mut Random) -> u8 {
+    match r.below(20) {
+        0..=11 => 0,
+        12..=16 => r.from_to(1, 3) as u8,
+        17..=18 => r.from_to(0, 63) as u8,
+        _ => 63,
+    }
+}
+
+impl Ground<'_> {
+    fn fluent(&self, r: &mut Random) -> Vec<u8> {
+        vec![0x11, r.below(self.fluents.len()) as u8, lag(r)]
+    }
+
+    fn constant(&self, r: &mut Random) -> Vec<u8> {
+        let range = self.fluents[r.below(self.fluents.len())];
+        constant(match r.below(6) {
+            0 => 0,
+            1 | 2 => r.below(9) as i16 - 4,
+            3 => range[r.below(3)],
+            4 => *r.pick(&[i16::MIN, i16::MAX, 31_622, 31_623, -31_623]),
+            _ => r.value(),
+        })
+    }
+
+    /// An expression at most so many levels deep, its own included.
+    pub fn expression(&self, r: &mut Random, levels: usize) -> Vec<u8> {
+        if levels < 3 || r.one_in(3) {
+            return if r.one_in(3) {
+                self.constant(r)
+            } else {
+                self.fluent(r)
+            };
+        }
+        let code = *r.pick(&[0x12, 0x12, 0x13, 0x13, 0x14, 0x15, 0x16, 0x17, 0x18, 0x19]);
+        let first = match code {
+            0x19 => self.constraint(r, levels - 1),
+            _ => self.expression(r, levels - 1),
+        };
+        match code {
+            0x17..=0x19 => node(code, &[&first]),
+            _ => node(code, &[&first, &self.expression(r, levels - 1)]),
+        }
+    }
+
+    /// A constraint at most so many levels deep, its own included.
+    pub fn constraint(&self, r: &mut Random, levels: usize) -> Vec<u8> {
+        match r.below(10) {
+            0..=4 if levels > 1 => {
+                let code = r.from_to(0x20, 0x25) as u8;
+                let left = self.expression(r, levels - 1);
+                node(code, &[&left, &self.expression(r, levels - 1)])
+            }
+            5 | 6 if levels > 2 => {
+                let code = r.from_to(0x26, 0x27) as u8;
+                let left = self.constraint(r, levels - 1);
+                node(code, &[&left, &self.constraint(r, levels - 1)])
+            }
+            7 if levels > 1 => node(0x28, &[&self.constraint(r, levels - 1)]),
+            8 | 9 if self.entries > 0 => vec![0x29, r.below(self.entries) as u8, lag(r)],
+            _ => vec![0x2A],
+        }
+    }
+
+    /// A constraint that is true in most states, so that long sheets exist.
+    pub fn likely(&self, r: &mut Random) -> Vec<u8> {
+        let fluent = r.below(self.fluents.len());
+        let read = vec![0x11, fluent as u8, lag(r)];
+        let [lowest, highest, _] = self.fluents[fluent];
+        match r.below(8) {
+            0..=2 => vec![0x2A],
+            3 => node(0x25, &[&read, &constant(lowest)]),
+            4 => node(0x23, &[&read, &constant(highest)]),
+            5 => node(0x27, &[&[0x2A], &self.constraint(r, 3)]),
+            6 => wrapped(0x28, 2, &node(0x21, &[&read, &constant(r.value())])),
+            _ => {
+                let deep = wrapped(0x28, 2 * r.from_to(1, 6), &[0x2A]);
+                node(0x26, &[&deep, &[0x2A]])
+            }
+        }
+    }
+
+    /// An expression that mostly stays in the fluent's range.
+    pub fn setting(&self, r: &mut Random, fluent: usize) -> Vec<u8> {
+        let [lowest, highest, start] = self.fluents[fluent];
+        let own = vec![0x11, fluent as u8, lag(r)];
+        match r.below(6) {
+            0 => constant(start),
+            1 => constant(*r.pick(&[lowest, highest])),
+            2 => own,
+            3 | 4 => {
+                let code = *r.pick(&[0x12, 0x13]);
+                node(code, &[&own, &constant(r.below(4) as i16)])
+            }
+            _ => {
+                // Start value, or one more if some constraint is true.
+                let flag = node(0x19, &[&self.constraint(r, 3)]);
+                node(0x12, &[&constant(start), &flag])
+            }
+        }
+    }
+
+    /// Tries deep and wide laws first and shrinks until they fit.
+    pub fn wild(
+        &self,
+        r: &mut Random,
+        room: usize,
+        make: impl Fn(&Self, &mut Random, usize) -> Vec<u8>,
+    ) -> Vec<u8> {
+        let mut levels = r.from_to(2, MAX_DEPTH);
+        loop {
+            let bytes = make(self, r, levels);
+            if bytes.len() <= room {
+                return bytes;
+            }
+            levels = (levels - 1).max(2);
+        }
+    }
+}

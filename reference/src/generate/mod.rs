@@ -1,0 +1,70 @@
+//! A seeded generator of cases for this and any other implementation.
+
+pub mod aims;
+pub mod calls;
+pub mod case;
+pub mod coverage;
+pub mod draft;
+pub mod faults;
+pub mod laws;
+mod mix;
+pub mod random;
+mod shapes;
+pub mod sheets;
+pub mod texts;
+pub mod verdicts;
+
+pub use aims::{Aim, Expect};
+pub use case::{run_reference, Answer, Call, Case, Outcome};
+pub use coverage::Coverage;
+
+use random::Random;
+
+/// Hands out cases without end; the same seed gives the same cases.
+pub struct Generator {
+    random: Random,
+    aims: Vec<Aim>,
+    made: usize,
+}
+
+/// A case and, if it was made for one answer, the number of its aim.
+pub struct Generated {
+    pub case: Case,
+    pub aim: Option<usize>,
+}
+
+impl Generator {
+    pub fn seeded(seed: u64) -> Self {
+        Generator {
+            random: Random::seeded(seed),
+            aims: aims::aims(),
+            made: 0,
+        }
+    }
+
+    pub fn aims(&self) -> &[Aim] {
+        &self.aims
+    }
+}
+
+impl Iterator for Generator {
+    type Item = Generated;
+
+    /// Every second case has an aim, one after another.
+    fn next(&mut self) -> Option<Generated> {
+        let number = self.made;
+        self.made += 1;
+        Some(if number.is_multiple_of(2) {
+            let aim = number / 2 % self.aims.len();
+            Generated {
+                case: (self.aims[aim].make)(&mut self.random),
+                aim: Some(aim),
+            }
+        } else {
+            Generated {
+                case: mix::any(&mut self.random, &self.aims),
+                aim: None,
+            }
+        })
+    }
+}

@@ -1,0 +1,20 @@
+//! A reader and writer of domains and sheets, a judge, an editing session and
+//! one program, in plain Rust. See README.md for what it is for.
+
+pub mod domain;
+pub mod generate;
+pub mod judge;
+pub mod law;
+pub mod line;
+pub mod number;
+pub mod program;
+pub mod refusal;
+pub mod session;
+pub mod sheet;
+pub mod store;
+
+pub use domain::Domain;
+pub use judge::{judge, Verdict};
+pub use session::Session;
+pub use sheet::{read_sheet, write_sheet};
+pub use store::{accepted, read_domain, write_domain, FrameReader};

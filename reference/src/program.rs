@@ -1,0 +1,64 @@
+//! The program: a domain and a sheet in, states and a verdict out.
+
+use crate::judge::{self, Verdict, LEVELS};
+use crate::refusal;
+use crate::sheet::{self, SHEET_BYTES};
+use crate::store::{self, STORE_BYTES};
+use std::io::Write;
+
+pub const MAX_INPUT: usize = 60_000;
+
+/// What the program prints for its whole input. One byte more than
+/// [`MAX_INPUT`] is enough to see that the input is too long.
+pub fn run(input: &[u8]) -> Vec<u8> {
+    print(input).unwrap_or_else(|(number, line)| format!("REFUSED {number} {line}\n").into_bytes())
+}
+
+fn print(input: &[u8]) -> Result<Vec<u8>, (u8, usize)> {
+    if input.len() > MAX_INPUT {
+        return Err((refusal::INPUT, 0));
+    }
+    let (domain_text, sheet_text) = input.split_at(sheet_start(input));
+    let mut store = vec![0; STORE_BYTES];
+    let used = store::read_domain(domain_text, &mut store)?;
+    let domain = store::parse(&store[..used]).ok_or((refusal::STORE, 0))?;
+
+    let lines_before = domain_text.iter().filter(|&&byte| byte == b'\n').count();
+    let mut sheet = [0; SHEET_BYTES];
+    let steps = sheet::read_sheet(sheet_text, domain.agents(), &mut sheet)
+        .map_err(|(number, line)| (number, lines_before + line))?;
+
+    let mut levels = [0; LEVELS];
+    let names = &sheet[..steps * domain.agents()];
+    let (verdict, states) = judge::run(&domain, names, &mut levels);
+    Ok(report(&levels, states, domain.fluents().len(), verdict))
+}
+
+/// Where the first line that starts with "B1" begins, or the end.
+fn sheet_start(input: &[u8]) -> usize {
+    let mut start = 0;
+    for line in input.split_inclusive(|&byte| byte == b'\n') {
+        if line.starts_with(b"B1") {
+            return start;
+        }
+        start += line.len();
+    }
+    start
+}
+
+fn report(levels: &[i16], states: usize, width: usize, verdict: Verdict) -> Vec<u8> {
+    let mut out = Vec::with_capacity(64 + states * (8 + 7 * width));
+    // Writing to a vector cannot fail.
+    for (number, state) in levels.chunks_exact(width).take(states).enumerate() {
+        let _ = write!(out, "S {number}");
+        for level in state {
+            let _ = write!(out, " {level}");
+        }
+        out.push(b'\n');
+    }
+    let _ = match verdict {
+        Verdict::Accepted => writeln!(out, "ACCEPTED"),
+        Verdict::Broken { kind, step, number } => writeln!(out, "BROKEN {kind} {step} {number}"),
+    };
+    out
+}

@@ -1,0 +1,80 @@
+//! Sheets: one name (or 0) per agent, step after step.
+
+use crate::domain::Domain;
+use crate::line::{line_length, write_line, Lines};
+use crate::refusal;
+
+pub const STEP: u8 = 0xB1;
+pub const MAX_STEPS: usize = 64;
+
+/// Bytes that the sheet reader asks of its buffer: the longest sheet.
+pub const SHEET_BYTES: usize = MAX_STEPS * Domain::MAX_AGENTS;
+
+fn check_agents(agents: usize) -> Result<(), u8> {
+    let known = (1..=Domain::MAX_AGENTS).contains(&agents);
+    known.then_some(()).ok_or(refusal::PAYLOAD)
+}
+
+/// The number of steps of a sheet; refusals 8 and 9.
+pub fn steps_of(sheet: &[u8], agents: usize) -> Result<usize, u8> {
+    if !sheet.len().is_multiple_of(agents) {
+        return Err(refusal::NOT_WHOLE);
+    }
+    let steps = sheet.len() / agents;
+    if steps > MAX_STEPS {
+        return Err(refusal::STEP_65);
+    }
+    Ok(steps)
+}
+
+/// Reads a sheet text into the buffer and returns the number of steps, or the
+/// refusal and its line.
+pub fn read_sheet(text: &[u8], agents: usize, buffer: &mut [u8]) -> Result<usize, (u8, usize)> {
+    if buffer.len() < SHEET_BYTES {
+        return Err((refusal::BUFFER, 0));
+    }
+    let read = check_agents(agents)
+        .map_err(|number| (number, 0))
+        .and_then(|()| fill(text, agents, buffer));
+    let used = read.map_or(0, |steps| steps * agents);
+    buffer[used..].fill(0);
+    read
+}
+
+fn fill(text: &[u8], agents: usize, buffer: &mut [u8]) -> Result<usize, (u8, usize)> {
+    let mut lines = Lines::of(text);
+    let mut steps = 0;
+    while let Some(frame) = lines.next_frame() {
+        let taken = frame.and_then(|frame| {
+            let names = &frame[2..];
+            if frame[0] != STEP {
+                return Err(refusal::KIND);
+            }
+            if steps == MAX_STEPS {
+                return Err(refusal::STEP_65);
+            }
+            if names.len() != agents {
+                return Err(refusal::NOT_WHOLE);
+            }
+            buffer[steps * agents..][..agents].copy_from_slice(names);
+            steps += 1;
+            Ok(())
+        });
+        taken.map_err(|number| (number, lines.number()))?;
+    }
+    Ok(steps)
+}
+
+/// Writes the text of a sheet and returns the bytes written.
+pub fn write_sheet(sheet: &[u8], agents: usize, text: &mut [u8]) -> Result<usize, u8> {
+    check_agents(agents)?;
+    let steps = steps_of(sheet, agents)?;
+    if text.len() < steps * line_length(2 + agents) {
+        return Err(refusal::BUFFER);
+    }
+    let mut place = 0;
+    for names in sheet.chunks_exact(agents) {
+        place += write_line(STEP, names, &mut text[place..]);
+    }
+    Ok(place)
+}

@@ -1,0 +1,151 @@
+//! The store: a domain's frames end to end, then zeros.
+
+use crate::domain::Domain;
+use crate::law::Target;
+use crate::line::{line_length, write_line, Lines, MAX_PAYLOAD};
+use crate::refusal;
+
+/// Bytes that the domain reader asks of its store.
+pub const STORE_BYTES: usize = 36_000;
+
+/// Reads a domain text into the store and returns the bytes used, or the
+/// refusal and its line.
+///
+/// The limits keep every accepted domain far below [`STORE_BYTES`], so the
+/// frames always fit.
+pub fn read_domain(text: &[u8], store: &mut [u8]) -> Result<usize, (u8, usize)> {
+    if store.len() < STORE_BYTES {
+        return Err((refusal::BUFFER, 0));
+    }
+    match fill(text, store) {
+        Ok(used) => {
+            store[used..].fill(0);
+            Ok(used)
+        }
+        Err(refused) => {
+            store.fill(0);
+            Err(refused)
+        }
+    }
+}
+
+fn fill(text: &[u8], store: &mut [u8]) -> Result<usize, (u8, usize)> {
+    let mut lines = Lines::of(text);
+    let mut domain = Domain::checking();
+    let mut used = 0;
+    while let Some(frame) = lines.next_frame() {
+        let added = frame.and_then(|frame| {
+            domain.add(frame)?;
+            store[used..used + frame.len()].copy_from_slice(frame);
+            used += frame.len();
+            Ok(())
+        });
+        added.map_err(|number| (number, lines.number()))?;
+    }
+    domain.finish().map_err(|number| (number, lines.number()))?;
+    Ok(used)
+}
+
+/// The frame at a place of any store: a kind other than 00, a count up to 120
+/// and the whole payload.
+#[inline]
+pub fn frame_at(store: &[u8], place: usize) -> Option<&[u8]> {
+    let rest = store.get(place..)?;
+    let &[kind, count, ..] = rest else {
+        return None;
+    };
+    if kind == 0 || count as usize > MAX_PAYLOAD {
+        return None;
+    }
+    rest.get(..2 + count as usize)
+}
+
+/// Adds the store's frames to an empty domain; `None` unless the store is an
+/// accepted domain followed by zeros.
+fn gather<T: Target>(store: &[u8], mut domain: Domain<T>) -> Option<Domain<T>> {
+    let mut place = 0;
+    while let Some(frame) = frame_at(store, place) {
+        domain.add(frame).ok()?;
+        place += frame.len();
+    }
+    domain.finish().ok()?;
+    all_zero(&store[place..]).then_some(domain)
+}
+
+/// Whether all bytes are 0. Most of a store is, so this goes block by block,
+/// without an exit inside a block.
+pub(crate) fn all_zero(bytes: &[u8]) -> bool {
+    let none_set = |block: &[u8]| block.iter().fold(0, |seen, byte| seen | byte) == 0;
+    let (blocks, rest) = bytes.as_chunks::<256>();
+    blocks.iter().all(|block| none_set(block)) && none_set(rest)
+}
+
+/// Whether the store is an accepted domain followed by zeros.
+pub fn accepted(store: &[u8]) -> bool {
+    agents(store).is_some()
+}
+
+/// The number of agents of an accepted domain.
+pub fn agents(store: &[u8]) -> Option<usize> {
+    gather(store, Domain::checking()).map(|domain| domain.agents())
+}
+
+/// The domain of an accepted store, its laws compiled.
+pub fn parse(store: &[u8]) -> Option<Domain> {
+    gather(store, Domain::compiling(store.len()))
+}
+
+/// Writes the text of an accepted domain and returns the bytes written.
+pub fn write_domain(store: &[u8], text: &mut [u8]) -> Result<usize, u8> {
+    let frames = FrameReader::start(store)?;
+    let length: usize = frames.clone().map(|frame| line_length(frame.len())).sum();
+    if text.len() < length {
+        return Err(refusal::BUFFER);
+    }
+    let mut place = 0;
+    for frame in frames {
+        place += write_line(frame[0], &frame[2..], &mut text[place..]);
+    }
+    Ok(place)
+}
+
+/// Hands out the frames of a store, each as the stored bytes themselves. It
+/// stays where no frame stands, so it goes on answering `None` there.
+#[derive(Clone, Debug)]
+pub struct FrameReader<'a> {
+    store: &'a [u8],
+    place: usize,
+}
+
+impl<'a> FrameReader<'a> {
+    /// Stands at the first frame of an accepted domain; refusal 15 otherwise.
+    pub fn start(store: &'a [u8]) -> Result<Self, u8> {
+        if accepted(store) {
+            Ok(FrameReader { store, place: 0 })
+        } else {
+            Err(refusal::STORE)
+        }
+    }
+
+    /// What a refused start leaves: a reader over no bytes.
+    pub fn over_nothing() -> Self {
+        FrameReader {
+            store: &[],
+            place: 0,
+        }
+    }
+
+    pub fn place(&self) -> usize {
+        self.place
+    }
+}
+
+impl<'a> Iterator for FrameReader<'a> {
+    type Item = &'a [u8];
+
+    fn next(&mut self) -> Option<&'a [u8]> {
+        let frame = frame_at(self.store, self.place)?;
+        self.place += frame.len();
+        Some(frame)
+    }
+}

@@ -5,7 +5,7 @@ use crate::number::written;
 use sheet::ReadSheet;
 ghost use mathlib.Core.Path.{_≡_};
 ghost use Rattle.bmap.specs.Sheet.{readSheet, writeSheet};
-ghost use Rattle.sheet.specs.Step.{readingOf};
+ghost use Rattle.sheet.specs.Answer.{readingOf};
 ghost use Rattle.desk.specs.Numbers.{readNumber, writtenNumber};
 
 fn read(answer: ReadSheet) -> u64

@@ -1,5 +1,5 @@
 use mathlib.Core.Path.{_∙_, sym, ap}
-use Rattle.sheet.specs.Step.{readingOf}
+use Rattle.sheet.specs.Answer.{readingOf}
 use Rattle.sheet.specs.declared.reader.ReadSheet.{ReadSheet}
 use Rattle.desk.specs.Numbers.{readNumber}
 use borrow.Author.Needs.{needs}

@@ -16,6 +16,7 @@ pub mod Sheet
 pub mod Judge
 pub mod Verdict
 pub mod Session
+pub mod Series
 pub mod Program
 pub mod River
 pub mod Cases

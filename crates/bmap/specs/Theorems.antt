@@ -1,20 +1,24 @@
--- What is to be shown of the definitions: lines round-trip exactly, and 17 is exact. Each is proved in the crate that it is about.
+-- What is to be shown of the definitions: lines round-trip exactly, 17 is exact, and a session's sheet and verdict are those of its standing edits. Each is proved in the crate that it is about.
 use Prim.Native.Nat.{ℕ, _≤_, _*_, _/_}
 use mathlib.Core.Path.{_≡_}
 use mathlib.Core.Logic.{_↔_}
 use mathlib.Core.Bool.{true}
-use mathlib.Core.List.{List}
+use mathlib.Core.List.{List, []}
 use lib.Dec.{T, ltb}
+use lib.IntN.{ℤ}
 use lib.ListN.{length, take}
 use Rattle.bmap.specs.Plain.{all}
-use Rattle.bmap.specs.Limits.{storeSize, sheetSize}
+use Rattle.bmap.specs.Limits.{storeSize, sheetSize, levelsSize}
 use Rattle.bmap.specs.Refusal.{got}
 use Rattle.bmap.specs.Accept.{read}
 use Rattle.bmap.specs.Domain.{Domain, Names}
 use Rattle.bmap.specs.Buffer.{padded, over}
-use Rattle.bmap.specs.Store.{reading, readDomain, writeDomain}
+use Rattle.bmap.specs.Store.{reading, readDomain, writeDomain, domainIn}
 use Rattle.bmap.specs.Sheet.{stepsIn, readSheet, writeSheet}
-use Rattle.bmap.specs.Session.{isOpen, CouldBeLeft}
+use Rattle.bmap.specs.Judge.{judge}
+use Rattle.bmap.specs.Verdict.{judgement}
+use Rattle.bmap.specs.Session.{isOpen, CouldBeLeft, Call, opened, after, replies, sheetOf, replayed, layout, openSession, verdictOf}
+use Rattle.bmap.specs.Series.{sessionAfter, repliesOf}
 use Rattle.bmap.specs.declared.session.Session.{Session}
 
 -- what a lent buffer of bytes holds
@@ -52,3 +56,18 @@ SheetReturns =
 -- the test for 17 decides what an accepted opening and calls after it could leave
 abbrev pub OpenExactly : Type 0
 OpenExactly = (s : Session) → (isOpen s ≡ true) ↔ CouldBeLeft s
+
+-- "The session's sheet is what an empty sheet becomes when the standing edits are done in order, and its verdict is the judge's":
+-- after any accepted opening and any calls, refused ones among them
+pub record SheetStands (store : List ℕ) (d : Domain) (calls : List Call) : Type 0 where
+  -- the session that they leave, their replies, and its sheet
+  pub opens : openSession store .answer ≡ got tt
+  pub leaves : sessionAfter calls (openSession store .session) ≡ layout (after calls (opened d))
+  pub answers : repliesOf calls (openSession store .session) ≡ replies calls (opened d)
+  pub sheet : replayed (d .agents) (after calls (opened d) .standing) [] ≡ got (sheetOf (after calls (opened d)))
+  -- every verdict of it
+  pub verdicts : (other : List ℕ) (e : Domain) (levels : List ℤ) → domainIn other ≡ got e → e .agents ≡ d .agents → levelsSize ≤ length levels
+      → verdictOf (sessionAfter calls (openSession store .session)) other levels ≡ judgement levels (got (judge e (sheetOf (after calls (opened d)))))
+
+abbrev pub SheetsStand : Type 0
+SheetsStand = (store : List ℕ) (d : Domain) (calls : List Call) → domainIn store ≡ got d → SheetStands store d calls

@@ -4,8 +4,7 @@ use mathlib.Core.Path.{_≡_, refl, sym, ap, _∙_}
 use mathlib.Core.List.{List, [], _∷_}
 use lib.ListN.{getD}
 use Rattle.bmap.specs.Refusal.{numberOf}
-use Rattle.bmap.specs.declared.refusal.Refusal.{Refusal}
-use Rattle.bmap.specs.declared.refusal.Refusal.the-variants.{BadLine, BadCount, BadKind, BadPayload, TooMany, Repeated, Incomplete, NotWhole, TooLong, NoRoom, NoStep, NothingStands, NothingUndone, LogFull, NotDomain, OtherAgents, NotSession, LongInput}
+use Rattle.bmap.proofs.RefusalLaws.{same-refusal}
 use Rattle.judge.specs.Answer.{kindOf, verdictOf, answerOf}
 use Rattle.judge.specs.declared.verdict.Fault.{Fault}
 use Rattle.judge.specs.declared.verdict.Fault.the-variants.{Misplaced, Barred, Concurrency, Conflict, Range, Static, NoValue, Goal}
@@ -14,35 +13,7 @@ use Rattle.judge.specs.declared.verdict.Verdict.the-variants.{Accepted, 
 use Rattle.judge.specs.declared.verdict.Judgement.{Judgement}
 use Rattle.judge.specs.declared.verdict.Judgement.the-variants.{Refused, Judged}
 
--- the refusals and the faults by their number
-refusals : List Refusal
-refusals =
-    BadLine ∷ BadCount ∷ BadKind ∷ BadPayload ∷ TooMany ∷ Repeated ∷ Incomplete ∷ NotWhole ∷ TooLong ∷ NoRoom ∷ NoStep ∷ NothingStands ∷ NothingUndone ∷ LogFull ∷ NotDomain ∷ OtherAgents ∷ NotSession ∷ LongInput ∷ []
-
-refusal-of : (r : Refusal) → getD refusals (numberOf r - 1) BadLine ≡ r
-unfolding refusals
-refusal-of BadLine = refl
-refusal-of BadCount = refl
-refusal-of BadKind = refl
-refusal-of BadPayload = refl
-refusal-of TooMany = refl
-refusal-of Repeated = refl
-refusal-of Incomplete = refl
-refusal-of NotWhole = refl
-refusal-of TooLong = refl
-refusal-of NoRoom = refl
-refusal-of NoStep = refl
-refusal-of NothingStands = refl
-refusal-of NothingUndone = refl
-refusal-of LogFull = refl
-refusal-of NotDomain = refl
-refusal-of OtherAgents = refl
-refusal-of NotSession = refl
-refusal-of LongInput = refl
-
-same-refusal : (a b : Refusal) → numberOf a ≡ numberOf b → a ≡ b
-same-refusal a b e = sym (refusal-of a) ∙ (ap (λ (n : ℕ). getD refusals (n - 1) BadLine) e ∙ refusal-of b)
-
+-- the faults by their number
 faults : List Fault
 faults = Misplaced ∷ Barred ∷ Concurrency ∷ Conflict ∷ Range ∷ Static ∷ NoValue ∷ Goal ∷ []
 

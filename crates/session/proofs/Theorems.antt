@@ -19,15 +19,14 @@ use Rattle.bmap.specs.Store.{domainIn}
 use Rattle.bmap.specs.Judge.{judge}
 use Rattle.bmap.specs.Verdict.{judgement}
 use Rattle.bmap.specs.Session.{Edit, Model, sheetOf, edited, edit, undo, redo, replayed, opened, verdict, Call, editing, undoing, redoing, judging, Reply, judged, turned, turn, after, replies, modelOf, layout, isOpen, CouldBeLeft, Changed, changed, onModel, editSession, undoSession, redoSession, openedOn, openSession, verdictOf}
-use Rattle.bmap.specs.Theorems.{OpenExactly}
-use Rattle.bmap.specs.declared.refusal.Refusal.{Refusal}
-use Rattle.bmap.specs.declared.refusal.Refusal.the-variants.{BadLine, BadCount, BadKind, BadPayload, TooMany, Repeated, Incomplete, NotWhole, TooLong, NoRoom, NoStep, NothingStands, NothingUndone, LogFull, NotDomain, OtherAgents, NotSession, LongInput}
+use Rattle.bmap.specs.Theorems.{OpenExactly, SheetsStand}
+use Rattle.bmap.proofs.RefusalLaws.{same-refusal}
 use Rattle.bmap.specs.declared.session.Session.{Session}
 use Rattle.session.specs.declared.Outcome.{Outcome}
 use Rattle.session.specs.declared.Outcome.the-variants.{Done, Refused}
 use Rattle.session.specs.declared.Change.{Change}
 use Rattle.session.specs.Calls.{answerOf, changedOf, leaves}
-use Rattle.session.specs.Series.{Called, calledBy, called, sessionAfter, repliesOf}
+use Rattle.bmap.specs.Series.{Called, calledBy, called, sessionAfter, repliesOf}
 use Rattle.session.proofs.SheetLaws.{need-got, got-inj, one-more, prefix-got}
 use Rattle.session.proofs.OpenLaws.{every}
 use Rattle.session.proofs.CallLaws.{layout-of}
@@ -174,17 +173,6 @@ pub judged-sheet : (m : Model) (store : List ℕ) (d : Domain) (levels : List �
 unfolding verdict
 judged-sheet m store d levels a e l = rw (le-leb 2080 (length levels) l, a, eq-eqb (d .agents) (m .agents) e)
 
--- any accepted opening, and any calls after it, refused ones among them
-pub record Demand3 (store : List ℕ) (d : Domain) (calls : List Call) : Type 0 where
-  -- the session that they leave, its model and its sheet
-  pub opens : openSession store .answer ≡ got tt
-  pub leaves : sessionAfter calls (openSession store .session) ≡ layout (after calls (opened d))
-  pub answers : repliesOf calls (openSession store .session) ≡ replies calls (opened d)
-  pub sheet : replayed (d .agents) (after calls (opened d) .standing) [] ≡ got (sheetOf (after calls (opened d)))
-  -- every verdict of it
-  pub verdicts : (store′ : List ℕ) (d′ : Domain) (levels : List ℤ) → domainIn store′ ≡ got d′ → d′ .agents ≡ d .agents → levelsSize ≤ length levels
-      → verdictOf (sessionAfter calls (openSession store .session)) store′ levels ≡ judgement levels (got (judge d′ (sheetOf (after calls (opened d)))))
-
 turned-agents : (m : Model) (a : Answer Model) → ((m′ : Model) → a ≡ got m′ → m′ .agents ≡ m .agents) → turned m a .model .agents ≡ m .agents
 turned-agents m (got m′) f = f m′ refl
 turned-agents m (refused n) f = refl
@@ -209,7 +197,7 @@ unfolding after
 agents-stay [] m = refl
 agents-stay (c ∷ calls) m = agents-stay calls (turn c m .model) ∙ turn-agents c m
 
-pub demand-3 : (store : List ℕ) (d : Domain) (calls : List Call) → domainIn store ≡ got d → Demand3 store d calls
+pub demand-3 : SheetsStand
 unfolding openSession
 demand-3 store d calls a =
     let n = accepted-agents store d a in
@@ -229,41 +217,11 @@ demand-3 store d calls a =
     }
 
 -- ---- an answer is the only one that keeps its promise
-abbrev refusalOf : ℕ → Refusal
-refusalOf n = if-else (eqb n 1) BadLine (if-else (eqb n 2) BadCount (if-else (eqb n 3) BadKind (if-else (eqb n 4) BadPayload (if-else (eqb n 5) TooMany (if-else (eqb n 6) Repeated
-    (if-else (eqb n 7) Incomplete (if-else (eqb n 8) NotWhole (if-else (eqb n 9) TooLong (if-else (eqb n 10) NoRoom (if-else (eqb n 11) NoStep (if-else (eqb n 12) NothingStands
-    (if-else (eqb n 13) NothingUndone (if-else (eqb n 14) LogFull (if-else (eqb n 15) NotDomain (if-else (eqb n 16) OtherAgents (if-else (eqb n 17) NotSession LongInput))))))))))))))))
-
-refusal-back : (r : Refusal) → refusalOf (numberOf r) ≡ r
-refusal-back BadLine = refl
-refusal-back BadCount = refl
-refusal-back BadKind = refl
-refusal-back BadPayload = refl
-refusal-back TooMany = refl
-refusal-back Repeated = refl
-refusal-back Incomplete = refl
-refusal-back NotWhole = refl
-refusal-back TooLong = refl
-refusal-back NoRoom = refl
-refusal-back NoStep = refl
-refusal-back NothingStands = refl
-refusal-back NothingUndone = refl
-refusal-back LogFull = refl
-refusal-back NotDomain = refl
-refusal-back OtherAgents = refl
-refusal-back NotSession = refl
-refusal-back LongInput = refl
-
-abbrev outcomeOf : Answer (Unit {0}) → Outcome
-outcomeOf (got x) = Done
-outcomeOf (refused n) = Refused (refusalOf n)
-
-outcome-back : (o : Outcome) → outcomeOf (answerOf o) ≡ o
-outcome-back Done = refl
-outcome-back (Refused r) = ap Refused (refusal-back r)
-
 pub same-outcome : (a b : Outcome) → answerOf a ≡ answerOf b → a ≡ b
-same-outcome a b h = sym (outcome-back a) ∙ ap outcomeOf h ∙ outcome-back b
+same-outcome Done Done h = refl
+same-outcome Done (Refused q) h = cc
+same-outcome (Refused r) Done h = cc
+same-outcome (Refused r) (Refused q) h = let n : numberOf r ≡ numberOf q = cc in ap Refused (same-refusal r q n)
 
 pub same-change : (a b : Change) → changedOf a ≡ changedOf b → a ≡ b
 same-change a b h =

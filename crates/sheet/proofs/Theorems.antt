@@ -1,7 +1,7 @@
 -- An answer is the only one that keeps its promise.
 use mathlib.Core.Path.{_≡_}
 use Rattle.bmap.specs.Refusal.{numberOf}
-use Rattle.line.proofs.Theorems.{same-refusal}
+use Rattle.bmap.proofs.RefusalLaws.{same-refusal}
 use Rattle.sheet.specs.Answer.{readingOf}
 use Rattle.sheet.specs.declared.reader.ReadSheet.{ReadSheet}
 use Rattle.sheet.specs.declared.reader.ReadSheet.the-variants.{Read, Refused}

@@ -1,7 +1,7 @@
--- A series of calls by the promises: each call's answer, and the session that it leaves to the next.
+-- A series of calls: each call's reply, and the session that it leaves to the next.
 use mathlib.Core.List.{List, [], _∷_}
 use Rattle.bmap.specs.Session.{Call, editing, undoing, redoing, judging, Reply, done, judged, Changed, editSession, undoSession, redoSession, verdictOf}
 use Rattle.bmap.specs.declared.session.Session.{Session}
 
 -- a call's reply, and the session after it
 pub record Called : Type 0 where

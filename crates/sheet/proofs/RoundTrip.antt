@@ -29,35 +29,40 @@ use Rattle.sheet.proofs.WriteLaws.{product-suc, whole-steps, written-is
 
 -- ---- rows
 
--- each step has a name for each agent
-pub data Rows (agents : ℕ) : List Names → Type 0 where
-  none : Rows agents []
-  more : {names : Names} {steps : List Names} → length names ≡ agents → Rows agents steps → Rows agents (names ∷ steps)
+module _ {A : Type 0} where
+  -- lists of one length: the steps of a sheet, each with a name for each agent; the states of a run
+  pub data Rows (width : ℕ) : List (List A) → Type 0 where
+    none : Rows width []
+    more : {l : List A} {ls : List (List A)} → length l ≡ width → Rows width ls → Rows width (l ∷ ls)
 
-pub length-flat : (agents : ℕ) {steps : List Names} → Rows agents steps → length (flat steps) ≡ length steps * agents
-unfolding flat
-length-flat agents none = sym (zero-mul agents)
-length-flat agents (more {names} {steps} e r) =
-    length-append names (flat steps) ∙ rw (e, length-flat agents r) (sym (product-suc (length steps) agents))
+  pub length-flat : (width : ℕ) {ls : List (List A)} → Rows width ls → length (flat ls) ≡ length ls * width
+  unfolding flat
+  length-flat width none = sym (zero-mul width)
+  length-flat width (more {l} {ls} e r) = length-append l (flat ls) ∙ rw (e, length-flat width r) (sym (product-suc (length ls) width))
 
-pub rows-flat : (agents : ℕ) {steps : List Names} → Rows agents steps → rows agents (length steps) (flat steps) ≡ steps
-unfolding flat rows
-rows-flat agents none = refl
-rows-flat agents (more {names} {steps} e r) = rw (take-at names (flat steps) agents e, drop-at names (flat steps) agents e, rows-flat agents r)
+  -- whatever stands after them
+  pub rows-front : (width : ℕ) {ls : List (List A)} (rest : List A) → Rows width ls → rows width (length ls) (flat ls ++ rest) ≡ ls
+  unfolding flat rows
+  rows-front width rest none = refl
+  rows-front width rest (more {l} {ls} e r) =
+      rw (append-assoc l (flat ls) rest, take-at l (flat ls ++ rest) width e, drop-at l (flat ls ++ rest) width e, rows-front width rest r)
 
--- and of a sheet's bytes
-pub flat-rows : (agents n : ℕ) (s : List ℕ) → length s ≡ n * agents → flat (rows agents n s) ≡ s
-unfolding flat rows
-flat-rows agents zero [] e = refl
-flat-rows agents zero (x ∷ s) e = absurd (omega (arith, zero-mul agents))
-flat-rows agents (suc n) s e =
-    let m : suc n * agents ≡ agents + n * agents = product-suc n agents in
-    rw (flat-rows agents n (drop agents s) (length-drop agents s ∙ omega arith)) (take-append-drop agents s)
+  pub rows-flat : (width : ℕ) {ls : List (List A)} → Rows width ls → rows width (length ls) (flat ls) ≡ ls
+  rows-flat width {ls} r = ap (rows width (length ls)) (sym (append-nil (flat ls))) ∙ rows-front width [] r
 
-pub length-rows : (agents n : ℕ) (s : List ℕ) → length (rows agents n s) ≡ n
-unfolding rows
-length-rows agents zero s = refl
-length-rows agents (suc n) s = ap suc (length-rows agents n (drop agents s))
+  -- and of a list as it stands
+  pub flat-rows : (width n : ℕ) (s : List A) → length s ≡ n * width → flat (rows width n s) ≡ s
+  unfolding flat rows
+  flat-rows width zero [] e = refl
+  flat-rows width zero (x ∷ s) e = absurd (omega (arith, zero-mul width))
+  flat-rows width (suc n) s e =
+      let m : suc n * width ≡ width + n * width = product-suc n width in
+      rw (flat-rows width n (drop width s) (length-drop width s ∙ omega arith)) (take-append-drop width s)
+
+  pub length-rows : (width n : ℕ) (s : List A) → length (rows width n s) ≡ n
+  unfolding rows
+  length-rows width zero s = refl
+  length-rows width (suc n) s = ap suc (length-rows width n (drop width s))
 
 -- ---- the text that was read
 

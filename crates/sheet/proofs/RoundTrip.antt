@@ -7,7 +7,7 @@ use mathlib.Core.Path.{_≡_, refl, sym, ap, _∙_}
 use mathlib.Core.Bool.{Bool, true, false}
 use mathlib.Core.List.{List, [], _∷_, _++_, map, append-nil, append-assoc}
 use lib.Dec.{eqb, leb, ltb}
-use lib.ListN.{length, take, drop, replicate, length-append, length-drop, take-append-drop}
+use lib.ListN.{length, take, drop, replicate, length-append, length-map, length-drop, take-append-drop}
 use lib.Seq.{take-at, drop-at, length-take-le}
 use borrow.Author.Tests.{ltb-true, leb-true, leb-false, eqb-true, eqb-false, lt-ltb, le-leb, eq-eqb}
 use Rattle.bmap.specs.Plain.{flat}
@@ -220,6 +220,7 @@ pub record Kept (agents : ℕ) (text buffer : List ℕ) (n : ℕ) : Type 0 where
   pub steps : List Names
   pub goes : outcome agents text ≡ read steps
   pub sheet : sheetOf agents (take (n * agents) (readSheet agents text buffer .buffer)) ≡ got steps
+  pub few : n ≤ mostSteps
 
 refused-left : (agents : ℕ) (text buffer : List ℕ) (m l : ℕ) → stepsIn agents text ≡ refusedAt m l → sheetSize ≤ length buffer
     → readSheet agents text buffer ≡ record { answer = refusedAt m l; buffer = padded (length buffer) [] }
@@ -253,4 +254,42 @@ kept agents text buffer n h e = by (stepsIn agents text) refl
           steps = steps;
           goes = x .1;
           sheet = ap (sheetOf agents) names ∙ rows-sheet agents steps (x .0) all (t .few (omega arith));
+          few = omega (arith, count, t .few (omega arith));
         }
+
+-- ---- THE LINE OF A REFUSAL IS ONE OF THE TEXT'S
+
+line-within : (agents : ℕ) (done : List Names) (frames : List (Answer Frame)) (n line : ℕ) → stepsFrom agents done frames ≡ refusedAt n line → line ≤ length done + length frames
+unfolding stepsFrom
+line-within agents done [] n line e = absurd (let z : _≡_ {A = ℕ} 0 1 = cc in omega arith)
+line-within agents done (f ∷ frames) n line e = go (then f (stepOf agents (length done))) e (λ names. line-within agents (done ++ (names ∷ [])) frames n line)
+  where
+    go : (y : Answer Names) → atLine (suc (length done)) y (λ names. stepsFrom agents (done ++ (names ∷ [])) frames) ≡ refusedAt n line
+        → ((names : Names) → stepsFrom agents (done ++ (names ∷ [])) frames ≡ refusedAt n line → line ≤ length (done ++ (names ∷ [])) + length frames) → line ≤ length done + length (f ∷ frames)
+    go (got names) q later = omega (arith, later names q, length-append done (names ∷ []))
+    go (refused m) q later = let z : suc (length done) ≡ line = cc in omega arith
+
+pub record Turned (agents : ℕ) (text : List ℕ) (n line : ℕ) : Type 0 where
+  pub goes : agentsAllowed agents ≡ true → outcome agents text ≡ refusedAt n line
+  pub within : line ≤ length (linesOf text)
+
+pub turned : (agents : ℕ) (text buffer : List ℕ) (n line : ℕ) → sheetSize ≤ length buffer → readSheet agents text buffer .answer ≡ refusedAt n line → Turned agents text n line
+unfolding stepsIn
+turned agents text buffer n line h e = by (stepsIn agents text) refl
+  where
+    allowed : (b : Bool) → agentsAllowed agents ≡ b → stepsIn agents text ≡ refusedAt n line → Turned agents text n line
+    allowed true q r =
+        let o : outcome agents text ≡ refusedAt n line = simp q at r in
+        record { goes = λ _. o; within = omega (arith, line-within agents [] (map decode (linesOf text)) n line o, length-map (linesOf text) decode) }
+    allowed false q r =
+        let o : refusedAt 4 0 ≡ refusedAt n line = simp q at r in
+        let z : 0 ≡ line = cc in
+        record { goes = λ t. absurd (let f : false ≡ true = sym q ∙ t in let z : _≡_ {A = ℕ} 0 1 = cc in omega arith); within = omega arith }
+
+    by : (r : Reading (List Names)) → stepsIn agents text ≡ r → Turned agents text n line
+    by (refusedAt m l) r =
+        let same : _≡_ {A = Reading ℕ} (refusedAt m l) (refusedAt n line) = sym (ap (λ (f : Filled). f .answer) (refused-left agents text buffer m l r h)) ∙ e in
+        let k : m ≡ n = cc in
+        let at : l ≡ line = cc in
+        allowed (agentsAllowed agents) refl (rw (← k, ← at) r)
+    by (read steps) r = absurd (let z : _≡_ {A = ℕ} 0 1 = cc (ap (λ (f : Filled). f .answer) (names-left agents text buffer steps r h)) in omega arith)

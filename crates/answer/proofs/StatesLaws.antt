@@ -84,7 +84,9 @@ module _ (d : Domain) where
   ran-reached sheet = go (allHold static 6 d (history d sheet (startOf d ∷ [])) 0)
     where
       go : (c : Pass) → Reached (suc (length sheet)) (judgedAt 0 [] c (λ _. carried d sheet 0 (startOf d ∷ []) sheet))
-      go (fine u) = carried-reached sheet 0 (startOf d ∷ []) sheet (more (length-map (d .fluents) (λ (f : Fluent). f .start)) none)
+      go (fine u) =
+          let r = carried-reached sheet 0 (startOf d ∷ []) sheet (more (length-map (d .fluents) (λ (f : Fluent). f .start)) none) in
+          record { whole = r .whole; few = omega (arith, r .few) }
       go (fault kind n) = record { whole = none; few = omega arith }
 
   pub judge-reached : (sheet : List Names) → Reached (suc (length sheet)) (judge d sheet)

@@ -23,13 +23,13 @@ same-length : tie.Need-same-length
 same-length c = search needs
 
 returns : tie.Need-returns
-returns c = (accepted-line _ (c .before .before .before .enum-told .given .1) (c .before .before .put-accepted .ensures .0), omega arith)
+returns c = (accepted-line _ (c .before .before .before .before .enum-told .given .1) (c .before .before .put-accepted .ensures .0), omega arith)
 
 same-length-2 : tie.Need-same-length-2
 same-length-2 c = search needs
 
 returns-2 : tie.Need-returns-2
-returns-2 c = (broken-line _ (c .before .before .before .before .number .ensures) (c .before .before .before .before .before .before .verdict .given .1) (c .before .before .put-broken .ensures .0), omega arith)
+returns-2 c = (broken-line _ (c .before .before .before .number .ensures) (c .before .before .before .before .before .before .verdict .given .1) (c .before .before .put-broken .ensures .0), omega arith)
 
 pub put-verdict-spec : {M : Type 1} → statement M
 put-verdict-spec =

@@ -7,7 +7,7 @@ use native.Mathlib.Nat.{zero-add, mul-comm, mul-le-mul-right}
 use native.Mathlib.Omega.{arith}
 use lib.Dec.{eqb, leb}
 use lib.IntN.{ℤ}
-use lib.ListN.{length, take, drop, length-take, length-drop}
+use lib.ListN.{length, take, drop, length-append, length-take, length-drop}
 use lib.Seq.{sets-eq, take-all}
 use borrow.Author.Tests.{le-leb, lt-leb, eq-eqb, ne-eqb}
 use Rattle.bmap.specs.Plain.{if-else, flat, text}
@@ -244,3 +244,17 @@ lines-small {input} {at} cut = omega (arith, cut .before, ap length (cut .domain
 
 pub rest-small : (input : List ℕ) (at : ℕ) {most : ℕ} → length input ≤ most → length (take (length input - at) (drop at input)) ≤ most
 rest-small input at h = simp length-take (omega arith)
+
+-- ---- for callers: what is counted stands in the buffer
+
+pub count-within : (input out : List ℕ) {n : ℕ} {new : List ℕ} → _≡_ {A = Answered} (record { count = n; buffer = new }) (answered input out) → n ≤ length new
+unfolding answered
+count-within input out {n} {new} e = go (leb outputSize (length out)) refl
+  where
+    go : (b : Bool) → leb outputSize (length out) ≡ b → n ≤ length new
+    go true q =
+        let x : _≡_ {A = Answered} (record { count = n; buffer = new }) (record { count = length (output input); buffer = over (output input) out }) = e ∙ simp q in
+        omega (arith, ap (λ (a : Answered). a .count) x, ap (λ (a : Answered). length (a .buffer)) x, length-append (output input) (drop (length (output input)) out))
+    go false q =
+        let x : _≡_ {A = Answered} (record { count = n; buffer = new }) (record { count = 0; buffer = out }) = e ∙ simp q in
+        omega (arith, ap (λ (a : Answered). a .count) x)

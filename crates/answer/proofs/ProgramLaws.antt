@@ -1,5 +1,5 @@
 -- What the program prints for a verdict, for a judgement, for a sheet and for an input. Assumes nothing.
-use Prim.Native.Nat.{ℕ, zero, suc, _+_, _-_, _*_, _≤_, _<_}
+use Prim.Native.Nat.{ℕ, _+_, _-_, _*_, _≤_, _<_}
 use mathlib.Core.Path.{_≡_, refl, sym, ap, _∙_, subst}
 use mathlib.Core.Bool.{Bool, true, false}
 use mathlib.Core.List.{List, [], _∷_, _++_, map}
@@ -9,16 +9,16 @@ use lib.Dec.{eqb, leb}
 use lib.IntN.{ℤ}
 use lib.ListN.{length, take, drop, length-append, length-take, length-drop}
 use lib.Seq.{sets-eq, take-all}
-use borrow.Author.Tests.{le-leb, lt-leb, eq-eqb, ne-eqb}
+use borrow.Author.Tests.{le-leb, lt-leb}
 use Rattle.bmap.specs.Plain.{if-else, flat, text}
-use Rattle.bmap.specs.Limits.{mostAgents, mostFluents, mostSteps, levelsSize, storeSize, sheetSize, mostInput}
-use Rattle.bmap.specs.Refusal.{got, refused, numberOf}
+use Rattle.bmap.specs.Limits.{mostAgents, mostFluents, levelsSize, storeSize, sheetSize, mostInput}
+use Rattle.bmap.specs.Refusal.{got, numberOf}
 use Rattle.bmap.specs.declared.refusal.Refusal.{Refusal}
 use Rattle.bmap.specs.declared.limits.Counts.{Counts}
 use Rattle.bmap.specs.Line.{Line, linesOf, decode, lineFeed, before}
 use Rattle.bmap.specs.Domain.{Domain, Names, State}
-use Rattle.bmap.specs.Accept.{countsOf, Reading, read, refusedAt, afterwards, taken}
-use Rattle.bmap.specs.Buffer.{Filled, over}
+use Rattle.bmap.specs.Accept.{countsOf, Reading, read, refusedAt, taken}
+use Rattle.bmap.specs.Buffer.{over}
 use Rattle.bmap.specs.Store.{domainIn, reading, readDomain}
 use Rattle.bmap.specs.Sheet.{rows, sheetOf, stepsFrom, readSheet}
 use Rattle.bmap.specs.Judge.{judge}
@@ -37,7 +37,7 @@ use Rattle.sheet.specs.Answer as sheets
 use Rattle.sheet.specs.Step.{agentsAllowed, outcome}
 use Rattle.sheet.specs.declared.reader.ReadSheet.{ReadSheet}
 use Rattle.sheet.specs.declared.reader.ReadSheet.the-variants.{Read, Refused}
-use Rattle.sheet.proofs.RoundTrip.{Rows, rows-front, Kept, kept, Turned, turned}
+use Rattle.sheet.proofs.RoundTrip.{rows-front, Kept, kept, Turned, turned}
 use Rattle.judge.specs.Answer.{kindOf, verdictOf, answerOf, statesWritten}
 use Rattle.judge.specs.declared.verdict.Fault.{Fault}
 use Rattle.judge.specs.declared.verdict.Verdict.{Verdict}
@@ -69,8 +69,8 @@ pub product-most : (n w : ℕ) {most width size : ℕ} → n ≤ most → w ≤ 
 product-most n w {most} {width} h g e = omega (arith, mul-le-mul-right w h, mul-le-mul-right most g, mul-comm most w, mul-comm most width)
 
 module _ (store sheet : List ℕ) (levels : List ℤ) {after : List ℤ} (j : Judgement) {states : ℕ}
-  (told : (record { answer = answerOf j; levels = after } ≡ judgeSheet store sheet levels) × (states ≡ statesWritten store sheet levels)) (room : length levels ≡ levelsSize)
-  (d : Domain) (steps : List Names) (domain : domainIn store ≡ got d) where
+    (told : (record { answer = answerOf j; levels = after } ≡ judgeSheet store sheet levels) × (states ≡ statesWritten store sheet levels)) (room : length levels ≡ levelsSize)
+    (d : Domain) (steps : List Names) (domain : domainIn store ≡ got d) where
   module _ (whole : sheetOf (d .agents) sheet ≡ got steps) where
     judged : _≡_ {A = call.Judgement} (record { answer = answerOf j; levels = after }) (record { answer = got (judge d steps .verdict); levels = over (flat (judge d steps .states)) levels })
     unfolding judgeSheet
@@ -99,7 +99,6 @@ module _ (store sheet : List ℕ) (levels : List ℤ) {after : List ℤ} (j : Ju
     judged-text v g x y =
         put-then (subst (λ (l : List State). Put out 0 (stateLines 0 l) p mid) (written whole e) x)
         (subst (λ (w : paper.Verdict). Put mid p (lastLine w) q new) (verdict-is whole v g) y)
-
 
 -- ---- a sheet's text
 
@@ -148,7 +147,7 @@ module _ (store : List ℕ) {found : Found} (is : found ≡ foundIn store) where
         simp (le-leb 1 (counts .agents) some, le-leb (counts .agents) mostAgents (counts-small .0))
 
   module _ (s names : List ℕ) {after : List ℕ} (answer : ReadSheet)
-    (told : (sheets.readingOf answer ≡ readSheet (counts .agents) s names .answer) × (after ≡ readSheet (counts .agents) s names .buffer)) (room : length names ≡ sheetSize) where
+      (told : (sheets.readingOf answer ≡ readSheet (counts .agents) s names .answer) × (after ≡ readSheet (counts .agents) s names .buffer)) (room : length names ≡ sheetSize) where
     turned-at : (r : Refusal) (line : ℕ) → answer ≡ Refused r line → Turned (counts .agents) s (numberOf r) line
     turned-at r line e = turned (counts .agents) s names (numberOf r) line (omega (arith, room)) (sym (told .0) ∙ ap sheets.readingOf e)
 
@@ -175,8 +174,8 @@ module _ (store : List ℕ) {found : Found} (is : found ≡ foundIn store) where
           let k = kept-at n e in
           let goes : outcome (d .agents) s ≡ read (k .steps) = subst (λ (a : ℕ). outcome a s ≡ read (k .steps)) (agents-are d domain) (k .goes) in
           let names-are : sheetOf (d .agents) (take (n * counts .agents) after) ≡ got (k .steps) =
-            ap (λ (l : List ℕ). sheetOf (d .agents) (take (n * counts .agents) l)) (told .1)
-            ∙ subst (λ (a : ℕ). sheetOf a (take (n * counts .agents) (readSheet (counts .agents) s names .buffer)) ≡ got (k .steps)) (agents-are d domain) (k .sheet) in
+          ap (λ (l : List ℕ). sheetOf (d .agents) (take (n * counts .agents) l)) (told .1)
+          ∙ subst (λ (a : ℕ). sheetOf a (take (n * counts .agents) (readSheet (counts .agents) s names .buffer)) ≡ got (k .steps)) (agents-are d domain) (k .sheet) in
           subst (λ (o : Reading (List Names)). Put out 0 (judgedBy d lines o) q new) (sym goes)
           (judges d (k .steps) domain (ap (λ (c : Counts). c .fluents) (counts-are d domain)) names-are)
 
@@ -218,7 +217,7 @@ module _ (input out : List ℕ) {new : List ℕ} {q : ℕ} (room : outputSize �
 
   module _ {at lines : ℕ} (short : length input ≤ mostInput) (cut : CutIn input at lines) where
     module _ (store : List ℕ) {after : List ℕ} (answer : ReadDomain)
-      (told : (domains.readingOf answer ≡ readDomain (take at input) store .answer) × (after ≡ readDomain (take at input) store .buffer)) where
+        (told : (domains.readingOf answer ≡ readDomain (take at input) store .answer) × (after ≡ readDomain (take at input) store .buffer)) where
       pub input-refused : {number line : ℕ} (r : Refusal) → length store ≡ storeSize → answer ≡ given.Refused r line → number ≡ numberOf r → Put out 0 (refusedText number line) q new
           → record { count = q; buffer = new } ≡ answered input out
       input-refused {number} {line} r size e k x =

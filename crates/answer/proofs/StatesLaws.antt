@@ -1,5 +1,5 @@
 -- The states that a judgement writes: each has a level for each fluent, and there is at most one more than steps. Assumes nothing.
-use Prim.Native.Nat.{ℕ, zero, suc, _+_, _/_, _%_, _≤_}
+use Prim.Native.Nat.{ℕ, suc, _+_, _/_, _%_, _≤_}
 use mathlib.Core.Path.{_≡_, refl, sym, ap, _∙_}
 use mathlib.Core.Bool.{Bool, true, false}
 use mathlib.Core.List.{List, [], _∷_, _++_}
@@ -18,6 +18,7 @@ use Rattle.bmap.specs.Judge.{Checked, fine, fault, Pass, next, each, placed, ma
 use Rattle.line.proofs.Answers.{need-got}
 use Rattle.sheet.proofs.RoundTrip.{Rows, none, more, length-rows}
 use Rattle.judge.specs.Answer.{statesIn, statesWritten}
+use Rattle.judge.proofs.LoopLaws.{numbers-length}
 
 -- ---- one step
 
@@ -30,11 +31,6 @@ then-finds : {A B : Type 0} (P : B → Type 0) (c : Checked A) (k : A → Checke
 then-finds P (fine a) k h = h a
 then-finds P (fault kind n) k h = tt
 
-length-numbers : (i n : ℕ) → length (numbers i n) ≡ n
-unfolding numbers
-length-numbers i zero = refl
-length-numbers i (suc n) = ap suc (length-numbers (suc i) n)
-
 module _ (d : Domain) where
   abbrev Whole : State → Type 0
   Whole s = length s ≡ length (d .fluents)
@@ -42,7 +38,7 @@ module _ (d : Domain) where
   after-whole : (settings : List Setting) (old : State) → Whole (stateAfter d settings old)
   unfolding stateAfter
   after-whole settings old =
-      length-map (numbers 0 (length (d .fluents))) (λ f. levelAfter settings f (getD old f (pos 0))) ∙ length-numbers 0 (length (d .fluents))
+      length-map (numbers 0 (length (d .fluents))) (λ f. levelAfter settings f (getD old f (pos 0))) ∙ numbers-length 0 (length (d .fluents))
 
   step-whole : (sheet : List Names) (states : List State) (j : ℕ) (names : Names) → Finds Whole (step d sheet states j names)
   unfolding step

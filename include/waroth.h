@@ -24,7 +24,8 @@ enum {
     WAROTH_STORE = 36000,                                   /* bytes of a store that a domain is read into */
     WAROTH_SHEET = WAROTH_STEPS * WAROTH_AGENTS,            /* bytes of a buffer that a sheet is read into */
     WAROTH_LEVELS = (WAROTH_STEPS + 1) * WAROTH_FLUENTS,    /* numbers of a levels buffer */
-    WAROTH_INPUT = 60000                                    /* bytes of the program's input, at most */
+    WAROTH_INPUT = 60000,                                   /* bytes of the program's input, at most */
+    WAROTH_OUTPUT = 16384                                   /* bytes of a buffer for the program's output */
 };
 
 /* Refusals.
@@ -93,6 +94,13 @@ uint64_t waroth_write_sheet(const uint8_t *sheet, size_t sheet_size, size_t agen
  * nothing after them is touched; after a refusal they are as they were. */
 uint64_t waroth_judge(const uint8_t *store, size_t store_size, const uint8_t *sheet, size_t sheet_size, int16_t *levels,
                       size_t levels_size);
+
+/* ---- The program */
+
+/* What the program writes for an input of any size: the states and the verdict, or REFUSED with number and line, as text.
+ * Answers the bytes written to the front of the output, and nothing after them is touched. An output of less than
+ * WAROTH_OUTPUT bytes is as it was, and the answer is 0. */
+size_t waroth_answer(const uint8_t *input, size_t input_size, uint8_t *output, size_t output_size);
 
 /* ---- Sessions. All of it is plain bytes that may be kept and copied; unused ones are zero. */
 struct waroth_session {

@@ -1,19 +1,20 @@
 -- The lines of a text up to a place, and the cut at the first line that starts "B1". Assumes nothing.
-use Prim.Native.Nat.{ℕ, zero, suc, _+_, _-_, _≤_, _<_}
+use Prim.Native.Nat.{ℕ, suc, _+_, _-_, _≤_, _<_}
 use mathlib.Core.Path.{_≡_, refl, sym, ap, _∙_, subst}
-use mathlib.Core.Bool.{Bool, true, false}
+use mathlib.Core.Bool.{true, false}
 use mathlib.Core.List.{List, [], _∷_, _++_, append-nil, append-assoc}
 use native.Mathlib.Omega.{arith}
 use native.Mathlib.Numerals.{add-one}
-use native.Mathlib.Nat.{add-zero, zero-add}
+use native.Mathlib.Nat.{add-zero}
 use native.Mathlib.Decide.{ℕ-discrete, decLt}
 use lib.Dec.{eqb}
-use lib.ListN.{length, take, drop, getD, length-append, length-take, length-drop, take-append-drop, drop-of-length-le, List·getD-eq-default}
-use lib.Seq.{take-all, drop-cons, drop-drop, getD-drop, take-add}
+use lib.ListN.{length, take, drop, getD, length-append, length-drop, take-append-drop, drop-of-length-le, List·getD-eq-default}
+use lib.Seq.{take-all, drop-cons, getD-drop, take-add}
 use borrow.Author.Tests.{eq-eqb, ne-eqb}
-use Rattle.bmap.specs.Plain.{both, if-else}
+use Rattle.line.proofs.Answers.{both-false}
+use Rattle.bmap.specs.Plain.{both}
 use Rattle.bmap.specs.Line.{Line, linesOf, lineFeed, before}
-use Rattle.bmap.specs.Program.{startsSheet, split, Parts}
+use Rattle.bmap.specs.Program.{startsSheet, split}
 use Rattle.answer.specs.Cut.{CutIn, feedIn}
 
 -- ---- the first line feed
@@ -59,10 +60,6 @@ closed-line (c ∷ s) b h =
     ]
 
 -- whether a line starts "B1" is seen at its place in the text
-both-false : (b : Bool) → both b false ≡ false
-both-false true = refl
-both-false false = refl
-
 starts : (s : List ℕ) → startsSheet (take (feedIn s) s) ≡ both (eqb (getD s 0 0) 66) (eqb (getD s 1 0) 49)
 unfolding feedIn
 starts [] = refl

@@ -1,2 +1,4 @@
 pub mod PutLaws
 pub mod CutLaws
+pub mod StatesLaws
+pub mod ProgramLaws

@@ -1,14 +1,13 @@
 -- Text written at a place of a buffer, and the digits of a number. Assumes nothing.
 use Prim.Native.Nat.{ℕ, zero, suc, _+_, _/_, _%_, _*_, _-_, _^_, _≤_, _<_}
 use mathlib.Core.Path.{_≡_, refl, sym, ap, _∙_, subst}
-use mathlib.Core.Bool.{Bool, true, false}
 use mathlib.Core.List.{List, [], _∷_, _++_}
 use native.Mathlib.Omega.{arith}
 use native.Mathlib.Numerals.{add-one}
 use native.Mathlib.Nat.{div-lt-iff-lt-mul, pow-suc, add-assoc, zero-mul, suc-mul, zero-add, add-comm, le-trans, le-antisymm, mul-le-mul-right, add-zero, add-suc, suc-add}
 use native.Mathlib.Decide.{decLt}
 use lib.Dec.{ltb}
-use lib.ListN.{length, set, take, drop, getD, length-append, length-set, length-take}
+use lib.ListN.{length, set, take, drop, getD, length-append, length-take}
 use lib.Seq.{sets, length-sets, take-suc, take-all, drop-drop}
 use borrow.Author.Tests.{lt-ltb, le-ltb}
 use mathlib.Core.List.{map, map-append, append-nil, append-assoc}
@@ -21,6 +20,7 @@ use Rattle.number.proofs.Laws.{back}
 use Rattle.bmap.specs.Plain.{if-else, text}
 use Rattle.bmap.specs.Number.{bits, bytesOf}
 use Rattle.bmap.specs.Sheet.{rows}
+use Rattle.sheet.proofs.RoundTrip.{length-rows}
 use Rattle.bmap.specs.Program.{digitsOf, decimal, decimalZ, spaced, lineOf, stateLines}
 use Rattle.answer.specs.Put.{Put}
 
@@ -165,11 +165,6 @@ rows-more : (w n : ℕ) (l : List ℤ) → rows w (suc n) l ≡ rows w n l ++ (t
 unfolding rows
 rows-more w zero l = rw (zero-mul w)
 rows-more w (suc n) l = ap (λ r. take w l ∷ r) (rows-more w n (drop w l) ∙ ap (λ r. rows w n (drop w l) ++ (take w r ∷ [])) (drop-drop (n * w) w l ∙ ap (λ k. drop k l) (add-comm w (n * w) ∙ sym (suc-mul n w))))
-
-length-rows : (w n : ℕ) (l : List ℤ) → length (rows w n l) ≡ n
-unfolding rows
-length-rows w zero l = refl
-length-rows w (suc n) l = ap suc (length-rows w n (drop w l))
 
 lines-append : (k : ℕ) (a : List (List ℤ)) (s : List ℤ) → stateLines k (a ++ (s ∷ [])) ≡ stateLines k a ++ lineOf (text "S") (decimal (k + length a) ∷ map decimalZ s)
 unfolding stateLines

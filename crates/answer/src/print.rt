@@ -123,6 +123,7 @@ pub(crate) fn put_states(out: &mut [u8], levels: &[i16], width: usize, count: us
 pub(crate) fn put_accepted(out: &mut [u8], at: usize) -> usize
     requires { ⌜ at + 9 ≤ length (now out) ⌝ }
     ensures { λ r. ⌜ Put (now (out .entry)) at (lineOf (text "ACCEPTED") []) r (now (out .exit)) ⌝ }
+    ensures { λ r. ⌜ r ≤ at + 9 ⌝ }
 {
     put_text(out, at, b"ACCEPTED\n")
 }
@@ -136,6 +137,7 @@ pub(crate) fn put_broken(
 ) -> usize
     requires { ⌜ at + 70 ≤ length (now out) ⌝ }
     ensures { λ r. ⌜ Put (now (out .entry)) at (lineOf (text "BROKEN") (decimal kind ∷ decimal step ∷ decimal number ∷ [])) r (now (out .exit)) ⌝ }
+    ensures { λ r. ⌜ r ≤ at + 70 ⌝ }
 {
     let word = put_text(out, at, b"BROKEN");
     let one = put_number(out, word, kind);
@@ -148,6 +150,7 @@ pub(crate) fn put_broken(
 pub(crate) fn put_refused(out: &mut [u8], refusal: usize, line: usize) -> usize
     requires { ⌜ 50 ≤ length (now out) ⌝ }
     ensures { λ r. ⌜ Put (now (out .entry)) 0 (refusedText refusal line) r (now (out .exit)) ⌝ }
+    ensures { λ r. ⌜ r ≤ 50 ⌝ }
 {
     let word = put_text(out, 0, b"REFUSED");
     let one = put_number(out, word, refusal);

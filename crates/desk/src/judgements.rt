@@ -1,7 +1,6 @@
 // Verdicts.
 use crate::number::refused_at;
 use bmap::Session;
-use judge::Fault;
 use judge::Judgement;
 use judge::Verdict;
 ghost use mathlib.Core.Path.{_≡_};
@@ -9,21 +8,6 @@ ghost use Rattle.bmap.specs.Session.{verdictOf};
 ghost use Rattle.bmap.specs.Verdict.{judgeSheet};
 ghost use Rattle.judge.specs.Answer as answer;
 ghost use Rattle.desk.specs.Numbers.{verdictNumber, judgedNumber};
-
-fn kind(fault: Fault) -> u64
-    ensures { λ r. ⌜ r ≡ answer.kindOf fault ⌝ }
-{
-    match fault {
-        Fault::Misplaced => 1,
-        Fault::Barred => 2,
-        Fault::Concurrency => 3,
-        Fault::Conflict => 4,
-        Fault::Range => 5,
-        Fault::Static => 6,
-        Fault::NoValue => 7,
-        Fault::Goal => 8,
-    }
-}
 
 fn verdict(found: Verdict) -> u64
     ensures { λ r. ⌜ r ≡ verdictNumber (answer.verdictOf found) ⌝ }
@@ -34,7 +18,7 @@ fn verdict(found: Verdict) -> u64
             fault,
             step,
             number,
-        } => kind(fault) * 65536 + step as u64 % 256 * 256 + number as u64 % 256,
+        } => fault.number() as u64 * 65536 + step as u64 % 256 * 256 + number as u64 % 256,
     }
 }
 

@@ -4,6 +4,7 @@ mod domains;
 mod edits;
 mod judgements;
 mod number;
+mod program;
 mod sheets;
 
 pub use domains::waroth_frame;
@@ -17,5 +18,6 @@ pub use edits::waroth_strike;
 pub use edits::waroth_undo;
 pub use judgements::waroth_judge;
 pub use judgements::waroth_verdict;
+pub use program::waroth_answer;
 pub use sheets::waroth_read_sheet;
 pub use sheets::waroth_write_sheet;

@@ -1,5 +1,7 @@
 // What a judgement answers; `kindOf` and `verdictOf` in specs/ give the paper's numbers.
 use bmap::Refusal;
+ghost use mathlib.Core.Path.{_≡_};
+ghost use Rattle.judge.specs.Answer.{kindOf};
 
 // What is at fault.
 pub enum Fault {
@@ -19,6 +21,23 @@ pub enum Fault {
     NoValue,
     // 8: a goal law is false
     Goal,
+}
+
+impl Fault {
+    pub fn number(self) -> usize
+        ensures { λ r. ⌜ r ≡ kindOf self ⌝ }
+    {
+        match self {
+            Fault::Misplaced => 1,
+            Fault::Barred => 2,
+            Fault::Concurrency => 3,
+            Fault::Conflict => 4,
+            Fault::Range => 5,
+            Fault::Static => 6,
+            Fault::NoValue => 7,
+            Fault::Goal => 8,
+        }
+    }
 }
 
 // "A verdict is Accepted, or Broken with kind, step and number."

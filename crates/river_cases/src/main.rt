@@ -1,6 +1,5 @@
 // Document 01's cases of domain P, through the code: for each sheet the levels written, then the verdict.
 use bmap::LEVELS;
-use judge::Fault;
 use judge::Judgement;
 use judge::Verdict;
 use libc::STDOUT_FILENO;
@@ -125,19 +124,6 @@ fn print_levels(levels: &[i16], n: usize) {
     }
 }
 
-fn kind_of(fault: Fault) -> usize {
-    match fault {
-        Fault::Misplaced => 1,
-        Fault::Barred => 2,
-        Fault::Concurrency => 3,
-        Fault::Conflict => 4,
-        Fault::Range => 5,
-        Fault::Static => 6,
-        Fault::NoValue => 7,
-        Fault::Goal => 8,
-    }
-}
-
 fn print_verdict(verdict: Verdict) {
     match verdict {
         Verdict::Accepted => print(b"accepted"),
@@ -147,7 +133,7 @@ fn print_verdict(verdict: Verdict) {
             number,
         } => {
             print(b"broken ");
-            print_number(kind_of(fault));
+            print_number(fault.number());
             print_number(step);
             print_number(number);
         }

@@ -7,7 +7,7 @@ use mathlib.Core.Path.{_≡_, refl, sym, ap, _∙_}
 use mathlib.Core.Bool.{Bool, true, false}
 use mathlib.Core.List.{List, [], _∷_, _++_, map, append-nil, append-assoc}
 use lib.Dec.{eqb, leb, ltb}
-use lib.ListN.{length, take, drop, replicate, length-append, length-drop, take-append-drop}
+use lib.ListN.{length, take, drop, replicate, length-append, length-map, length-drop, take-append-drop}
 use lib.Seq.{take-at, drop-at, length-take-le}
 use borrow.Author.Tests.{ltb-true, leb-true, leb-false, eqb-true, eqb-false, lt-ltb, le-leb, eq-eqb}
 use Rattle.bmap.specs.Plain.{flat}
@@ -29,35 +29,40 @@ use Rattle.sheet.proofs.WriteLaws.{product-suc, whole-steps, written-is
 
 -- ---- rows
 
--- each step has a name for each agent
-pub data Rows (agents : ℕ) : List Names → Type 0 where
-  none : Rows agents []
-  more : {names : Names} {steps : List Names} → length names ≡ agents → Rows agents steps → Rows agents (names ∷ steps)
+module _ {A : Type 0} where
+  -- lists of one length: the steps of a sheet, each with a name for each agent; the states of a run
+  pub data Rows (width : ℕ) : List (List A) → Type 0 where
+    none : Rows width []
+    more : {l : List A} {ls : List (List A)} → length l ≡ width → Rows width ls → Rows width (l ∷ ls)
 
-pub length-flat : (agents : ℕ) {steps : List Names} → Rows agents steps → length (flat steps) ≡ length steps * agents
-unfolding flat
-length-flat agents none = sym (zero-mul agents)
-length-flat agents (more {names} {steps} e r) =
-    length-append names (flat steps) ∙ rw (e, length-flat agents r) (sym (product-suc (length steps) agents))
+  pub length-flat : (width : ℕ) {ls : List (List A)} → Rows width ls → length (flat ls) ≡ length ls * width
+  unfolding flat
+  length-flat width none = sym (zero-mul width)
+  length-flat width (more {l} {ls} e r) = length-append l (flat ls) ∙ rw (e, length-flat width r) (sym (product-suc (length ls) width))
 
-pub rows-flat : (agents : ℕ) {steps : List Names} → Rows agents steps → rows agents (length steps) (flat steps) ≡ steps
-unfolding flat rows
-rows-flat agents none = refl
-rows-flat agents (more {names} {steps} e r) = rw (take-at names (flat steps) agents e, drop-at names (flat steps) agents e, rows-flat agents r)
+  -- whatever stands after them
+  pub rows-front : (width : ℕ) {ls : List (List A)} (rest : List A) → Rows width ls → rows width (length ls) (flat ls ++ rest) ≡ ls
+  unfolding flat rows
+  rows-front width rest none = refl
+  rows-front width rest (more {l} {ls} e r) =
+      rw (append-assoc l (flat ls) rest, take-at l (flat ls ++ rest) width e, drop-at l (flat ls ++ rest) width e, rows-front width rest r)
 
--- and of a sheet's bytes
-pub flat-rows : (agents n : ℕ) (s : List ℕ) → length s ≡ n * agents → flat (rows agents n s) ≡ s
-unfolding flat rows
-flat-rows agents zero [] e = refl
-flat-rows agents zero (x ∷ s) e = absurd (omega (arith, zero-mul agents))
-flat-rows agents (suc n) s e =
-    let m : suc n * agents ≡ agents + n * agents = product-suc n agents in
-    rw (flat-rows agents n (drop agents s) (length-drop agents s ∙ omega arith)) (take-append-drop agents s)
+  pub rows-flat : (width : ℕ) {ls : List (List A)} → Rows width ls → rows width (length ls) (flat ls) ≡ ls
+  rows-flat width {ls} r = ap (rows width (length ls)) (sym (append-nil (flat ls))) ∙ rows-front width [] r
 
-pub length-rows : (agents n : ℕ) (s : List ℕ) → length (rows agents n s) ≡ n
-unfolding rows
-length-rows agents zero s = refl
-length-rows agents (suc n) s = ap suc (length-rows agents n (drop agents s))
+  -- and of a list as it stands
+  pub flat-rows : (width n : ℕ) (s : List A) → length s ≡ n * width → flat (rows width n s) ≡ s
+  unfolding flat rows
+  flat-rows width zero [] e = refl
+  flat-rows width zero (x ∷ s) e = absurd (omega (arith, zero-mul width))
+  flat-rows width (suc n) s e =
+      let m : suc n * width ≡ width + n * width = product-suc n width in
+      rw (flat-rows width n (drop width s) (length-drop width s ∙ omega arith)) (take-append-drop width s)
+
+  pub length-rows : (width n : ℕ) (s : List A) → length (rows width n s) ≡ n
+  unfolding rows
+  length-rows width zero s = refl
+  length-rows width (suc n) s = ap suc (length-rows width n (drop width s))
 
 -- ---- the text that was read
 
@@ -215,6 +220,7 @@ pub record Kept (agents : ℕ) (text buffer : List ℕ) (n : ℕ) : Type 0 where
   pub steps : List Names
   pub goes : outcome agents text ≡ read steps
   pub sheet : sheetOf agents (take (n * agents) (readSheet agents text buffer .buffer)) ≡ got steps
+  pub few : n ≤ mostSteps
 
 refused-left : (agents : ℕ) (text buffer : List ℕ) (m l : ℕ) → stepsIn agents text ≡ refusedAt m l → sheetSize ≤ length buffer
     → readSheet agents text buffer ≡ record { answer = refusedAt m l; buffer = padded (length buffer) [] }
@@ -248,4 +254,42 @@ kept agents text buffer n h e = by (stepsIn agents text) refl
           steps = steps;
           goes = x .1;
           sheet = ap (sheetOf agents) names ∙ rows-sheet agents steps (x .0) all (t .few (omega arith));
+          few = omega (arith, count, t .few (omega arith));
         }
+
+-- ---- THE LINE OF A REFUSAL IS ONE OF THE TEXT'S
+
+line-within : (agents : ℕ) (done : List Names) (frames : List (Answer Frame)) (n line : ℕ) → stepsFrom agents done frames ≡ refusedAt n line → line ≤ length done + length frames
+unfolding stepsFrom
+line-within agents done [] n line e = absurd (let z : _≡_ {A = ℕ} 0 1 = cc in omega arith)
+line-within agents done (f ∷ frames) n line e = go (then f (stepOf agents (length done))) e (λ names. line-within agents (done ++ (names ∷ [])) frames n line)
+  where
+    go : (y : Answer Names) → atLine (suc (length done)) y (λ names. stepsFrom agents (done ++ (names ∷ [])) frames) ≡ refusedAt n line
+        → ((names : Names) → stepsFrom agents (done ++ (names ∷ [])) frames ≡ refusedAt n line → line ≤ length (done ++ (names ∷ [])) + length frames) → line ≤ length done + length (f ∷ frames)
+    go (got names) q later = omega (arith, later names q, length-append done (names ∷ []))
+    go (refused m) q later = let z : suc (length done) ≡ line = cc in omega arith
+
+pub record Turned (agents : ℕ) (text : List ℕ) (n line : ℕ) : Type 0 where
+  pub goes : agentsAllowed agents ≡ true → outcome agents text ≡ refusedAt n line
+  pub within : line ≤ length (linesOf text)
+
+pub turned : (agents : ℕ) (text buffer : List ℕ) (n line : ℕ) → sheetSize ≤ length buffer → readSheet agents text buffer .answer ≡ refusedAt n line → Turned agents text n line
+unfolding stepsIn
+turned agents text buffer n line h e = by (stepsIn agents text) refl
+  where
+    allowed : (b : Bool) → agentsAllowed agents ≡ b → stepsIn agents text ≡ refusedAt n line → Turned agents text n line
+    allowed true q r =
+        let o : outcome agents text ≡ refusedAt n line = simp q at r in
+        record { goes = λ _. o; within = omega (arith, line-within agents [] (map decode (linesOf text)) n line o, length-map (linesOf text) decode) }
+    allowed false q r =
+        let o : refusedAt 4 0 ≡ refusedAt n line = simp q at r in
+        let z : 0 ≡ line = cc in
+        record { goes = λ t. absurd (let f : false ≡ true = sym q ∙ t in let z : _≡_ {A = ℕ} 0 1 = cc in omega arith); within = omega arith }
+
+    by : (r : Reading (List Names)) → stepsIn agents text ≡ r → Turned agents text n line
+    by (refusedAt m l) r =
+        let same : _≡_ {A = Reading ℕ} (refusedAt m l) (refusedAt n line) = sym (ap (λ (f : Filled). f .answer) (refused-left agents text buffer m l r h)) ∙ e in
+        let k : m ≡ n = cc in
+        let at : l ≡ line = cc in
+        allowed (agentsAllowed agents) refl (rw (← k, ← at) r)
+    by (read steps) r = absurd (let z : _≡_ {A = ℕ} 0 1 = cc (ap (λ (f : Filled). f .answer) (names-left agents text buffer steps r h)) in omega arith)

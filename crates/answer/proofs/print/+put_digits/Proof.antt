@@ -1,12 +1,9 @@
 -- `put_digits` calls itself with a smaller number. Assumes nothing.
-use Prim.Native.Nat.{ℕ, _<_, _+_, _/_}
-use mathlib.Core.Path.{sym, ap, _∙_}
+use Prim.Native.Nat.{ℕ, _<_, _+_}
 use native.Mathlib.Omega.{arith}
 use borrow.Author.Needs.{needs}
 use borrow.Fn.Kinds.{In}
 use borrow.Fn.PlainCycle.{Measures, is, falls, and}
-use lib.ListN.{length}
-use Rattle.bmap.specs.Program.{decimal}
 use Rattle.answer.proofs.PutLaws.{digits-one, digits-more, length-small, length-large, put-length}
 use Rattle.answer.proofs.print.put_digits.Reads as put-digits
 use Rattle.answer.proofs.print.put_digits.Kinds as put-digits-kinds

@@ -1,4 +1,5 @@
 use borrow.Author.Needs.{needs}
+use native.Mathlib.Omega.{arith}
 use Rattle.bmap.specs.Plain.{text}
 use Rattle.bmap.specs.Program.{spaced}
 use Rattle.answer.proofs.print.put_accepted.Statement.{statement}
@@ -15,7 +16,7 @@ same-length c = search needs
 
 returns : tie.Need-returns
 unfolding text spaced
-returns c = c .before .before .put-text .ensures
+returns c = (c .before .before .put-text .ensures, omega (arith, c .before .before .put-text .ensures .place))
 
 pub put-accepted-spec : {M : Type 1} → statement M
 put-accepted-spec =

@@ -1,4 +1,5 @@
 use borrow.Author.Needs.{needs}
+use native.Mathlib.Omega.{arith}
 use mathlib.Core.Path.{_∙_}
 use lib.ListN.{length-set}
 use Rattle.bmap.specs.Plain.{text}
@@ -32,7 +33,7 @@ same-length c = simp length-set (put-length (c .before .before .put-number3 .ens
 
 returns : tie.Need-returns
 unfolding text
-returns c = put-line (text "BROKEN") _ (c .before .before .before .before .before .before .before .before .before .before .before .before .before .before .put-text .ensures) (words-more _ _ (words-more _ _ (c .before .before .before .before .before .before .before .before .before .before .put-number .ensures .0) (c .before .before .before .before .before .before .put-number2 .ensures .0)) (c .before .before .put-number3 .ensures .0))
+returns c = (put-line (text "BROKEN") _ (c .before .before .before .before .before .before .before .before .before .before .before .before .before .before .put-text .ensures) (words-more _ _ (words-more _ _ (c .before .before .before .before .before .before .before .before .before .before .put-number .ensures .0) (c .before .before .before .before .before .before .put-number2 .ensures .0)) (c .before .before .put-number3 .ensures .0)), omega (arith, c .before .before .before .before .before .before .before .before .before .before .before .before .before .before .put-text .ensures .place))
 
 pub put-broken-spec : {M : Type 1} → statement M
 put-broken-spec =

@@ -1,4 +1,5 @@
 use borrow.Author.Needs.{needs}
+use native.Mathlib.Omega.{arith}
 use mathlib.Core.Path.{_∙_}
 use lib.ListN.{length-set}
 use Rattle.bmap.specs.Plain.{text}
@@ -29,7 +30,7 @@ same-length c = simp length-set (put-length (c .before .before .put-number2 .ens
 
 returns : tie.Need-returns
 unfolding text
-returns c = put-line (text "REFUSED") _ (c .before .before .before .before .before .before .before .before .before .before .put-text .ensures) (words-more _ _ (c .before .before .before .before .before .before .put-number .ensures .0) (c .before .before .put-number2 .ensures .0))
+returns c = (put-line (text "REFUSED") _ (c .before .before .before .before .before .before .before .before .before .before .put-text .ensures) (words-more _ _ (c .before .before .before .before .before .before .put-number .ensures .0) (c .before .before .put-number2 .ensures .0)), omega (arith, c .before .before .before .before .before .before .before .before .before .before .put-text .ensures .place))
 
 pub put-refused-spec : {M : Type 1} → statement M
 put-refused-spec =

@@ -1,9 +1,8 @@
 -- The states before k are written. Assumes nothing.
-use Prim.Native.Nat.{_≤_, _-_, _+_, _*_}
+use Prim.Native.Nat.{_≤_, _-_, _*_}
 use mathlib.Core.Path.{_≡_, sym}
 use native.Mathlib.Nat.{zero-mul}
 use native.Mathlib.Omega.{arith}
-use lib.ListN.{length}
 use Rattle.bmap.specs.Sheet.{rows}
 use Rattle.bmap.specs.Program.{stateLines}
 use Rattle.answer.specs.Put.{Put}

@@ -15,26 +15,26 @@ enum-told c = search needs
 enum-known-found : tie.Need-enum-known-found
 enum-known-found c = search needs
 
-kind-requires : tie.Need-kind-requires
-kind-requires c κs = search needs
+number-requires : tie.Need-number-requires
+number-requires c κs = search needs
 
 mul-result : tie.Need-mul-result
-mul-result c = omega (arith, kind-small (c .before .before .found .given .0 .0), c .kind .ensures)
+mul-result c = omega (arith, kind-small (c .before .before .found .given .0 .0), c .number .ensures)
 
 mul-result-2 : tie.Need-mul-result-2
 mul-result-2 c = search needs
 
 add-result : tie.Need-add-result
-add-result c = omega (arith, kind-small (c .before .before .found .given .0 .0), c .kind .ensures)
+add-result c = omega (arith, kind-small (c .before .before .found .given .0 .0), c .number .ensures)
 
 add-result-2 : tie.Need-add-result-2
-add-result-2 c = omega (arith, kind-small (c .before .before .found .given .0 .0), c .kind .ensures)
+add-result-2 c = omega (arith, kind-small (c .before .before .found .given .0 .0), c .number .ensures)
 
 returns : tie.Need-returns
 returns c = search needs
 
 returns-2 : tie.Need-returns-2
-returns-2 c = ap (λ (k : ℕ). k * 65536 + c .before .before .found .given .0 .1 .0 % 256 * 256 + c .before .before .found .given .0 .1 .1 .0 % 256) (c .kind .ensures) ∙ sym (ap (λ (v : Verdict). verdictNumber (verdictOf v)) (c .before .before .found .given .1))
+returns-2 c = ap (λ (k : ℕ). k * 65536 + c .before .before .found .given .0 .1 .0 % 256 * 256 + c .before .before .found .given .0 .1 .1 .0 % 256) (c .number .ensures) ∙ sym (ap (λ (v : Verdict). verdictNumber (verdictOf v)) (c .before .before .found .given .1))
 
 pub verdict-spec : {M : Type 1} → statement M
 verdict-spec =
@@ -42,7 +42,7 @@ verdict-spec =
     (tie.spec
     enum-told
     enum-known-found
-    kind-requires
+    number-requires
     mul-result
     mul-result-2
     add-result

@@ -1,0 +1,259 @@
+-- What the program prints for a verdict, for a judgement, for a sheet and for an input. Assumes nothing.
+use Prim.Native.Nat.{ℕ, _+_, _-_, _*_, _≤_, _<_}
+use mathlib.Core.Path.{_≡_, refl, sym, ap, _∙_, subst}
+use mathlib.Core.Bool.{Bool, true, false}
+use mathlib.Core.List.{List, [], _∷_, _++_, map}
+use native.Mathlib.Nat.{zero-add, mul-comm, mul-le-mul-right}
+use native.Mathlib.Omega.{arith}
+use lib.Dec.{eqb, leb}
+use lib.IntN.{ℤ}
+use lib.ListN.{length, take, drop, length-append, length-take, length-drop}
+use lib.Seq.{sets-eq, take-all}
+use borrow.Author.Tests.{le-leb, lt-leb}
+use Rattle.bmap.specs.Plain.{if-else, flat, text}
+use Rattle.bmap.specs.Limits.{mostAgents, mostFluents, levelsSize, storeSize, sheetSize, mostInput}
+use Rattle.bmap.specs.Refusal.{got, numberOf}
+use Rattle.bmap.specs.declared.refusal.Refusal.{Refusal}
+use Rattle.bmap.specs.declared.limits.Counts.{Counts}
+use Rattle.bmap.specs.Line.{Line, linesOf, decode, lineFeed, before}
+use Rattle.bmap.specs.Domain.{Domain, Names, State}
+use Rattle.bmap.specs.Accept.{countsOf, Reading, read, refusedAt, taken}
+use Rattle.bmap.specs.Buffer.{over}
+use Rattle.bmap.specs.Store.{domainIn, reading, readDomain}
+use Rattle.bmap.specs.Sheet.{rows, sheetOf, stepsFrom, readSheet}
+use Rattle.bmap.specs.Judge.{judge}
+use Rattle.bmap.specs.Judge as paper
+use Rattle.bmap.specs.Verdict.{judgeSheet}
+use Rattle.bmap.specs.Verdict as call
+use Rattle.bmap.specs.Program.{decimal, lineOf, stateLines, lastLine, judgedText, refusedText, split, judgedBy, answeredBy, output}
+use Rattle.domain.specs.Read as domains
+use Rattle.domain.specs.Found.{indexWith, foundIn}
+use Rattle.domain.specs.declared.found.Found.{Found}
+use Rattle.domain.specs.declared.reader.ReadDomain.{ReadDomain}
+use Rattle.domain.specs.declared.reader.ReadDomain.the-variants as given
+use Rattle.domain.proofs.Accepted.{found-got, found-not, found-ok, found-none}
+use Rattle.domain.proofs.RoundTrip as stores
+use Rattle.sheet.specs.Answer as sheets
+use Rattle.sheet.specs.Step.{agentsAllowed, outcome}
+use Rattle.sheet.specs.declared.reader.ReadSheet.{ReadSheet}
+use Rattle.sheet.specs.declared.reader.ReadSheet.the-variants.{Read, Refused}
+use Rattle.sheet.proofs.RoundTrip.{rows-front, Kept, kept, Turned, turned}
+use Rattle.judge.specs.Answer.{kindOf, verdictOf, answerOf, statesWritten}
+use Rattle.judge.specs.declared.verdict.Fault.{Fault}
+use Rattle.judge.specs.declared.verdict.Verdict.{Verdict}
+use Rattle.judge.specs.declared.verdict.Verdict.the-variants.{Accepted, Broken}
+use Rattle.judge.specs.declared.verdict.Judgement.{Judgement}
+use Rattle.judge.specs.declared.verdict.Judgement.the-variants as said
+use Rattle.answer.specs.Put.{Put}
+use Rattle.answer.specs.Cut.{CutIn}
+use Rattle.answer.specs.Answer.{outputSize, Answered, answered}
+use Rattle.answer.proofs.PutLaws.{put-then}
+use Rattle.answer.proofs.StatesLaws.{judge-reached}
+
+-- ---- the last line
+
+module _ {buffer new : List ℕ} {at p : ℕ} (v : Verdict) where
+  pub accepted-line : v ≡ Accepted → Put buffer at (lineOf (text "ACCEPTED") []) p new → Put buffer at (lastLine (verdictOf v)) p new
+  accepted-line e x = subst (λ (w : Verdict). Put buffer at (lastLine (verdictOf w)) p new) (sym e) x
+
+  pub broken-line : {kind step number : ℕ} {f : Fault} → kind ≡ kindOf f → v ≡ Broken f step number
+      → Put buffer at (lineOf (text "BROKEN") (decimal kind ∷ decimal step ∷ decimal number ∷ [])) p new → Put buffer at (lastLine (verdictOf v)) p new
+  broken-line {step = step} {number = number} k e x =
+      subst (λ (w : Verdict). Put buffer at (lastLine (verdictOf w)) p new) (sym e)
+      (subst (λ (m : ℕ). Put buffer at (lineOf (text "BROKEN") (decimal m ∷ decimal step ∷ decimal number ∷ [])) p new) k x)
+
+-- ---- a judgement
+
+-- so many rows of a width lie within so many numbers
+pub product-most : (n w : ℕ) {most width size : ℕ} → n ≤ most → w ≤ width → most * width ≡ size → n * w ≤ size
+product-most n w {most} {width} h g e = omega (arith, mul-le-mul-right w h, mul-le-mul-right most g, mul-comm most w, mul-comm most width)
+
+module _ (store sheet : List ℕ) (levels : List ℤ) {after : List ℤ} (j : Judgement) {states : ℕ}
+    (told : (record { answer = answerOf j; levels = after } ≡ judgeSheet store sheet levels) × (states ≡ statesWritten store sheet levels)) (room : length levels ≡ levelsSize)
+    (d : Domain) (steps : List Names) (domain : domainIn store ≡ got d) where
+  module _ (whole : sheetOf (d .agents) sheet ≡ got steps) where
+    judged : _≡_ {A = call.Judgement} (record { answer = answerOf j; levels = after }) (record { answer = got (judge d steps .verdict); levels = over (flat (judge d steps .states)) levels })
+    unfolding judgeSheet
+    judged = told .0 ∙ simp (le-leb levelsSize (length levels) (omega (arith, room)), domain, whole)
+
+    counted : states ≡ length (judge d steps .states)
+    unfolding statesWritten
+    counted = told .1 ∙ simp (le-leb levelsSize (length levels) (omega (arith, room)), domain, whole)
+
+    -- the states written are those of the judgement
+    written : {fluents : ℕ} → fluents ≡ length (d .fluents) → rows fluents states after ≡ judge d steps .states
+    written {fluents} e =
+        ap (λ (w : ℕ). rows w states after) e ∙ ap (λ (n : ℕ). rows (length (d .fluents)) n after) counted
+        ∙ ap (λ (x : call.Judgement). rows (length (d .fluents)) (length (judge d steps .states)) (x .levels)) judged
+        ∙ rows-front (length (d .fluents)) (drop (length (flat (judge d steps .states))) levels) (judge-reached d steps .whole)
+
+    verdict-is : (v : Verdict) → j ≡ said.Judged v → verdictOf v ≡ judge d steps .verdict
+    verdict-is v e = let q : answerOf j ≡ got (judge d steps .verdict) = ap (λ (x : call.Judgement). x .answer) judged in cc
+
+    pub refused-not : (r : Refusal) → j ≡ said.Refused r → ⊥
+    refused-not r e = let q : answerOf j ≡ got (judge d steps .verdict) = ap (λ (x : call.Judgement). x .answer) judged in let z : _≡_ {A = ℕ} 0 1 = cc in omega arith
+
+  module _ {out mid new : List ℕ} {p q fluents : ℕ} (e : fluents ≡ length (d .fluents)) (whole : sheetOf (d .agents) sheet ≡ got steps) where
+    pub judged-text : (v : Verdict) → j ≡ said.Judged v → Put out 0 (stateLines 0 (rows fluents states after)) p mid → Put mid p (lastLine (verdictOf v)) q new
+        → Put out 0 (judgedText (judge d steps)) q new
+    judged-text v g x y =
+        put-then (subst (λ (l : List State). Put out 0 (stateLines 0 l) p mid) (written whole e) x)
+        (subst (λ (w : paper.Verdict). Put mid p (lastLine w) q new) (verdict-is whole v g) y)
+
+-- ---- a sheet's text
+
+-- each line has a character, or its LF
+pub lines-most : (s : List ℕ) → length (linesOf s) ≤ length s
+unfolding linesOf
+lines-most [] = omega arith
+lines-most (c ∷ s) = go (eqb c lineFeed) (linesOf s) (lines-most s)
+  where
+    more : (ls : List Line) → length ls ≤ length s → length (before c ls) ≤ length (c ∷ s)
+    more [] h = omega arith
+    more (l ∷ ls) h = omega arith
+
+    go : (b : Bool) (ls : List Line) → length ls ≤ length s → length (if-else b (record { digits = []; ended = true } ∷ ls) (before c ls)) ≤ length (c ∷ s)
+    go true ls h = omega arith
+    go false ls h = more ls h
+
+module _ (store : List ℕ) {found : Found} (is : found ≡ foundIn store) where
+  abbrev counts : Counts
+  counts = found .index .counts
+
+  -- the numbers that are found keep their limits, be the store accepted or not
+  counts-small : (counts .agents ≤ mostAgents) × (counts .fluents ≤ mostFluents)
+  unfolding indexWith
+  counts-small = subst (λ (f : Found). (f .index .counts .agents ≤ mostAgents) × (f .index .counts .fluents ≤ mostFluents)) (sym is) (go (foundIn store .ok) refl)
+    where
+      go : (b : Bool) → foundIn store .ok ≡ b → (foundIn store .index .counts .agents ≤ mostAgents) × (foundIn store .index .counts .fluents ≤ mostFluents)
+      go true k = (found-ok store k .sound .agents, found-ok store k .sound .fluents)
+      go false k = rw (found-not store 15 (found-none store k)) (omega arith, omega arith)
+
+  pub fluents-small : counts .fluents ≤ mostFluents
+  fluents-small = counts-small .1
+
+  module _ (d : Domain) (domain : domainIn store ≡ got d) where
+    counts-are : counts ≡ countsOf d
+    unfolding indexWith
+    counts-are = ap (λ (f : Found). f .index .counts) (is ∙ found-got store d domain)
+
+    agents-are : counts .agents ≡ d .agents
+    agents-are = ap (λ (n : Counts). n .agents) counts-are
+
+    agents-fit : agentsAllowed (counts .agents) ≡ true
+    agents-fit =
+        let k = found-ok store (ap (λ (f : Found). f .ok) (found-got store d domain)) .sound in
+        let some : 1 ≤ counts .agents = subst (λ (f : Found). 1 ≤ f .index .counts .agents) (sym is) (k .someAgent) in
+        simp (le-leb 1 (counts .agents) some, le-leb (counts .agents) mostAgents (counts-small .0))
+
+  module _ (s names : List ℕ) {after : List ℕ} (answer : ReadSheet)
+      (told : (sheets.readingOf answer ≡ readSheet (counts .agents) s names .answer) × (after ≡ readSheet (counts .agents) s names .buffer)) (room : length names ≡ sheetSize) where
+    turned-at : (r : Refusal) (line : ℕ) → answer ≡ Refused r line → Turned (counts .agents) s (numberOf r) line
+    turned-at r line e = turned (counts .agents) s names (numberOf r) line (omega (arith, room)) (sym (told .0) ∙ ap sheets.readingOf e)
+
+    kept-at : (n : ℕ) → answer ≡ Read n → Kept (counts .agents) s names n
+    kept-at n e = kept (counts .agents) s names n (omega (arith, room)) (sym (told .0) ∙ ap sheets.readingOf e)
+
+    pub line-small : (r : Refusal) (line : ℕ) → answer ≡ Refused r line → line ≤ length s
+    line-small r line e = omega (arith, turned-at r line e .within, lines-most s)
+
+    pub used-most : (n : ℕ) → answer ≡ Read n → n * counts .agents ≤ sheetSize
+    used-most n e = product-most n (counts .agents) (kept-at n e .few) (counts-small .0) refl
+
+    module _ {out new : List ℕ} {q : ℕ} (lines : ℕ) (d : Domain) (domain : domainIn store ≡ got d) where
+      pub sheet-refused : {number line : ℕ} (r : Refusal) → answer ≡ Refused r line → number ≡ numberOf r → Put out 0 (refusedText number (lines + line)) q new
+          → Put out 0 (judgedBy d lines (stepsFrom (d .agents) [] (map decode (linesOf s)))) q new
+      sheet-refused {number} {line} r e k x =
+          let goes : outcome (d .agents) s ≡ refusedAt (numberOf r) line = subst (λ (a : ℕ). outcome a s ≡ refusedAt (numberOf r) line) (agents-are d domain) (turned-at r line e .goes (agents-fit d domain)) in
+          subst (λ (o : Reading (List Names)). Put out 0 (judgedBy d lines o) q new) (sym goes) (subst (λ (m : ℕ). Put out 0 (refusedText m (lines + line)) q new) k x)
+
+      pub sheet-judged : (n : ℕ) → answer ≡ Read n
+          → ((d : Domain) (steps : List Names) → domainIn store ≡ got d → counts .fluents ≡ length (d .fluents) → sheetOf (d .agents) (take (n * counts .agents) after) ≡ got steps → Put out 0 (judgedText (judge d steps)) q new)
+          → Put out 0 (judgedBy d lines (stepsFrom (d .agents) [] (map decode (linesOf s)))) q new
+      sheet-judged n e judges =
+          let k = kept-at n e in
+          let goes : outcome (d .agents) s ≡ read (k .steps) = subst (λ (a : ℕ). outcome a s ≡ read (k .steps)) (agents-are d domain) (k .goes) in
+          let names-are : sheetOf (d .agents) (take (n * counts .agents) after) ≡ got (k .steps) =
+          ap (λ (l : List ℕ). sheetOf (d .agents) (take (n * counts .agents) l)) (told .1)
+          ∙ subst (λ (a : ℕ). sheetOf a (take (n * counts .agents) (readSheet (counts .agents) s names .buffer)) ≡ got (k .steps)) (agents-are d domain) (k .sheet) in
+          subst (λ (o : Reading (List Names)). Put out 0 (judgedBy d lines o) q new) (sym goes)
+          (judges d (k .steps) domain (ap (λ (c : Counts). c .fluents) (counts-are d domain)) names-are)
+
+-- ---- an input
+
+pub no-room : (input out : List ℕ) → length out < outputSize → _≡_ {A = Answered} (record { count = 0; buffer = out }) (answered input out)
+unfolding answered
+no-room input out h = simp (lt-leb outputSize (length out) h)
+
+-- a refusal of the domain reader is the reading's
+refused-reading : (s store : List ℕ) (n line : ℕ) → storeSize ≤ length store → readDomain s store .answer ≡ refusedAt n line → reading s ≡ refusedAt n line
+unfolding readDomain
+refused-reading s store n line h e = go (reading s) refl
+  where
+    go : (r : Reading Domain) → reading s ≡ r → reading s ≡ refusedAt n line
+    go (read d) q = absurd (let x = simp (le-leb storeSize (length store) h, q) at e in let z : _≡_ {A = ℕ} 0 1 = cc in omega arith)
+    go (refusedAt m l) q =
+        let x : _≡_ {A = Reading ℕ} (refusedAt m l) (refusedAt n line) = simp (le-leb storeSize (length store) h, q) at e in
+        let k : m ≡ n = cc in
+        let a : l ≡ line = cc in
+        rw (← k, ← a) q
+
+module _ (input : List ℕ) {at lines : ℕ} (short : length input ≤ mostInput) (cut : CutIn input at lines) where
+  output-is : output input ≡ answeredBy (split (linesOf input)) (reading (take at input))
+  unfolding output
+  output-is = simp (le-leb (length input) mostInput short) (ap (λ (ls : List Line). answeredBy (split (linesOf input)) (taken (map decode ls))) (sym (cut .domain)))
+
+module _ (input out : List ℕ) {new : List ℕ} {q : ℕ} (room : outputSize ≤ length out) (bound : q ≤ outputSize) where
+  answered-by : {t : List ℕ} → output input ≡ t → Put out 0 t q new → record { count = q; buffer = new } ≡ answered input out
+  unfolding answered
+  answered-by {t} e x =
+      let n : q ≡ length t = x .place ∙ zero-add (length t) in
+      let b : new ≡ over t out = x .bytes ∙ sets-eq t out 0 (omega (arith, n)) ∙ ap (λ (k : ℕ). t ++ drop k out) (zero-add (length t)) in
+      simp (le-leb outputSize (length out) room, e) (ap (λ (k : ℕ). record { count = k; buffer = new }) n ∙ ap (λ (l : List ℕ). record { count = length t; buffer = l }) b)
+
+  pub input-long : {number : ℕ} → mostInput < length input → number ≡ 18 → Put out 0 (refusedText number 0) q new → record { count = q; buffer = new } ≡ answered input out
+  unfolding output
+  input-long h k x = answered-by (simp (lt-leb (length input) mostInput h)) (subst (λ (m : ℕ). Put out 0 (refusedText m 0) q new) k x)
+
+  module _ {at lines : ℕ} (short : length input ≤ mostInput) (cut : CutIn input at lines) where
+    module _ (store : List ℕ) {after : List ℕ} (answer : ReadDomain)
+        (told : (domains.readingOf answer ≡ readDomain (take at input) store .answer) × (after ≡ readDomain (take at input) store .buffer)) where
+      pub input-refused : {number line : ℕ} (r : Refusal) → length store ≡ storeSize → answer ≡ given.Refused r line → number ≡ numberOf r → Put out 0 (refusedText number line) q new
+          → record { count = q; buffer = new } ≡ answered input out
+      input-refused {number} {line} r size e k x =
+          answered-by (output-is input short cut ∙ ap (answeredBy (split (linesOf input))) (refused-reading (take at input) store (numberOf r) line (omega (arith, size)) (sym (told .0) ∙ ap domains.readingOf e)))
+          (subst (λ (m : ℕ). Put out 0 (refusedText m line) q new) k x)
+
+      pub input-read : (n : ℕ) → answer ≡ given.Read n
+          → ((d : Domain) → domainIn after ≡ got d → Put out 0 (judgedBy d lines (stepsFrom (d .agents) [] (map decode (linesOf (take (length input - at) (drop at input)))))) q new)
+          → record { count = q; buffer = new } ≡ answered input out
+      input-read n e judges =
+          let k = stores.kept (take at input) store n (sym (told .0) ∙ ap domains.readingOf e) in
+          let d = k .domain in
+          let rest : linesOf (take (length input - at) (drop at input)) ≡ split (linesOf input) .sheet = ap linesOf (take-all (length input - at) (drop at input) (omega (arith, length-drop at input))) ∙ cut .sheet in
+          answered-by
+          (output-is input short cut ∙ ap (answeredBy (split (linesOf input))) (k .reads)
+          ∙ ap (λ (m : ℕ). judgedBy d m (stepsFrom (d .agents) [] (map decode (split (linesOf input) .sheet)))) (sym (cut .before))
+          ∙ ap (λ (ls : List Line). judgedBy d lines (stepsFrom (d .agents) [] (map decode ls))) (sym rest))
+          (judges d (ap domainIn (told .1) ∙ k .holds))
+
+-- the domain's lines are no more than its characters
+pub lines-small : {input : List ℕ} {at lines : ℕ} → CutIn input at lines → lines ≤ length input
+lines-small {input} {at} cut = omega (arith, cut .before, ap length (cut .domain), lines-most (take at input), length-take at input, cut .within)
+
+pub rest-small : (input : List ℕ) (at : ℕ) {most : ℕ} → length input ≤ most → length (take (length input - at) (drop at input)) ≤ most
+rest-small input at h = simp length-take (omega arith)
+
+-- ---- for callers: what is counted stands in the buffer
+
+pub count-within : (input out : List ℕ) {n : ℕ} {new : List ℕ} → _≡_ {A = Answered} (record { count = n; buffer = new }) (answered input out) → n ≤ length new
+unfolding answered
+count-within input out {n} {new} e = go (leb outputSize (length out)) refl
+  where
+    go : (b : Bool) → leb outputSize (length out) ≡ b → n ≤ length new
+    go true q =
+        let x : _≡_ {A = Answered} (record { count = n; buffer = new }) (record { count = length (output input); buffer = over (output input) out }) = e ∙ simp q in
+        omega (arith, ap (λ (a : Answered). a .count) x, ap (λ (a : Answered). length (a .buffer)) x, length-append (output input) (drop (length (output input)) out))
+    go false q =
+        let x : _≡_ {A = Answered} (record { count = n; buffer = new }) (record { count = 0; buffer = out }) = e ∙ simp q in
+        omega (arith, ap (λ (a : Answered). a .count) x)

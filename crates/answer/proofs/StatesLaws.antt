@@ -1,0 +1,126 @@
+-- The states that a judgement writes: each has a level for each fluent, and there is at most one more than steps. Assumes nothing.
+use Prim.Native.Nat.{ℕ, suc, _+_, _/_, _%_, _≤_}
+use mathlib.Core.Path.{_≡_, refl, sym, ap, _∙_}
+use mathlib.Core.Bool.{Bool, true, false}
+use mathlib.Core.List.{List, [], _∷_, _++_}
+use native.Mathlib.Omega.{arith}
+use lib.Dec.{eqb, leb}
+use lib.IntN.{ℤ, pos}
+use lib.ListN.{length, getD, length-append, length-map}
+use borrow.Author.Tests.{leb-true}
+use Rattle.bmap.specs.Plain.{numbers}
+use Rattle.bmap.specs.Limits.{mostSteps, levelsSize}
+use Rattle.bmap.specs.Refusal.{Answer, got, refused, need, then}
+use Rattle.bmap.specs.Domain.{Domain, Fluent, Names, State, static, concurrency, goal}
+use Rattle.bmap.specs.Store.{domainIn}
+use Rattle.bmap.specs.Sheet.{rows, sheetOf}
+use Rattle.bmap.specs.Judge.{Checked, fine, fault, Pass, next, each, placed, mayOccur, allHold, settled, Setting, levelAfter, stateAfter, inRange, history, step, Verdict, accepted, broken, Judged, judgedAt, passed, carried, startOf, ran, goalsAfter, judge}
+use Rattle.line.proofs.Answers.{need-got}
+use Rattle.sheet.proofs.RoundTrip.{Rows, none, more, length-rows}
+use Rattle.judge.specs.Answer.{statesIn, statesWritten}
+use Rattle.judge.proofs.LoopLaws.{numbers-length}
+
+-- ---- one step
+
+-- a property of what a check finds
+abbrev Finds : {A : Type 0} → (A → Type 0) → Checked A → Type 0
+Finds P (fine a) = P a
+Finds P (fault kind n) = Unit {0}
+
+then-finds : {A B : Type 0} (P : B → Type 0) (c : Checked A) (k : A → Checked B) → ((a : A) → Finds P (k a)) → Finds P (next c k)
+then-finds P (fine a) k h = h a
+then-finds P (fault kind n) k h = tt
+
+module _ (d : Domain) where
+  abbrev Whole : State → Type 0
+  Whole s = length s ≡ length (d .fluents)
+
+  after-whole : (settings : List Setting) (old : State) → Whole (stateAfter d settings old)
+  unfolding stateAfter
+  after-whole settings old =
+      length-map (numbers 0 (length (d .fluents))) (λ f. levelAfter settings f (getD old f (pos 0))) ∙ numbers-length 0 (length (d .fluents))
+
+  step-whole : (sheet : List Names) (states : List State) (j : ℕ) (names : Names) → Finds Whole (step d sheet states j names)
+  unfolding step
+  step-whole sheet states j names =
+      then-finds Whole (each (placed d names) names) _ (λ _.
+      then-finds Whole (each (mayOccur d (history d sheet states) j names) (d .entries)) _ (λ _.
+      then-finds Whole (allHold concurrency 3 d (history d sheet states) j) _ (λ _.
+      then-finds Whole (settled d (history d sheet states) j names 0 [] (d .laws)) _ (λ settings.
+      let new : State = stateAfter d settings (getD states j []) in
+      then-finds Whole (each (inRange new) (d .fluents)) _ (λ _.
+      then-finds Whole (allHold static 6 d (history d sheet (states ++ (new ∷ []))) (suc j)) _ (λ _.
+      after-whole settings (getD states j [])))))))
+
+  -- ---- the run
+
+  pub record Reached (most : ℕ) (j : Judged) : Type 0 where
+    pub whole : Rows (length (d .fluents)) (j .states)
+    pub few : length (j .states) ≤ most
+
+  rows-more : {states : List State} (s : State) → Rows (length (d .fluents)) states → Whole s → Rows (length (d .fluents)) (states ++ (s ∷ []))
+  rows-more s none e = more e none
+  rows-more s (more q r) e = more q (rows-more s r e)
+
+  carried-reached : (sheet : List Names) (j : ℕ) (states : List State) (rest : List Names) → Rows (length (d .fluents)) states
+      → Reached (length states + length rest) (carried d sheet j states rest)
+  unfolding carried
+  carried-reached sheet j states [] r = record { whole = r; few = omega arith }
+  carried-reached sheet j states (names ∷ rest) r =
+      go (step d sheet states j names) (step-whole sheet states j names) (λ new e. carried-reached sheet (suc j) (states ++ (new ∷ [])) rest (rows-more new r e))
+    where
+      go : (c : Checked State) → Finds Whole c
+          → ((new : State) → Whole new → Reached (length (states ++ (new ∷ [])) + length rest) (carried d sheet (suc j) (states ++ (new ∷ [])) rest))
+          → Reached (length states + length (names ∷ rest)) (judgedAt (suc j) states c (λ new. carried d sheet (suc j) (states ++ (new ∷ [])) rest))
+      go (fine new) e later = record { whole = later new e .whole; few = omega (arith, later new e .few, length-append states (new ∷ [])) }
+      go (fault kind n) e later = record { whole = r; few = omega arith }
+
+  ran-reached : (sheet : List Names) → Reached (suc (length sheet)) (ran d sheet)
+  unfolding ran
+  ran-reached sheet = go (allHold static 6 d (history d sheet (startOf d ∷ [])) 0)
+    where
+      go : (c : Pass) → Reached (suc (length sheet)) (judgedAt 0 [] c (λ _. carried d sheet 0 (startOf d ∷ []) sheet))
+      go (fine u) =
+          let r = carried-reached sheet 0 (startOf d ∷ []) sheet (more (length-map (d .fluents) (λ (f : Fluent). f .start)) none) in
+          record { whole = r .whole; few = omega (arith, r .few) }
+      go (fault kind n) = record { whole = none; few = omega arith }
+
+  pub judge-reached : (sheet : List Names) → Reached (suc (length sheet)) (judge d sheet)
+  unfolding judge
+  judge-reached sheet = go (ran d sheet .states) (ran d sheet .verdict) (ran-reached sheet .whole) (ran-reached sheet .few)
+    where
+      goals : (states : List State) (c : Pass) → Rows (length (d .fluents)) states → length states ≤ suc (length sheet)
+          → Reached (suc (length sheet)) (judgedAt (length sheet) states c (λ _. passed states))
+      goals states (fine u) r h = record { whole = r; few = h }
+      goals states (fault kind n) r h = record { whole = r; few = h }
+
+      go : (states : List State) (v : Verdict) → Rows (length (d .fluents)) states → length states ≤ suc (length sheet) → Reached (suc (length sheet)) (goalsAfter d sheet states v)
+      go states accepted r h = goals states (allHold goal 8 d (history d sheet states) (length sheet)) r h
+      go states (broken kind k n) r h = record { whole = r; few = h }
+
+-- ---- the number of states written
+
+steps-few : (agents : ℕ) (sheet : List ℕ) (steps : List Names) → sheetOf agents sheet ≡ got steps → length steps ≤ mostSteps
+unfolding sheetOf
+steps-few agents sheet steps e =
+    let n : ℕ = length sheet / agents in
+    let a = need-got (eqb (length sheet % agents) 0) 8 (need (leb n mostSteps) 9 (got (rows agents n sheet))) steps e in
+    let b = need-got (leb n mostSteps) 9 (got (rows agents n sheet)) steps (a .1) in
+    let same : rows agents n sheet ≡ steps = cc (b .1) in
+    omega (arith, leb-true n mostSteps (b .0), ap length (sym same) ∙ length-rows agents n sheet)
+
+pub states-few : (store sheet : List ℕ) (levels : List ℤ) → statesWritten store sheet levels ≤ suc mostSteps
+unfolding statesWritten
+states-few store sheet levels = room (leb levelsSize (length levels))
+  where
+    stepped : (d : Domain) (a : Answer (List Names)) → sheetOf (d .agents) sheet ≡ a → statesIn (then a (λ steps. got (judge d steps))) ≤ suc mostSteps
+    stepped d (got steps) e = omega (arith, judge-reached d steps .few, steps-few (d .agents) sheet steps e)
+    stepped d (refused n) e = omega arith
+
+    by : (a : Answer Domain) → statesIn (then a (λ d. then (sheetOf (d .agents) sheet) (λ steps. got (judge d steps)))) ≤ suc mostSteps
+    by (got d) = stepped d (sheetOf (d .agents) sheet) refl
+    by (refused n) = omega arith
+
+    room : (b : Bool) → statesIn (need b 10 (then (domainIn store) (λ d. then (sheetOf (d .agents) sheet) (λ steps. got (judge d steps))))) ≤ suc mostSteps
+    room true = by (domainIn store)
+    room false = omega arith

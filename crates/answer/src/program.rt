@@ -1,0 +1,108 @@
+// The program's one function, from input bytes to output bytes.
+use crate::cut::sheet_place;
+use crate::print::put_accepted;
+use crate::print::put_broken;
+use crate::print::put_refused;
+use crate::print::put_states;
+use bmap::INPUT;
+use bmap::LEVELS;
+use bmap::Refusal;
+use bmap::STORE;
+use bmap::Sheet;
+use domain::ReadDomain;
+use judge::Judgement;
+use judge::Verdict;
+use sheet::ReadSheet;
+ghost use mathlib.Core.Path.{_≡_};
+ghost use mathlib.Core.List.{List, [], map};
+ghost use Prim.Native.Nat.{_+_, _≤_};
+ghost use lib.ListN.{length};
+ghost use Rattle.bmap.specs.Limits.{mostFluents, mostInput};
+ghost use Rattle.bmap.specs.Refusal.{got};
+ghost use Rattle.bmap.specs.Line.{linesOf, decode};
+ghost use Rattle.bmap.specs.Domain.{Domain, Names};
+ghost use Rattle.bmap.specs.Store.{domainIn};
+ghost use Rattle.bmap.specs.Sheet.{stepsFrom, sheetOf};
+ghost use Rattle.bmap.specs.Judge as paper;
+ghost use Rattle.bmap.specs.Program.{lastLine, judgedText, judgedBy};
+ghost use Rattle.judge.specs.Answer.{verdictOf};
+ghost use Rattle.answer.specs.Put.{Put};
+ghost use Rattle.answer.specs.Answer.{outputSize, answered};
+
+// Room for every output.
+pub const OUTPUT: usize = 16_384;
+
+// "the last line is BROKEN kind step number"
+fn put_verdict(out: &mut [u8], at: usize, verdict: Verdict) -> usize
+    requires { ⌜ at + 70 ≤ length (now out) ⌝ }
+    ensures { λ r. ⌜ Put (now (out .entry)) at (lastLine (verdictOf verdict)) r (now (out .exit)) ⌝ }
+    ensures { λ r. ⌜ r ≤ at + 70 ⌝ }
+{
+    match verdict {
+        Verdict::Accepted => put_accepted(out, at),
+        Verdict::Broken {
+            fault,
+            step,
+            number,
+        } => put_broken(out, at, fault.number(), step, number),
+    }
+}
+
+// A domain with so many fluents, and a sheet of its agents' names: the states written, then the verdict.
+fn put_judged(store: &[u8], fluents: usize, sheet: &[u8], out: &mut [u8]) -> usize
+    requires { ⌜ (fluents ≤ mostFluents) × (outputSize ≤ length (now out)) ⌝ }
+    ensures { λ r. ⌜ ((d : Domain) (steps : List Names) → domainIn (now (store .entry)) ≡ got d → fluents ≡ length (d .fluents) → sheetOf (d .agents) (now (sheet .entry)) ≡ got steps
+        → Put (now (out .entry)) 0 (judgedText (paper.judge d steps)) r (now (out .exit))) ⌝ }
+    ensures { λ r. ⌜ r ≤ outputSize ⌝ }
+{
+    let mut levels = [0i16; LEVELS];
+    let counted = judge::judge_counted(store, sheet, &mut levels);
+    let written = put_states(out, &levels, fluents, counted.states);
+    let judgement = counted.judgement;
+    match judgement {
+        Judgement::Judged(verdict) => put_verdict(out, written, verdict),
+        // An accepted domain and whole steps are not refused.
+        Judgement::Refused(_) => written,
+    }
+}
+
+// The sheet's lines after so many of an accepted domain.
+fn put_sheet(store: &[u8], before: usize, text: &[u8], out: &mut [u8]) -> usize
+    requires { ⌜ (before ≤ mostInput) × (length (now text) ≤ mostInput) × (outputSize ≤ length (now out)) ⌝ }
+    ensures { λ r. ⌜ ((d : Domain) → domainIn (now (store .entry)) ≡ got d
+        → Put (now (out .entry)) 0 (judgedBy d before (stepsFrom (d .agents) [] (map decode (linesOf (now (text .entry)))))) r (now (out .exit))) ⌝ }
+    ensures { λ r. ⌜ r ≤ outputSize ⌝ }
+{
+    let found = domain::index_of(store);
+    let index = found.index;
+    let counts = index.counts;
+    let mut names = [0u8; Sheet::BYTES];
+    let answer = sheet::read(text, counts.agents, &mut names);
+    match answer {
+        ReadSheet::Refused(refusal, line) => put_refused(out, refusal.number(), before + line),
+        ReadSheet::Read(steps) => {
+            let used = steps * counts.agents;
+            put_judged(store, counts.fluents, &names[..used], out)
+        }
+    }
+}
+
+// "18 comes before all others, the domain's refusals before the sheet's." A buffer shorter than OUTPUT is not written.
+pub fn answer(input: &[u8], out: &mut [u8]) -> usize
+    ensures { λ r. ⌜ record { count = r; buffer = now (out .exit) } ≡ answered (now (input .entry)) (now (out .entry)) ⌝ }
+{
+    if out.len() < OUTPUT {
+        return 0;
+    }
+    if INPUT < input.len() {
+        return put_refused(out, Refusal::LongInput.number(), 0);
+    }
+    let cut = sheet_place(input);
+    let at = cut.at;
+    let mut store = [0u8; STORE];
+    let answer = domain::read(&input[..at], &mut store);
+    match answer {
+        ReadDomain::Refused { refusal, line } => put_refused(out, refusal.number(), line),
+        ReadDomain::Read(_) => put_sheet(&store, cut.lines, &input[at..], out),
+    }
+}

@@ -1,14 +1,14 @@
 -- Frames, one after the other, to a domain.
-use Prim.Native.Nat.{ℕ, zero, suc}
-use mathlib.Core.Bool.{Bool, true, false, not}
+use Prim.Native.Nat.{ℕ, suc}
+use mathlib.Core.Bool.{Bool, false, not}
 use mathlib.Core.List.{List, [], _∷_, _++_}
 use lib.Dec.{eqb, leb, ltb}
 use lib.ListN.{length}
 use Rattle.bmap.specs.Plain.{both, implies, if-else, any, all, numbers}
 use Rattle.bmap.specs.Limits.{mostFluents, mostKnowledge, mostEntries, mostLaws}
 use Rattle.bmap.specs.Refusal.{Answer, got, refused, need, known, then}
-use Rattle.bmap.specs.Line.{Frame}
-use Rattle.bmap.specs.Domain.{Domain, Fluent, Knows, Entry, Law, executable, effect, must}
+use Rattle.bmap.specs.Line.{Frame, agentsKind, fluentKind, knowledgeKind, entryKind, goalKind}
+use Rattle.bmap.specs.Domain.{Domain, Entry, Law, executable, effect, must}
 use Rattle.bmap.specs.Payload.{Item, agents, fluent, knowledge, entry, law, entryIn, itemIn}
 use Rattle.bmap.specs.declared.limits.Counts.{Counts}
 
@@ -31,22 +31,22 @@ countsOf d = record {
 
 -- 3: "kind unknown, out of order": "A domain's kinds never decrease from line to line"
 unfoldable pub inOrder : ℕ → ℕ → Bool
-inOrder latest kind = both (both (leb 0xA1 kind) (leb kind 0xA9)) (leb latest kind)
+inOrder latest kind = both (both (leb agentsKind kind) (leb kind goalKind)) (leb latest kind)
 
 -- 5: "At most 1 A1, 32 A2, 64 A3, 64 A4 and 128 laws (A5 to A9, numbered together from 0)"
 unfoldable pub room : Counts → ℕ → Bool
 room n kind =
-    if-else (eqb kind 0xA1) (eqb (n .agents) 0)
-    (if-else (eqb kind 0xA2) (ltb (n .fluents) mostFluents)
-    (if-else (eqb kind 0xA3) (ltb (n .knowledge) mostKnowledge)
-    (if-else (eqb kind 0xA4) (ltb (n .entries) mostEntries) (ltb (n .laws) mostLaws))))
+    if-else (eqb kind agentsKind) (eqb (n .agents) 0)
+    (if-else (eqb kind fluentKind) (ltb (n .fluents) mostFluents)
+    (if-else (eqb kind knowledgeKind) (ltb (n .knowledge) mostKnowledge)
+    (if-else (eqb kind entryKind) (ltb (n .entries) mostEntries) (ltb (n .laws) mostLaws))))
 
 -- 6: "entry with name and mask of an earlier one"
 abbrev pub alike : Entry → Entry → Bool
 alike a b = both (eqb (a .name) (b .name)) (eqb (a .crew) (b .crew))
 
 unfoldable pub fresh : List Entry → Frame → Bool
-fresh earlier f = implies (eqb (f .kind) 0xA4) (not (any (alike (entryIn (f .payload))) earlier))
+fresh earlier f = implies (eqb (f .kind) entryKind) (not (any (alike (entryIn (f .payload))) earlier))
 
 -- "line by line 1, 2, 3, 5, 4, 6": 1 and 2 are the line's own
 unfoldable pub checked : Partial → Frame → Answer Item

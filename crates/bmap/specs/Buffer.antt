@@ -1,7 +1,7 @@
 -- What a call leaves in a buffer that it was lent to be written.
 use Prim.Native.Nat.{ℕ, _-_}
 use mathlib.Core.List.{List, [], _++_}
-use lib.Dec.{leb, ltb}
+use lib.Dec.{leb}
 use lib.ListN.{length, drop, replicate}
 use Rattle.bmap.specs.Plain.{if-else}
 use Rattle.bmap.specs.Refusal.{Answer, got, refused}

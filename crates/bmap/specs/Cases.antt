@@ -5,18 +5,22 @@ use mathlib.Core.Path.{_≡_, refl}
 use mathlib.Core.Bool.{false}
 use mathlib.Core.List.{List, [], _∷_, _++_}
 use lib.IntN.{ℤ, pos, negsuc}
+use lib.ListN.{replicate}
 use Rattle.bmap.specs.Plain.{any, all, flat, numbers, text}
 use Rattle.bmap.specs.Number.{Valued, value, no-value, bounded, operate, signedWord}
 use Rattle.bmap.specs.Tree.{fluent, namedE, namedC, allowedE, allowedC}
 use Rattle.bmap.specs.Meaning.{History, evalE, evalC}
 use Rattle.bmap.specs.Code.{codeOf, parseE, parseC}
-use Rattle.bmap.specs.Line.{linesOf, digit, bytes, framed, decode}
-use Rattle.bmap.specs.Domain.{Domain, Names, occursIn, knownTo, readable}
+use Rattle.bmap.specs.Line.{linesOf, digit, bytes, framed, decode, digitFor, hex, lineFor}
+use Rattle.bmap.specs.Domain.{Names, occursIn, knownTo, readable}
 use Rattle.bmap.specs.Payload.{maskFits, agentsFit, fluentFits, knowledgeFits, entryFits, executableIn, effectIn, mustIn, lawIn, itemIn}
-use Rattle.bmap.specs.Accept.{Reading, inOrder, room, fresh, checked, accept, complete, takenFrom}
-use Rattle.bmap.specs.Sheet.{stepOf, stepsFrom}
-use Rattle.bmap.specs.Judge.{Judged, Verdict, accepted, broken, eachFrom, history, holds, carries, placed, permits, permitted, mayOccur, sets, settled, levelAfter, stateAfter, inRange, step, carried, ran, judge}
-use Rattle.bmap.specs.Session.{enter, strike, amend, edited, replayed, sheetOf, edit, undo, redo, Call, editing, undoing, redoing, Reply, done, turn, after, replies}
+use Rattle.bmap.specs.Accept.{Reading, read, refusedAt, inOrder, room, fresh, checked, accept, complete, takenFrom}
+use Rattle.bmap.specs.Sheet.{stepOf, stepsFrom, stepsIn, readSheet, rows, sheetOf as sheetOfBytes}
+use Rattle.bmap.specs.Buffer.{Filled, Written}
+use Rattle.bmap.specs.Store.{readDomain, standsAt, frameAt, framesFrom, domainIn, Place, Next, next, writeDomain}
+use Rattle.bmap.specs.Verdict.{Judgement, judgeSheet}
+use Rattle.bmap.specs.Judge.{Judged, accepted, broken, eachFrom, history, holds, carries, placed, permits, permitted, mayOccur, sets, settled, levelAfter, stateAfter, inRange, step, carried, ran, judge}
+use Rattle.bmap.specs.Session.{enter, strike, amend, edited, replayed, sheetOf, edit, undo, redo, verdict, Call, editing, undoing, redoing, Reply, done, turn, after, replies}
 use Rattle.bmap.specs.Refusal.{got, refused}
 use Rattle.bmap.specs.Program.{digitsOf, spaced, stateLines, split, output}
 use Rattle.bmap.specs.River.{p, judgedUnder, gives}
@@ -155,6 +159,56 @@ edges =
     ∷ prints (gauge ++ text "A303010002\nA403010003\nA50A00272A20110000110100\nB103010100\n") (text "S 0 300 1\nBROKEN 2 1 0\n")
     -- levels below zero
     ∷ prints (text "A10101\nA206FF00FFFFFF85\nA403010001\nA502002A\nB10101\n") (text "S 0 -123\nS 1 -123\nACCEPTED\n")
+    -- a character between 9 and A
+    ∷ prints (text "A:\n") (text "REFUSED 1 1\n")
+    -- a count over 120
+    ∷ prints (text "A179" ++ replicate 242 48 ++ text "\n") (text "REFUSED 2 1\n")
+    -- a count below the bytes present
+    ∷ prints (text "A1000102\n") (text "REFUSED 2 1\n")
+    -- a second A1 with a payload that is not as described: 5 before 4
+    ∷ prints (text "A10102\nA10100\n") (text "REFUSED 5 2\n")
+    -- a start below the lowest value
+    ∷ prints (text "A10102\nA20600C8014000C7\n") (text "REFUSED 4 2\n")
+    -- an empty mask
+    ∷ prints (text "A10102\nA20600C80140012C\nA303000000\n") (text "REFUSED 4 3\n")
+    -- knowledge of an unknown fluent
+    ∷ prints (text "A10102\nA20600C80140012C\nA303010001\n") (text "REFUSED 4 3\n")
+    -- an action named 0
+    ∷ prints (text "A10102\nA20600C80140012C\nA403000001\n") (text "REFUSED 4 3\n")
+    -- no A2
+    ∷ prints (text "A10101\nA403010001\nA502002A\n") (text "REFUSED 7 3\n")
+    -- a kind after A9
+    ∷ prints (pool ++ text "AA012A\n") (text "REFUSED 3 5\n")
+    -- a byte after a law
+    ∷ prints (pool ++ text "A8022A2A\n") (text "REFUSED 4 5\n")
+    -- code 29 in A9
+    ∷ prints (pool ++ text "A903290000\n") (text "REFUSED 4 5\n")
+    -- code 29 with an unknown entry
+    ∷ prints (pool ++ text "A803290100\n") (text "REFUSED 4 5\n")
+    -- code 29 with lag 64
+    ∷ prints (pool ++ text "A803290040\n") (text "REFUSED 4 5\n")
+    -- an unknown fluent in a law
+    ∷ prints (pool ++ text "A80720110100100000\n") (text "REFUSED 4 5\n")
+    -- what codes 15 to 19 and 20 to 28 mean, beside the cases above
+    ∷ prints (pool ++ text "A90C201510FFF910000217100003\nA90D201610FFF9100002171810FFFF\nA90E2620192A1000012019282A100000\nA91026211000021000012821100001100001\nA910262210FFFF1000012822100001100001\nA9102623100001100001282310000110FFFF\nA90528262A282A\nA90427282A2A\n") (text "S 0 300\nACCEPTED\n")
+    -- a line that starts with B is the domain's
+    ∷ prints (text "A10102\nB0\n") (text "REFUSED 2 2\n")
+    -- an input of 60,001 bytes
+    ∷ prints (replicate 60_001 10) (text "REFUSED 18 0\n")
+    -- a 65th step of another kind: 3 before 9
+    ∷ prints (pool ++ flat (replicate 64 (text "B1020000\n")) ++ text "A10102\n") (text "REFUSED 3 69\n")
+    -- a 65th step that is too short: 9 before 8
+    ∷ prints (pool ++ flat (replicate 64 (text "B1020000\n")) ++ text "B100\n") (text "REFUSED 9 69\n")
+    -- a fluent named under 27, 28 and 19
+    ∷ prints (gauge ++ text "A303000007\nA403010001\nA5100027282119201101001101001000012A\nB103010000\n") (text "S 0 300 1\nBROKEN 2 1 0\n")
+    -- kind 7 of an A5 law, entry 1, law 2
+    ∷ prints (text "A10101\nA206000000090001\nA403010001\nA403020001\nA502002A\nA50301282A\nA50C012015100001100000100000\nB10102\n") (text "S 0 1\nBROKEN 7 1 2\n")
+    -- an effect's constraint without value
+    ∷ prints (pool ++ text "A6100020151000011000001000000010012C\nB1020100\n") (text "S 0 300\nBROKEN 7 1 1\n")
+    -- an effect's expression without value, where its constraint is false
+    ∷ prints (pool ++ text "A60B00282A0015100001100000\nB1020100\n") (text "S 0 300\nS 1 300\nACCEPTED\n")
+    -- an agent outside the crew of the entry that it names
+    ∷ prints (text "A10102\nA206000000090001\nA403010002\nA502002A\nB1020101\n") (text "S 0 1\nBROKEN 1 1 0\n")
     ∷ []
 
 -- the session: the sheet after some calls, with two agents
@@ -178,12 +232,33 @@ sessions =
     ∷ sheetAfter (editing (enter first) ∷ editing (enter second) ∷ undoing ∷ undoing ∷ redoing ∷ []) (first ∷ [])
     ∷ replied (editing (enter first) ∷ undoing ∷ editing (enter second) ∷ redoing ∷ []) (yes ∷ yes ∷ yes ∷ done (refused 13) ∷ [])
     ∷ replied (undoing ∷ editing strike ∷ editing (amend 1 first) ∷ editing (amend 1 []) ∷ editing (enter []) ∷ []) (done (refused 12) ∷ done (refused 11) ∷ done (refused 11) ∷ done (refused 8) ∷ done (refused 8) ∷ [])
+    ∷ sheetAfter (replicate 65 (editing (enter first)) ++ (editing strike ∷ [])) (replicate 63 first)
+    ∷ replied (editing (enter first) ∷ editing (amend 0 first) ∷ []) (yes ∷ done (refused 11) ∷ [])
+    ∷ sheetAfter (flat (replicate 100 (editing (enter first) ∷ editing strike ∷ [])) ++ (editing (enter first) ∷ [])) []
+    ∷ []
+
+-- the calls: what they leave in the buffers that they are lent
+abbrev store : List ℕ
+store = 161 ∷ 1 ∷ 2 ∷ 162 ∷ 6 ∷ 0 ∷ 200 ∷ 1 ∷ 64 ∷ 1 ∷ 44 ∷ 163 ∷ 3 ∷ 0 ∷ 0 ∷ 3 ∷ 164 ∷ 3 ∷ 1 ∷ 0 ∷ 1 ∷ 164 ∷ 3 ∷ 2 ∷ 0 ∷ 2 ∷ 165 ∷ 8 ∷ 0 ∷ 36 ∷ 17 ∷ 0 ∷ 0 ∷ 16 ∷ 0 ∷ 220 ∷ 165 ∷ 8 ∷ 1 ∷ 36 ∷ 17 ∷ 0 ∷ 0 ∷ 16 ∷ 0 ∷ 220 ∷ 166 ∷ 10 ∷ 0 ∷ 42 ∷ 0 ∷ 19 ∷ 17 ∷ 0 ∷ 0 ∷ 16 ∷ 0 ∷ 14 ∷ 166 ∷ 10 ∷ 1 ∷ 42 ∷ 0 ∷ 19 ∷ 17 ∷ 0 ∷ 0 ∷ 16 ∷ 0 ∷ 6 ∷ 169 ∷ 7 ∷ 37 ∷ 17 ∷ 0 ∷ 0 ∷ 16 ∷ 1 ∷ 24 ∷ []
+
+abbrev pub calls : List Case
+calls =
+    record { Of = Filled; left = readDomain p (replicate 36_000 7); right = record { answer = read 79; buffer = store ++ replicate 35_921 0 } }
+    ∷ record { Of = Filled; left = readDomain p (replicate 35_999 7); right = record { answer = refusedAt 10 0; buffer = replicate 35_999 7 } }
+    ∷ record { Of = Filled; left = readSheet 0 [] (replicate 1_024 7); right = record { answer = refusedAt 4 0; buffer = replicate 1_024 0 } }
+    ∷ record { Of = Written; left = writeDomain store (replicate 170 7); right = record { answer = got 168; buffer = p ++ (7 ∷ 7 ∷ []) } }
+    ∷ record { Of = Written; left = writeDomain (store ++ (1 ∷ [])) []; right = record { answer = refused 15; buffer = [] } }
+    ∷ record { Of = Next; left = next (record { store = store; at = 0 }); right = record { part = 161 ∷ 1 ∷ 2 ∷ []; at = 3 } }
+    ∷ record { Of = Next; left = next (record { store = 161 ∷ 121 ∷ replicate 121 0; at = 0 }); right = record { part = []; at = 0 } }
+    ∷ record { Of = Judgement; left = judgeSheet store first (replicate 2_080 (pos 7)); right = record { answer = got accepted; levels = pos 300 ∷ pos 286 ∷ replicate 2_078 (pos 7) } }
+    ∷ record { Of = Judgement; left = judgeSheet store (replicate 131 0) (replicate 2_080 (pos 7)); right = record { answer = refused 8; levels = replicate 2_080 (pos 7) } }
+    ∷ record { Of = Judgement; left = verdict (record { agents = 3; standing = []; undone = [] }) store (replicate 2_080 (pos 7)); right = record { answer = refused 16; levels = replicate 2_080 (pos 7) } }
     ∷ []
 
 abbrev pub AllHold : List Case → Type 0
 AllHold [] = Unit {0}
 AllHold (c ∷ l) = (c .left ≡ c .right) × AllHold l
 
-pub shown : AllHold starred × AllHold others × AllHold edges × AllHold sessions
-unfolding p judgedUnder text any all flat numbers bounded signedWord namedE namedC allowedE allowedC evalE evalC codeOf parseE parseC linesOf digit bytes framed decode occursIn knownTo readable maskFits agentsFit fluentFits knowledgeFits entryFits executableIn effectIn mustIn lawIn itemIn inOrder room fresh checked accept complete takenFrom stepOf stepsFrom eachFrom history holds carries placed permits permitted mayOccur sets settled levelAfter stateAfter inRange step carried ran judge digitsOf spaced stateLines split output edited replayed sheetOf edit undo redo turn after replies
-shown = ((refl, (refl, (refl, (refl, (refl, (refl, (refl, (refl, (refl, (refl, (refl, (refl, (refl, (refl, (refl, (refl, tt)))))))))))))))), (refl, (refl, (refl, (refl, (refl, (refl, tt)))))), (refl, (refl, (refl, (refl, (refl, (refl, (refl, (refl, (refl, (refl, (refl, (refl, (refl, (refl, (refl, (refl, (refl, (refl, (refl, (refl, (refl, (refl, (refl, (refl, (refl, (refl, (refl, (refl, (refl, (refl, (refl, (refl, (refl, (refl, tt)))))))))))))))))))))))))))))))))), (refl, (refl, (refl, (refl, (refl, (refl, tt)))))))
+pub shown : AllHold starred × AllHold others × AllHold edges × AllHold sessions × AllHold calls
+unfolding p judgedUnder text any all flat numbers bounded signedWord namedE namedC allowedE allowedC evalE evalC codeOf parseE parseC linesOf digit bytes framed decode occursIn knownTo readable maskFits agentsFit fluentFits knowledgeFits entryFits executableIn effectIn mustIn lawIn itemIn inOrder room fresh checked accept complete takenFrom stepOf stepsFrom eachFrom history holds carries placed permits permitted mayOccur sets settled levelAfter stateAfter inRange step carried ran judge digitsOf spaced stateLines split output edited replayed sheetOf edit undo redo turn after replies readDomain standsAt frameAt framesFrom domainIn next writeDomain stepsIn readSheet rows judgeSheet sheetOfBytes verdict digitFor hex lineFor
+shown = ((refl, (refl, (refl, (refl, (refl, (refl, (refl, (refl, (refl, (refl, (refl, (refl, (refl, (refl, (refl, (refl, tt)))))))))))))))), (refl, (refl, (refl, (refl, (refl, (refl, tt)))))), (refl, (refl, (refl, (refl, (refl, (refl, (refl, (refl, (refl, (refl, (refl, (refl, (refl, (refl, (refl, (refl, (refl, (refl, (refl, (refl, (refl, (refl, (refl, (refl, (refl, (refl, (refl, (refl, (refl, (refl, (refl, (refl, (refl, (refl, (refl, (refl, (refl, (refl, (refl, (refl, (refl, (refl, (refl, (refl, (refl, (refl, (refl, (refl, (refl, (refl, (refl, (refl, (refl, (refl, (refl, (refl, (refl, (refl, (refl, tt))))))))))))))))))))))))))))))))))))))))))))))))))))))))))), (refl, (refl, (refl, (refl, (refl, (refl, (refl, (refl, (refl, tt))))))))), (refl, (refl, (refl, (refl, (refl, (refl, (refl, (refl, (refl, (refl, tt)))))))))))

@@ -1,5 +1,5 @@
 -- How a sheet is judged: step after step, the first fault wins.
-use Prim.Native.Nat.{ℕ, zero, suc, _+_, _-_}
+use Prim.Native.Nat.{ℕ, suc, _-_}
 use mathlib.Core.Bool.{Bool, true, false}
 use mathlib.Core.List.{List, [], _∷_, _++_, map}
 use mathlib.Core.Option.{Option, none, some}
@@ -9,7 +9,6 @@ use lib.ListN.{length, getD}
 use lib.Signed.{leZ}
 use Rattle.bmap.specs.Plain.{both, either, implies, if-else, any, all, numbers}
 use Rattle.bmap.specs.Number.{Valued, value, no-value, with1, same}
-use Rattle.bmap.specs.Tree.{Con, Expr}
 use Rattle.bmap.specs.Meaning.{History, evalE, evalC}
 use Rattle.bmap.specs.Domain.{Domain, Fluent, Entry, Law, Scope, static, concurrency, goal, executable, effect, must, Names, State, entryAt, has, occursIn, readable}
 
@@ -66,12 +65,13 @@ sameScope goal static = false
 sameScope goal concurrency = false
 sameScope goal goal = true
 
--- the laws of one scope in order, at position j; false is a fault of that kind
+-- law n at position j, where it is of the scope: false is a fault of that kind
 unfoldable pub holds : Scope → ℕ → History → ℕ → ℕ → Law → Pass
 holds s kind h j n (executable i c) = pass
 holds s kind h j n (effect i c f x) = pass
 holds s kind h j n (must s′ c) = if-else (sameScope s s′) (next (reads n (evalC c h j)) (unless kind n)) pass
 
+-- the laws of one scope in order
 abbrev pub allHold : Scope → ℕ → Domain → History → ℕ → Pass
 allHold s kind d h j = each (holds s kind h j) (d .laws)
 

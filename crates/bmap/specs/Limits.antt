@@ -1,5 +1,5 @@
 -- The numbers of document 01, each once.
-use Prim.Native.Nat.{ℕ, _+_, _*_}
+use Prim.Native.Nat.{ℕ}
 use Rattle.bmap.specs.declared.limits.Limits.{Limits}
 
 -- "number of agents, 1 to 16"

@@ -1,5 +1,5 @@
 -- Hex lines, and the frames that they decode to.
-use Prim.Native.Nat.{ℕ, zero, suc, _+_, _*_, _-_, _/_, _%_}
+use Prim.Native.Nat.{ℕ, _+_, _*_, _-_, _/_, _%_}
 use mathlib.Core.Bool.{Bool, true, false}
 use mathlib.Core.List.{List, [], _∷_, _++_}
 use lib.Dec.{eqb, leb, ltb}
@@ -39,6 +39,37 @@ unfoldable pub bytes : List ℕ → Answer (List ℕ)
 bytes [] = got []
 bytes (a ∷ []) = refused 1
 bytes (a ∷ b ∷ rest) = then (digit a) (λ hi. then (digit b) (λ lo. then (bytes rest) (λ l. got ((hi * 16 + lo) ∷ l))))
+
+-- the kinds of frames, each once
+abbrev pub agentsKind : ℕ
+agentsKind = 0xA1
+
+abbrev pub fluentKind : ℕ
+fluentKind = 0xA2
+
+abbrev pub knowledgeKind : ℕ
+knowledgeKind = 0xA3
+
+abbrev pub entryKind : ℕ
+entryKind = 0xA4
+
+abbrev pub executableKind : ℕ
+executableKind = 0xA5
+
+abbrev pub effectKind : ℕ
+effectKind = 0xA6
+
+abbrev pub staticKind : ℕ
+staticKind = 0xA7
+
+abbrev pub concurrencyKind : ℕ
+concurrencyKind = 0xA8
+
+abbrev pub goalKind : ℕ
+goalKind = 0xA9
+
+abbrev pub stepKind : ℕ
+stepKind = 0xB1
 
 pub record Frame : Type 0 where
   pub kind : ℕ

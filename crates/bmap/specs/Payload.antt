@@ -9,6 +9,7 @@ use lib.IntN.{ℤ}
 use lib.Signed.{leZ}
 use Rattle.bmap.specs.Plain.{both, if-else}
 use Rattle.bmap.specs.Limits.{mostAgents, mostDepth}
+use Rattle.bmap.specs.Line.{agentsKind, fluentKind, knowledgeKind, entryKind, executableKind, effectKind, staticKind, concurrencyKind, goalKind}
 use Rattle.bmap.specs.Number.{word, signedWord}
 use Rattle.bmap.specs.Tree.{Expr, Con, allowedE, allowedC}
 use Rattle.bmap.specs.Code.{Parsed, parseE, parseC}
@@ -117,11 +118,11 @@ mustIn s n p = conIn (context n (asks s)) p (λ c. last (must s c))
 
 unfoldable pub lawIn : Counts → ℕ → List ℕ → Option Law
 lawIn n kind p =
-    if-else (eqb kind 0xA5) (executableIn n p)
-    (if-else (eqb kind 0xA6) (effectIn n p)
-    (if-else (eqb kind 0xA7) (mustIn static n p)
-    (if-else (eqb kind 0xA8) (mustIn concurrency n p)
-    (if-else (eqb kind 0xA9) (mustIn goal n p) none))))
+    if-else (eqb kind executableKind) (executableIn n p)
+    (if-else (eqb kind effectKind) (effectIn n p)
+    (if-else (eqb kind staticKind) (mustIn static n p)
+    (if-else (eqb kind concurrencyKind) (mustIn concurrency n p)
+    (if-else (eqb kind goalKind) (mustIn goal n p) none))))
 
 abbrev pub lawItem : Option Law → Option Item
 lawItem none = none
@@ -130,8 +131,8 @@ lawItem (some l) = some (law l)
 -- what a payload says, in a domain with so many agents, fluents and entries; none where it is not as described
 unfoldable pub itemIn : Counts → ℕ → List ℕ → Option Item
 itemIn n kind p =
-    if-else (eqb kind 0xA1) (only (agentsFit p) (some (agents (byte p 0))))
-    (if-else (eqb kind 0xA2) (only (fluentFits p) (some (fluent (fluentIn p))))
-    (if-else (eqb kind 0xA3) (only (knowledgeFits n p) (some (knowledge (knowledgeIn p))))
-    (if-else (eqb kind 0xA4) (only (entryFits n p) (some (entry (entryIn p))))
+    if-else (eqb kind agentsKind) (only (agentsFit p) (some (agents (byte p 0))))
+    (if-else (eqb kind fluentKind) (only (fluentFits p) (some (fluent (fluentIn p))))
+    (if-else (eqb kind knowledgeKind) (only (knowledgeFits n p) (some (knowledge (knowledgeIn p))))
+    (if-else (eqb kind entryKind) (only (entryFits n p) (some (entry (entryIn p))))
     (lawItem (lawIn n kind p)))))

@@ -1,13 +1,12 @@
 -- The program: its input's bytes to its output's bytes.
 use Prim.Native.Nat.{ℕ, zero, suc, _+_, _/_, _%_}
-use mathlib.Core.Bool.{Bool, true, false}
+use mathlib.Core.Bool.{Bool, false}
 use mathlib.Core.List.{List, [], _∷_, _++_, map}
 use lib.Dec.{eqb, leb, ltb}
 use lib.IntN.{ℤ, pos, negsuc}
 use lib.ListN.{length}
-use Rattle.bmap.specs.Plain.{both, if-else, flat, text}
+use Rattle.bmap.specs.Plain.{both, if-else, text}
 use Rattle.bmap.specs.Limits.{mostInput}
-use Rattle.bmap.specs.Refusal.{Answer, got, refused}
 use Rattle.bmap.specs.Line.{Line, linesOf, decode, lineFeed}
 use Rattle.bmap.specs.Domain.{Domain, State}
 use Rattle.bmap.specs.Accept.{Reading, read, refusedAt, taken}

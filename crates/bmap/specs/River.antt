@@ -1,9 +1,9 @@
 -- "A river of one pool": domain P as the paper writes it, and what a judgement of a sheet under it answers.
 use Prim.Native.Nat.{ℕ}
 use mathlib.Core.List.{List, [], _∷_, map}
-use lib.IntN.{ℤ, pos}
+use lib.IntN.{pos}
 use Rattle.bmap.specs.Plain.{text}
-use Rattle.bmap.specs.Accept.{Reading, read, refusedAt, afterwards}
+use Rattle.bmap.specs.Accept.{Reading, read, afterwards}
 use Rattle.bmap.specs.Domain.{Names, State}
 use Rattle.bmap.specs.Store.{reading}
 use Rattle.bmap.specs.Judge.{Judged, Verdict, judge}

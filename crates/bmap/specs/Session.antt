@@ -1,5 +1,5 @@
 -- The editing session: its model, its calls, and the bytes that hold it.
-use Prim.Native.Nat.{ℕ, zero, suc, _+_, _-_, _*_, _≤_}
+use Prim.Native.Nat.{ℕ, zero, suc, _+_, _-_, _*_}
 use mathlib.Core.Path.{_≡_}
 use mathlib.Core.Bool.{Bool, true, false}
 use mathlib.Core.List.{List, [], _∷_, _++_}
@@ -12,9 +12,8 @@ use Rattle.bmap.specs.Refusal.{Answer, got, refused, need, then}
 use Rattle.bmap.specs.Domain.{Domain, Names}
 use Rattle.bmap.specs.Buffer.{padded}
 use Rattle.bmap.specs.Store.{domainIn}
-use Rattle.bmap.specs.Judge.{Verdict, judge}
+use Rattle.bmap.specs.Judge.{judge}
 use Rattle.bmap.specs.Verdict.{Judgement, judgement}
-use Rattle.bmap.specs.declared.limits.Sheet.{Sheet}
 use Rattle.bmap.specs.declared.session.Session.{Session}
 
 -- ---- edits of a sheet

@@ -1,20 +1,20 @@
 -- Sheets: the reader, the steps of a sheet's bytes, the writer.
-use Prim.Native.Nat.{ℕ, zero, suc, _/_, _%_, _*_}
+use Prim.Native.Nat.{ℕ, zero, suc, _/_, _%_}
 use mathlib.Core.List.{List, [], _∷_, _++_, map}
 use lib.Dec.{eqb, leb, ltb}
 use lib.ListN.{length, take, drop}
 use Rattle.bmap.specs.Plain.{both, flat}
 use Rattle.bmap.specs.Limits.{mostAgents, mostSteps, sheetSize}
 use Rattle.bmap.specs.Refusal.{Answer, got, need, then}
-use Rattle.bmap.specs.Line.{Frame, linesOf, decode, lineFor}
+use Rattle.bmap.specs.Line.{Frame, stepKind, linesOf, decode, lineFor}
 use Rattle.bmap.specs.Domain.{Names}
-use Rattle.bmap.specs.Accept.{Reading, read, refusedAt, atLine, afterwards}
-use Rattle.bmap.specs.Buffer.{Filling, Filled, filled, Written, written}
+use Rattle.bmap.specs.Accept.{Reading, read, atLine, afterwards}
+use Rattle.bmap.specs.Buffer.{Filled, filled, Written, written}
 
 -- "then line by line 1, 2, 3, 9, 8": after so many steps
 unfoldable pub stepOf : ℕ → ℕ → Frame → Answer Names
 stepOf agents steps f =
-    need (eqb (f .kind) 0xB1) 3
+    need (eqb (f .kind) stepKind) 3
     (need (ltb steps mostSteps) 9
     (need (eqb (length (f .payload)) agents) 8 (got (f .payload))))
 
@@ -50,7 +50,7 @@ sheetOf agents sheet =
 
 -- B1, "one step of a sheet: a name or 0 (idle) per agent"
 abbrev pub stepLine : Names → List ℕ
-stepLine names = lineFor (record { kind = 0xB1; payload = names })
+stepLine names = lineFor (record { kind = stepKind; payload = names })
 
 -- "Sheet writer, which takes a sheet and its agent count: 4, 8, 9, 10"
 unfoldable pub writeSheet : List ℕ → ℕ → List ℕ → Written

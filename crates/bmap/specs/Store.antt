@@ -1,7 +1,7 @@
 -- The store of a domain: its reader, its acceptance, its frames and its writer.
 use Prim.Native.Nat.{ℕ, zero, suc, _+_}
-use mathlib.Core.Bool.{Bool, true, false, not}
-use mathlib.Core.List.{List, [], _∷_, _++_, map}
+use mathlib.Core.Bool.{Bool, not}
+use mathlib.Core.List.{List, [], _∷_, map}
 use mathlib.Core.Option.{Option, none, some}
 use lib.Dec.{eqb, leb}
 use lib.ListN.{length, getD, take, drop}
@@ -11,7 +11,7 @@ use Rattle.bmap.specs.Refusal.{Answer, got, refused, known, then}
 use Rattle.bmap.specs.Line.{Frame, stored, linesOf, decode, lineFor}
 use Rattle.bmap.specs.Domain.{Domain}
 use Rattle.bmap.specs.Accept.{Reading, read, refusedAt, afterwards, taken}
-use Rattle.bmap.specs.Buffer.{Filling, Filled, filled, Written, written}
+use Rattle.bmap.specs.Buffer.{Filled, filled, Written, written}
 
 -- ---- the reader
 

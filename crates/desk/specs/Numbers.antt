@@ -4,6 +4,7 @@ use Prim.Native.Nat.{ℕ, _+_, _*_, _%_, _^_}
 use mathlib.Core.Option.{Option, none, some}
 use Rattle.bmap.specs.Refusal.{Answer, got, refused}
 use Rattle.bmap.specs.Accept.{Reading, read, refusedAt}
+use Rattle.bmap.specs.Buffer.{bytesWritten}
 use Rattle.bmap.specs.Judge.{Verdict, accepted, broken}
 use Rattle.bmap.specs.Session.{Changed}
 use Rattle.bmap.specs.declared.session.Session.{Session}
@@ -19,8 +20,8 @@ readNumber (refusedAt number line) = halves number line
 
 -- what a writer answers: "the bytes written, 0 if refused"
 abbrev pub writtenNumber : Answer ℕ → ℕ
-writtenNumber (got count) = halves 0 count
-writtenNumber (refused number) = halves number 0
+writtenNumber (got count) = halves 0 (bytesWritten (got count))
+writtenNumber (refused number) = halves number (bytesWritten (refused number))
 
 -- a verdict: 0 for accepted, else kind, step and number, 8 bits for each of the last two
 abbrev pub verdictNumber : Verdict → ℕ

@@ -25,10 +25,10 @@ use Rattle.law.specs.declared.table.Operand.the-variants as each
 use Rattle.law.specs.declared.table.Shape.{Shape}
 use Rattle.law.specs.declared.table.Node.the-variants.{Expression, Constraint}
 use Rattle.law.specs.declared.table.Pair.the-variants.{Bytes, Short}
-use Rattle.law.specs.declared.check.Checked.{Checked}
-use Rattle.law.specs.declared.check.Checked.the-variants.{Next, Refused}
-use Rattle.law.specs.declared.check.Test.{Test}
-use Rattle.law.specs.declared.check.Test.the-variants.{Allowed, Known}
+use Rattle.law.specs.declared.checks.Checked.{Checked}
+use Rattle.law.specs.declared.checks.Checked.the-variants.{Next, Refused}
+use Rattle.law.specs.declared.checks.Test.{Test}
+use Rattle.law.specs.declared.checks.Test.the-variants.{Allowed, Known}
 use Rattle.law.specs.Shape.{opened, pairOf, operationOf, singleOf, comparisonOf, junctionOf}
 use Rattle.law.specs.Mask.{bit}
 use Rattle.law.specs.Names.{namesOnly}

@@ -9,18 +9,18 @@ use Rattle.law.specs.Check.{passesE, passesC}
 use Rattle.law.proofs.Trees.{deep-e, deep-c, end-e, end-c, no-expression, no-constraint}
 use Rattle.law.proofs.Checks.{refused, check-constant, check-fluent, check-entry, check-reified, check-one, check-two, check-first}
 use Rattle.law.proofs.Checks.{check-truth, check-occurrence, check-other, check-negation, check-junction, check-first-c, check-compared, check-first-e}
-use Rattle.law.proofs.check.constraint_in.Reads as constraint-in
-use Rattle.law.proofs.check.constraint_in.Kinds as constraint-in-kinds
-use Rattle.law.proofs.check.+constraint_in+expression_in.Lts-constraint_in as constraint-in-lts
-use Rattle.law.proofs.check.expression_in.Reads as expression-in
-use Rattle.law.proofs.check.expression_in.Kinds as expression-in-kinds
-use Rattle.law.proofs.check.+constraint_in+expression_in.Lts-expression_in as expression-in-lts
-use Rattle.law.proofs.check.constant_at.Reads as constant-at-reads
-use Rattle.law.proofs.check.entry_at.Reads as entry-at-reads
-use Rattle.law.proofs.check.fluent_at.Reads as fluent-at-reads
+use Rattle.law.proofs.checks.constraint_in.Reads as constraint-in
+use Rattle.law.proofs.checks.constraint_in.Kinds as constraint-in-kinds
+use Rattle.law.proofs.checks.+constraint_in+expression_in.Lts-constraint_in as constraint-in-lts
+use Rattle.law.proofs.checks.expression_in.Reads as expression-in
+use Rattle.law.proofs.checks.expression_in.Kinds as expression-in-kinds
+use Rattle.law.proofs.checks.+constraint_in+expression_in.Lts-expression_in as expression-in-lts
+use Rattle.law.proofs.checks.constant_at.Reads as constant-at-reads
+use Rattle.law.proofs.checks.entry_at.Reads as entry-at-reads
+use Rattle.law.proofs.checks.fluent_at.Reads as fluent-at-reads
 use Rattle.law.proofs.table.opens.Reads as opens-reads
-use Rattle.law.proofs.check.+constraint_in+expression_in.{statement}
-use Rattle.law.proofs.check.+constraint_in+expression_in.Tie.{close}
+use Rattle.law.proofs.checks.+constraint_in+expression_in.{statement}
+use Rattle.law.proofs.checks.+constraint_in+expression_in.Tie.{close}
 
 abbrev μ-constraint-in : Measures 1 constraint-in-kinds.ps ℕ
 μ-constraint-in κs a = a .1 .1 .0

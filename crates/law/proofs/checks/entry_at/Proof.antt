@@ -1,38 +1,38 @@
 use mathlib.Core.Path.{sym, _∙_}
 use native.Mathlib.Omega.{arith}
 use borrow.Author.Needs.{needs}
-use Rattle.bmap.specs.Tree.{fluent}
-use Rattle.law.specs.Check.{passesE}
+use Rattle.bmap.specs.Tree.{occurs}
+use Rattle.law.specs.Check.{passesC}
 use Rattle.law.proofs.Trees.{pair-in}
 use Rattle.law.proofs.Checks.{leaf-short, leaf-passes, leaf-fails}
-use Rattle.law.proofs.check.fluent_at.Statement.{statement}
-use Rattle.law.proofs.check.fluent_at.Tie as tie
+use Rattle.law.proofs.checks.entry_at.Statement.{statement}
+use Rattle.law.proofs.checks.entry_at.Tie as tie
 
 add-t10 : tie.Need-add-t10
 add-t10 c =
     let k = c .before .before .before in
     let a = k .before .before .before .before .args in
-    omega (arith, pair-in (a .s .now) (a .at) (sym (k .f .given .1) ∙ k .before .before .pair-after .ensures))
+    omega (arith, pair-in (a .s .now) (a .at) (sym (k .e .given .1) ∙ k .before .before .pair-after .ensures))
 
 returns : tie.Need-returns
 returns c =
     let k = c .before .before .before in
     let a = k .before .before .before .before .args in
-    leaf-passes (passesE (a .test)) fluent (a .s .now) (a .at) (sym (k .f .given .1) ∙ k .before .before .pair-after .ensures) (sym (c .before .fluent-passes .ensures) ∙ c .if1 .taken)
+    leaf-passes (passesC (a .test)) occurs (a .s .now) (a .at) (sym (k .e .given .1) ∙ k .before .before .pair-after .ensures) (sym (c .before .entry-passes .ensures) ∙ c .if1 .taken)
 
 returns-2 : tie.Need-returns-2
 returns-2 c =
     let k = c .before .before .before in
     let a = k .before .before .before .before .args in
-    leaf-fails (passesE (a .test)) fluent (a .s .now) (a .at) (sym (k .f .given .1) ∙ k .before .before .pair-after .ensures) (sym (c .before .fluent-passes .ensures) ∙ c .if1 .left)
+    leaf-fails (passesC (a .test)) occurs (a .s .now) (a .at) (sym (k .e .given .1) ∙ k .before .before .pair-after .ensures) (sym (c .before .entry-passes .ensures) ∙ c .if1 .left)
 
 returns-3 : tie.Need-returns-3
 returns-3 c =
     let a = c .before .before .before .before .args in
-    leaf-short (passesE (a .test)) fluent (a .s .now) (a .at) (sym (c .enum-told .given .1) ∙ c .before .before .pair-after .ensures)
+    leaf-short (passesC (a .test)) occurs (a .s .now) (a .at) (sym (c .enum-told .given .1) ∙ c .before .before .pair-after .ensures)
 
-pub fluent-at-spec : {M : Type 1} → statement M
-fluent-at-spec =
+pub entry-at-spec : {M : Type 1} → statement M
+entry-at-spec =
     tie.close
     (tie.spec
     (λ c κs. search needs)

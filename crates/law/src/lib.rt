@@ -6,6 +6,7 @@ mod checks;
 mod eval;
 mod mask;
 mod names;
+mod packed;
 mod table;
 
 pub use checks::Checked;

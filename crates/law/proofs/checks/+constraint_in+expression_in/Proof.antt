@@ -6,9 +6,9 @@ use borrow.Author.Needs.{needs}
 use borrow.Fn.Kinds.{In}
 use borrow.Fn.PlainCycle.{Measures, is, falls, and}
 use Rattle.law.specs.Check.{passesE, passesC}
-use Rattle.law.proofs.Trees.{deep-e, deep-c, end-e, end-c, no-expression, no-constraint}
-use Rattle.law.proofs.Checks.{refused, check-constant, check-fluent, check-entry, check-reified, check-one, check-two, check-first}
-use Rattle.law.proofs.Checks.{check-truth, check-occurrence, check-other, check-negation, check-junction, check-first-c, check-compared, check-first-e}
+use Rattle.law.proofs.Trees.{deep-e, deep-c, end-e, end-c, no-expression, no-constraint, other-e, other-c}
+use Rattle.law.proofs.CheckLaws.{refused, check-constant, check-fluent, check-reified, check-one, check-two, check-first}
+use Rattle.law.proofs.CheckLaws.{check-truth, check-occurrence, check-negation, check-junction, check-first-c, check-compared, check-first-e}
 use Rattle.law.proofs.checks.constraint_in.Reads as constraint-in
 use Rattle.law.proofs.checks.constraint_in.Kinds as constraint-in-kinds
 use Rattle.law.proofs.checks.+constraint_in+expression_in.Lts-constraint_in as constraint-in-lts
@@ -60,57 +60,48 @@ module _ (t : ℕ) where
 
   constraint-in-returns-3 : constraint-in-lts.Need-returns-3 by-constraint-in constraint-in-at constraint-in.Post
   constraint-in-returns-3 c =
-      let k = c .before in
-      let a = k .before .before .before .before .before .args in
-      refused (passesC (a .test)) (a .at) (no-constraint (a .s .now) (a .at) (a .depth) (k .before .before .before .if1 .left) (k .before .before .if2 .left) _ (k .opens .ensures) (c .match .keys2))
+      let a = c .before .before .before .before .before .before .args in
+      refused (passesC (a .test)) (a .at) (no-constraint (a .s .now) (a .at) (a .depth) (c .before .before .before .before .if1 .left) (c .before .before .before .if2 .left) _ (c .before .opens .ensures) (c .match .keys2))
 
   constraint-in-returns-4 : constraint-in-lts.Need-returns-4 by-constraint-in constraint-in-at constraint-in.Post
   constraint-in-returns-4 c =
-      let k = c .before .before .before .before .before in
-      let a = k .before .before .before .before .before .args in
-      check-truth (a .test) (a .s .now) (a .at) (a .depth) (k .before .before .before .if1 .left) (k .before .before .if2 .left) (sym (c .before .before .before .shape .given .1) ∙ k .opens .ensures) (c .if3 .taken)
+      let a = c .before .before .before .before .before .before .before .before .before .before .before .before .before .args in
+      check-first-c (a .test) (a .s .now) (a .at) (a .depth) (c .before .before .before .before .before .before .before .before .before .before .before .if1 .left) (c .before .before .before .before .before .before .before .before .before .before .if2 .left) (sym (c .before .before .before .before .before .before .shape .given .1) ∙ c .before .before .before .before .before .before .before .before .opens .ensures) (c .before .before .before .enum-told4 .given .1) (sym (c .enum-told5 .given .1) ∙ c .before .before .constraint-in2 .ensures)
 
   constraint-in-returns-5 : constraint-in-lts.Need-returns-5 by-constraint-in constraint-in-at constraint-in.Post
   constraint-in-returns-5 c =
-      let k = c .before .before .before .before .before .before .before .before .before .before in
-      let a = k .before .before .before .before .before .args in
-      check-first-c (a .test) (a .s .now) (a .at) (a .depth) (k .before .before .before .if1 .left) (k .before .before .if2 .left) (sym (c .before .before .before .before .before .before .before .before .shape .given .1) ∙ k .opens .ensures) (c .before .before .before .enum-told2 .given .1) (sym (c .enum-told3 .given .1) ∙ c .before .before .constraint-in .ensures)
+      let a = c .before .before .before .before .before .before .before .before .before .before .before .before .before .args in
+      check-first-e (a .test) (a .s .now) (a .at) (a .depth) (c .before .before .before .before .before .before .before .before .before .before .before .if1 .left) (c .before .before .before .before .before .before .before .before .before .before .if2 .left) (sym (c .before .before .before .before .before .before .shape .given .1) ∙ c .before .before .before .before .before .before .before .before .opens .ensures) (c .before .before .before .enum-told6 .given .1) (sym (c .enum-told7 .given .1) ∙ c .before .before .expression-in .ensures)
 
   constraint-in-returns-6 : constraint-in-lts.Need-returns-6 by-constraint-in constraint-in-at constraint-in.Post
   constraint-in-returns-6 c =
-      let k = c .before .before .before .before .before .before .before .before .before .before .before .before .before in
-      let a = k .before .before .before .before .before .args in
-      (sym (c .before .before .before .middle .given .1) ∙ c .before .before .before .before .before .constraint-in .ensures) ∙ check-negation (a .test) (a .s .now) (a .at) (a .depth) (k .before .before .before .if1 .left) (k .before .before .if2 .left) (sym (c .before .before .before .before .before .before .before .before .before .before .before .shape .given .1) ∙ k .opens .ensures) (c .before .before .before .before .before .before .enum-told2 .given .1) (c .if4 .taken)
+      let a = c .before .before .before .before .before .before .before .before .before .before .args in
+      check-truth (a .test) (a .s .now) (a .at) (a .depth) (c .before .before .before .before .before .before .before .before .if1 .left) (c .before .before .before .before .before .before .before .if2 .left) (sym (c .before .before .before .shape .given .1) ∙ c .before .before .before .before .before .opens .ensures) (c .enum-told .given .1)
 
   constraint-in-returns-7 : constraint-in-lts.Need-returns-7 by-constraint-in constraint-in-at constraint-in.Post
   constraint-in-returns-7 c =
-      let k = c .before .before .before .before .before .before .before .before .before .before in
-      let a = k .before .before .before .before .before .args in
-      check-first-e (a .test) (a .s .now) (a .at) (a .depth) (k .before .before .before .if1 .left) (k .before .before .if2 .left) (sym (c .before .before .before .before .before .before .before .before .shape .given .1) ∙ k .opens .ensures) (c .before .before .before .enum-told4 .given .1) (c .before .before .before .before .before .if3 .left) (sym (c .enum-told5 .given .1) ∙ c .before .before .expression-in .ensures)
+      let a = c .before .before .before .before .before .before .before .before .before .before .before .args in
+      c .entry-at .ensures ∙ check-occurrence (a .test) (a .s .now) (a .at) (a .depth) (c .before .before .before .before .before .before .before .before .before .if1 .left) (c .before .before .before .before .before .before .before .before .if2 .left) (sym (c .before .before .before .before .shape .given .1) ∙ c .before .before .before .before .before .before .opens .ensures) (c .before .enum-told2 .given .1)
 
   constraint-in-returns-8 : constraint-in-lts.Need-returns-8 by-constraint-in constraint-in-at constraint-in.Post
   constraint-in-returns-8 c =
-      let k = c .before .before .before .before .before .before .before .before in
-      let a = k .before .before .before .before .before .args in
-      c .entry-at .ensures ∙ check-occurrence (a .test) (a .s .now) (a .at) (a .depth) (k .before .before .before .if1 .left) (k .before .before .if2 .left) (sym (c .before .before .before .before .before .before .shape .given .1) ∙ k .opens .ensures) (c .before .enum-told .given .1)
+      let a = c .before .before .before .before .before .before .before .before .before .before .before .args in
+      c .constraint-in .ensures ∙ check-negation (a .test) (a .s .now) (a .at) (a .depth) (c .before .before .before .before .before .before .before .before .before .if1 .left) (c .before .before .before .before .before .before .before .before .if2 .left) (sym (c .before .before .before .before .shape .given .1) ∙ c .before .before .before .before .before .before .opens .ensures) (c .before .enum-told3 .given .1)
 
   constraint-in-returns-9 : constraint-in-lts.Need-returns-9 by-constraint-in constraint-in-at constraint-in.Post
   constraint-in-returns-9 c =
-      let k = c .before .before .before .before .before .before .before .before .before .before .before .before .before .before in
-      let a = k .before .before .before .before .before .args in
-      c .constraint-in2 .ensures ∙ check-junction (a .test) (a .s .now) (a .at) (a .depth) (k .before .before .before .if1 .left) (k .before .before .if2 .left) (sym (c .before .before .before .before .before .before .before .before .before .before .before .before .shape .given .1) ∙ k .opens .ensures) (c .before .before .before .before .before .before .before .enum-told2 .given .1) (c .before .if4 .left) (sym (c .before .before .before .before .middle .given .1) ∙ c .before .before .before .before .before .before .constraint-in .ensures)
+      let a = c .before .before .before .before .before .before .before .before .before .before .before .before .before .before .before .args in
+      c .constraint-in3 .ensures ∙ check-junction (a .test) (a .s .now) (a .at) (a .depth) (c .before .before .before .before .before .before .before .before .before .before .before .before .before .if1 .left) (c .before .before .before .before .before .before .before .before .before .before .before .before .if2 .left) (sym (c .before .before .before .before .before .before .before .before .shape .given .1) ∙ c .before .before .before .before .before .before .before .before .before .before .opens .ensures) (c .before .before .before .before .before .enum-told4 .given .1) (sym (c .before .before .middle .given .1) ∙ c .before .before .before .before .constraint-in2 .ensures)
 
   constraint-in-returns-10 : constraint-in-lts.Need-returns-10 by-constraint-in constraint-in-at constraint-in.Post
   constraint-in-returns-10 c =
-      let k = c .before .before .before .before .before .before .before .before .before .before .before .before in
-      let a = k .before .before .before .before .before .args in
-      c .expression-in2 .ensures ∙ check-compared (a .test) (a .s .now) (a .at) (a .depth) (k .before .before .before .if1 .left) (k .before .before .if2 .left) (sym (c .before .before .before .before .before .before .before .before .before .before .shape .given .1) ∙ k .opens .ensures) (c .before .before .before .before .before .enum-told4 .given .1) (c .before .before .before .before .before .before .before .if3 .left) (sym (c .before .before .middle2 .given .1) ∙ c .before .before .before .before .expression-in .ensures)
+      let a = c .before .before .before .before .before .before .before .before .before .before .before .before .before .before .before .args in
+      c .expression-in2 .ensures ∙ check-compared (a .test) (a .s .now) (a .at) (a .depth) (c .before .before .before .before .before .before .before .before .before .before .before .before .before .if1 .left) (c .before .before .before .before .before .before .before .before .before .before .before .before .if2 .left) (sym (c .before .before .before .before .before .before .before .before .shape .given .1) ∙ c .before .before .before .before .before .before .before .before .before .before .opens .ensures) (c .before .before .before .before .before .enum-told6 .given .1) (sym (c .before .before .middle2 .given .1) ∙ c .before .before .before .before .expression-in .ensures)
 
   constraint-in-returns-11 : constraint-in-lts.Need-returns-11 by-constraint-in constraint-in-at constraint-in.Post
   constraint-in-returns-11 c =
-      let k = c .before .before .before .before .before .before in
-      let a = k .before .before .before .before .before .args in
-      check-other (a .test) (a .s .now) (a .at) (a .depth) (k .before .before .before .if1 .left) (k .before .before .if2 .left) (sym (c .before .before .before .before .shape .given .1) ∙ k .opens .ensures) (c .match2 .keys4)
+      let a = c .before .before .before .before .before .before .before .before .before .args in
+      refused (passesC (a .test)) (a .at) (other-c (a .s .now) (a .at) (a .depth) (c .before .before .before .before .before .before .before .if1 .left) (c .before .before .before .before .before .before .if2 .left) (sym (c .before .before .shape .given .1) ∙ c .before .before .before .before .opens .ensures) (c .match2 .keys6))
 
   expression-in-returns : expression-in-lts.Need-returns by-expression-in expression-in-at expression-in.Post
   expression-in-returns c =
@@ -124,51 +115,43 @@ module _ (t : ℕ) where
 
   expression-in-returns-3 : expression-in-lts.Need-returns-3 by-expression-in expression-in-at expression-in.Post
   expression-in-returns-3 c =
-      let k = c .before in
-      let a = k .before .before .before .before .before .args in
-      refused (passesE (a .test)) (a .at) (no-expression (a .s .now) (a .at) (a .depth) (k .before .before .before .if1 .left) (k .before .before .if2 .left) _ (k .opens .ensures) (c .match .keys2))
+      let a = c .before .before .before .before .before .before .args in
+      refused (passesE (a .test)) (a .at) (no-expression (a .s .now) (a .at) (a .depth) (c .before .before .before .before .if1 .left) (c .before .before .before .if2 .left) _ (c .before .opens .ensures) (c .match .keys2))
 
   expression-in-returns-4 : expression-in-lts.Need-returns-4 by-expression-in expression-in-at expression-in.Post
   expression-in-returns-4 c =
-      let k = c .before .before .before .before .before .before .before .before in
-      let a = k .before .before .before .before .before .args in
-      check-first (a .test) (a .s .now) (a .at) (a .depth) (k .before .before .before .if1 .left) (k .before .before .if2 .left) (sym (c .before .before .before .before .before .before .shape .given .1) ∙ k .opens .ensures) (c .before .before .before .enum-told5 .given .1) (sym (c .enum-told6 .given .1) ∙ c .before .before .expression-in .ensures)
+      let a = c .before .before .before .before .before .before .before .before .before .before .before .before .before .args in
+      check-first (a .test) (a .s .now) (a .at) (a .depth) (c .before .before .before .before .before .before .before .before .before .before .before .if1 .left) (c .before .before .before .before .before .before .before .before .before .before .if2 .left) (sym (c .before .before .before .before .before .before .shape .given .1) ∙ c .before .before .before .before .before .before .before .before .opens .ensures) (c .before .before .before .enum-told5 .given .1) (sym (c .enum-told6 .given .1) ∙ c .before .before .expression-in2 .ensures)
 
   expression-in-returns-5 : expression-in-lts.Need-returns-5 by-expression-in expression-in-at expression-in.Post
   expression-in-returns-5 c =
-      let k = c .before .before .before .before .before .before .before .before .before .before .before in
-      let a = k .before .before .before .before .before .args in
-      (sym (c .before .before .before .middle .given .1) ∙ c .before .before .before .before .before .expression-in .ensures) ∙ check-one (a .test) (a .s .now) (a .at) (a .depth) (k .before .before .before .if1 .left) (k .before .before .if2 .left) (sym (c .before .before .before .before .before .before .before .before .before .shape .given .1) ∙ k .opens .ensures) (c .before .before .before .before .before .before .enum-told5 .given .1) (c .if3 .taken)
+      let a = c .before .before .before .before .before .before .before .before .before .before .before .args in
+      c .constant-at .ensures ∙ check-constant (a .test) (a .s .now) (a .at) (a .depth) (c .before .before .before .before .before .before .before .before .before .if1 .left) (c .before .before .before .before .before .before .before .before .if2 .left) (sym (c .before .before .before .before .shape .given .1) ∙ c .before .before .before .before .before .before .opens .ensures) (c .before .enum-told .given .1)
 
   expression-in-returns-6 : expression-in-lts.Need-returns-6 by-expression-in expression-in-at expression-in.Post
   expression-in-returns-6 c =
-      let k = c .before .before .before .before .before .before in
-      let a = k .before .before .before .before .before .args in
-      c .constant-at .ensures ∙ check-constant (a .test) (a .s .now) (a .at) (a .depth) (k .before .before .before .if1 .left) (k .before .before .if2 .left) (sym (c .before .before .before .before .shape .given .1) ∙ k .opens .ensures) (c .before .enum-told .given .1)
+      let a = c .before .before .before .before .before .before .before .before .before .before .before .args in
+      c .fluent-at .ensures ∙ check-fluent (a .test) (a .s .now) (a .at) (a .depth) (c .before .before .before .before .before .before .before .before .before .if1 .left) (c .before .before .before .before .before .before .before .before .if2 .left) (sym (c .before .before .before .before .shape .given .1) ∙ c .before .before .before .before .before .before .opens .ensures) (c .before .enum-told2 .given .1)
 
   expression-in-returns-7 : expression-in-lts.Need-returns-7 by-expression-in expression-in-at expression-in.Post
   expression-in-returns-7 c =
-      let k = c .before .before .before .before .before .before in
-      let a = k .before .before .before .before .before .args in
-      c .fluent-at .ensures ∙ check-fluent (a .test) (a .s .now) (a .at) (a .depth) (k .before .before .before .if1 .left) (k .before .before .if2 .left) (sym (c .before .before .before .before .shape .given .1) ∙ k .opens .ensures) (c .before .enum-told2 .given .1)
+      let a = c .before .before .before .before .before .before .before .before .before .before .before .args in
+      c .constraint-in .ensures ∙ check-reified (a .test) (a .s .now) (a .at) (a .depth) (c .before .before .before .before .before .before .before .before .before .if1 .left) (c .before .before .before .before .before .before .before .before .if2 .left) (sym (c .before .before .before .before .shape .given .1) ∙ c .before .before .before .before .before .before .opens .ensures) (c .before .enum-told3 .given .1)
 
   expression-in-returns-8 : expression-in-lts.Need-returns-8 by-expression-in expression-in-at expression-in.Post
   expression-in-returns-8 c =
-      let k = c .before .before .before .before .before in
-      let a = k .before .before .before .before .before .args in
-      check-entry (a .test) (a .s .now) (a .at) (a .depth) (k .before .before .before .if1 .left) (k .before .before .if2 .left) (sym (c .before .before .before .shape .given .1) ∙ k .opens .ensures) (c .enum-told3 .given .1)
+      let a = c .before .before .before .before .before .before .before .before .before .before .before .args in
+      c .expression-in .ensures ∙ check-one (a .test) (a .s .now) (a .at) (a .depth) (c .before .before .before .before .before .before .before .before .before .if1 .left) (c .before .before .before .before .before .before .before .before .if2 .left) (sym (c .before .before .before .before .shape .given .1) ∙ c .before .before .before .before .before .before .opens .ensures) (c .before .enum-told4 .given .1)
 
   expression-in-returns-9 : expression-in-lts.Need-returns-9 by-expression-in expression-in-at expression-in.Post
   expression-in-returns-9 c =
-      let k = c .before .before .before .before .before .before in
-      let a = k .before .before .before .before .before .args in
-      c .constraint-in .ensures ∙ check-reified (a .test) (a .s .now) (a .at) (a .depth) (k .before .before .before .if1 .left) (k .before .before .if2 .left) (sym (c .before .before .before .before .shape .given .1) ∙ k .opens .ensures) (c .before .enum-told4 .given .1)
+      let a = c .before .before .before .before .before .before .before .before .before .before .before .before .before .before .before .args in
+      c .expression-in3 .ensures ∙ check-two (a .test) (a .s .now) (a .at) (a .depth) (c .before .before .before .before .before .before .before .before .before .before .before .before .before .if1 .left) (c .before .before .before .before .before .before .before .before .before .before .before .before .if2 .left) (sym (c .before .before .before .before .before .before .before .before .shape .given .1) ∙ c .before .before .before .before .before .before .before .before .before .before .opens .ensures) (c .before .before .before .before .before .enum-told5 .given .1) (sym (c .before .before .middle .given .1) ∙ c .before .before .before .before .expression-in2 .ensures)
 
   expression-in-returns-10 : expression-in-lts.Need-returns-10 by-expression-in expression-in-at expression-in.Post
   expression-in-returns-10 c =
-      let k = c .before .before .before .before .before .before .before .before .before .before .before .before in
-      let a = k .before .before .before .before .before .args in
-      c .expression-in2 .ensures ∙ check-two (a .test) (a .s .now) (a .at) (a .depth) (k .before .before .before .if1 .left) (k .before .before .if2 .left) (sym (c .before .before .before .before .before .before .before .before .before .before .shape .given .1) ∙ k .opens .ensures) (c .before .before .before .before .before .before .before .enum-told5 .given .1) (c .before .if3 .left) (sym (c .before .before .before .before .middle .given .1) ∙ c .before .before .before .before .before .before .expression-in .ensures)
+      let a = c .before .before .before .before .before .before .before .before .before .args in
+      refused (passesE (a .test)) (a .at) (other-e (a .s .now) (a .at) (a .depth) (c .before .before .before .before .before .before .before .if1 .left) (c .before .before .before .before .before .before .if2 .left) (sym (c .before .before .shape .given .1) ∙ c .before .before .before .before .opens .ensures) (c .match2 .keys6))
 
 pub +constraint-in+expression-in-spec : {M : Type 1} → statement M
 +constraint-in+expression-in-spec =
@@ -181,7 +164,7 @@ pub +constraint-in+expression-in-spec : {M : Type 1} → statement M
     (λ c. search needs)
     (constraint-in-returns-3 t)
     (λ c. search needs)
-    (constraint-in-returns-4 t)
+    (λ c. search needs)
     (λ c. search needs)
     (λ c κs. search needs)
     (λ c. search needs)
@@ -190,19 +173,24 @@ pub +constraint-in+expression-in-spec : {M : Type 1} → statement M
     (λ c κs. (omega arith, tt))
     (λ c. search needs)
     (λ c. search needs)
+    (λ c. search needs)
+    (λ c κs. (omega arith, tt))
+    (λ c. search needs)
+    (λ c. search needs)
+    (constraint-in-returns-4 t)
+    (λ c. search needs)
+    (λ c κs. (omega arith, tt))
+    (λ c. search needs)
+    (λ c. search needs)
+    (λ c. search needs)
+    (λ c κs. (omega arith, tt))
+    (λ c. search needs)
+    (λ c. search needs)
     (constraint-in-returns-5 t)
+    (λ c. search needs)
+    (λ c κs. (omega arith, tt))
     (constraint-in-returns-6 t)
-    (λ c. search needs)
-    (λ c κs. (omega arith, tt))
-    (λ c. search needs)
-    (λ c. search needs)
-    (λ c. search needs)
-    (λ c κs. (omega arith, tt))
-    (λ c. search needs)
-    (λ c. search needs)
     (constraint-in-returns-7 t)
-    (λ c. search needs)
-    (λ c κs. (omega arith, tt))
     (constraint-in-returns-8 t)
     (constraint-in-returns-9 t)
     (constraint-in-returns-10 t)
@@ -221,6 +209,9 @@ pub +constraint-in+expression-in-spec : {M : Type 1} → statement M
     (λ c. search needs)
     (λ c. search needs)
     (λ c. search needs)
+    (λ c κs. (omega arith, tt))
+    (λ c. search needs)
+    (λ c. search needs)
     (λ c. search needs)
     (λ c κs. (omega arith, tt))
     (λ c. search needs)
@@ -230,9 +221,9 @@ pub +constraint-in+expression-in-spec : {M : Type 1} → statement M
     (λ c. search needs)
     (λ c. search needs)
     (expression-in-returns-4 t)
-    (expression-in-returns-5 t)
     (λ c. search needs)
     (λ c κs. (omega arith, tt))
+    (expression-in-returns-5 t)
     (expression-in-returns-6 t)
     (expression-in-returns-7 t)
     (expression-in-returns-8 t)

@@ -5,7 +5,7 @@ use Rattle.bmap.specs.Number.{signedWord}
 use Rattle.bmap.specs.Tree.{constant}
 use Rattle.law.specs.Check.{passesE}
 use Rattle.law.proofs.Trees.{pair-in}
-use Rattle.law.proofs.Checks.{leaf-short, leaf-passes, passes-constant}
+use Rattle.law.proofs.CheckLaws.{leaf-short, leaf-passes, passes-constant}
 use Rattle.law.proofs.checks.constant_at.Statement.{statement}
 use Rattle.law.proofs.checks.constant_at.Tie as tie
 

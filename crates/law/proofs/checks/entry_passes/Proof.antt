@@ -1,6 +1,6 @@
 use mathlib.Core.Path.{_∙_}
 use borrow.Author.Needs.{needs}
-use Rattle.law.proofs.Checks.{entry-allowed, entry-barred, entry-known}
+use Rattle.law.proofs.CheckLaws.{entry-allowed, entry-barred, entry-known}
 use Rattle.law.proofs.checks.entry_passes.Statement.{statement}
 use Rattle.law.proofs.checks.entry_passes.Tie as tie
 

@@ -1,6 +1,6 @@
 use mathlib.Core.Path.{_∙_}
 use borrow.Author.Needs.{needs}
-use Rattle.law.proofs.Checks.{fluent-allowed, fluent-known}
+use Rattle.law.proofs.CheckLaws.{fluent-allowed, fluent-known}
 use Rattle.law.proofs.checks.fluent_passes.Statement.{statement}
 use Rattle.law.proofs.checks.fluent_passes.Tie as tie
 

@@ -205,7 +205,10 @@ fn operated_of(code: u8, a: u64, b: u64) -> u64
     if end == 0 {
         return MALFORMED;
     }
-    with_value(number::operate(operation_of(code), value_of(a), value_of(b)), end)
+    with_value(
+        number::operate(operation_of(code), value_of(a), value_of(b)),
+        end,
+    )
 }
 
 fn compared_of(code: u8, a: u64, b: u64) -> u64
@@ -215,7 +218,10 @@ fn compared_of(code: u8, a: u64, b: u64) -> u64
     if end == 0 {
         return MALFORMED;
     }
-    with_truth(number::compare(comparison_of(code), value_of(a), value_of(b)), end)
+    with_truth(
+        number::compare(comparison_of(code), value_of(a), value_of(b)),
+        end,
+    )
 }
 
 fn joined_of(code: u8, a: u64, b: u64) -> u64
@@ -225,7 +231,10 @@ fn joined_of(code: u8, a: u64, b: u64) -> u64
     if end == 0 {
         return MALFORMED;
     }
-    with_truth(number::join(junction_of(code), truth_of(a), truth_of(b)), end)
+    with_truth(
+        number::join(junction_of(code), truth_of(a), truth_of(b)),
+        end,
+    )
 }
 
 // An expression with so much depth left. The leaves are most of a tree: their codes are looked at before the table.

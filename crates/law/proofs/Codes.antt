@@ -103,11 +103,11 @@ listed f i (suc n) zero d h = ap f (sym (add-zero i))
 listed f i (suc n) (suc k) d h = listed f (suc i) n k d (omega arith) ∙ ap f (suc-add i k ∙ sym (add-suc i k))
 
 -- a table that has the shape of each code from the first on, has it at each code
-pub table : (shapes : List Shape) → shapes ≡ map (λ b. shapeOf (codeOf b)) (numbers 0x10 27) → (b : ℕ) (d : Shape) → 0x10 ≤ b → b < 0x2B → getD shapes (b - 0x10) d ≡ shapeOf (codeOf b)
+pub table : (shapes : List Shape) → shapes ≡ map (λ b. shapeOf (codeOf b)) (numbers 0x10 32) → (b : ℕ) (d : Shape) → 0x10 ≤ b → b < 0x2B → getD shapes (b - 0x10) d ≡ shapeOf (codeOf b)
 table shapes e b d lo hi =
     let k : 0x10 + (b - 0x10) ≡ b = omega arith in
     ap (λ (l : List Shape). getD l (b - 0x10) d) e
-    ∙ listed (λ b. shapeOf (codeOf b)) 0x10 27 (b - 0x10) d (omega arith)
+    ∙ listed (λ b. shapeOf (codeOf b)) 0x10 32 (b - 0x10) d (omega arith)
     ∙ ap (λ (k : ℕ). shapeOf (codeOf k)) k
 
 -- The operator of a code: where the byte is none of some keys, one test over the list of codes says which it is.

@@ -49,7 +49,7 @@ R = T.the-row
 abbrev mach : Session → Val
 mach = LL.val T.the-type T′.the-laws
 
--- the struct that g returns: an answer, then a session. And what an answer and a session have to do with what f says
+-- the struct that g returns: an answer, then a session
 pub record Returned : Type 2 where
   pub change : RattleType
   pub answer : RattleType
@@ -58,7 +58,10 @@ pub record Returned : Type 2 where
   pub mir : Ty
   pub answered : change .Denot → answer .Denot
   pub session : change .Denot → Session
+  -- what g ensures, and what f ensures of the answer and of the session that is left
+  pub leaves : change .Denot → Changed → Type 0
   pub means : answer .Denot → Session → Changed → Type 0
+  pub meant : (r : change .Denot) (c : Changed) → leaves r c → means (answered r) (session r) c
   -- the machine value of an answer
   pub value : answer .Denot → Val
   pub change-tells : Tells change (Is change) (λ r. vstruct (vcons (value (answered r)) (vcons (mach (session r)) vnil)) ∷ [])
@@ -81,9 +84,6 @@ module _ (L : Returned) where
   abbrev made : Ty
   made = tyStruct (L .name) (tcons (L .mir) (tcons T′.mir tnil))
 
-  abbrev leaves : L .change .Denot → Changed → Type 0
-  leaves r = L .means (L .answered r) (L .session r)
-
   -- ---- the session alone
   abbrev pub ended₀ : Ended
   ended₀ = record { signature = record { lifetimes = 1; outlives = []; params = (mutRefTo (0 ∷ []) tt session-slot) ∷ []; result = plain (λ _. L .answer) }; kept = (yes, tt) }
@@ -96,7 +96,7 @@ module _ (L : Returned) where
     clauses₀ κs a = record { ghost = Unit {0}; requires = λ _. emp 𝓤; ensures = λ _ r z. fact 𝓤 (L .means r (now (z .0)) (f (now (a .0)))) }
 
     abbrev pub by-value-clauses₀ : Clauses 𝓤 by-value₀
-    by-value-clauses₀ κs a = record { ghost = Unit {0}; requires = λ _. emp 𝓤; ensures = λ _ r z. fact 𝓤 (leaves r (f (a .0))) }
+    by-value-clauses₀ κs a = record { ghost = Unit {0}; requires = λ _. emp 𝓤; ensures = λ _ r z. fact 𝓤 (L .leaves r (f (a .0))) }
 
   -- the contract of the by-value function
   abbrev pub ByValue₀ : {M : Type 1} (𝓤 : URA M) (H : Heap 𝓤) (A : Atoms 𝓤) → (Session → Changed) → Contract 𝓤
@@ -136,10 +136,10 @@ module _ (L : Returned) where
     asked₀ = qed W (‵ ftrue ∷ ‵ (owns (R ∷ []) (h, tt) (mach h ∷ [], tt)) ∷ []) ∵ join ! $ frame ! $ done !
 
     -- of its `ensured`, the clause alone
-    said₀ : (r : L .change .Denot) → ent 𝓤 (ensured 𝓤 H A by-value₀ (by-value-clauses₀ 𝓤 f) tt (h, tt) tt r) (fact 𝓤 (leaves r found₀))
-    said₀ r = exE 𝓤 _ (λ ws. snd∗ 𝓤 (sem 𝓤 H A (lasts by-value₀ tt (h, tt) ws)) (fact 𝓤 (leaves r found₀)))
+    said₀ : (r : L .change .Denot) → ent 𝓤 (ensured 𝓤 H A by-value₀ (by-value-clauses₀ 𝓤 f) tt (h, tt) tt r) (fact 𝓤 (L .leaves r found₀))
+    said₀ r = exE 𝓤 _ (λ ws. snd∗ 𝓤 (sem 𝓤 H A (lasts by-value₀ tt (h, tt) ws)) (fact 𝓤 (L .leaves r found₀)))
 
-    exits₀ : (r : L .change .Denot) → leaves r found₀ → Is (L .answer) (L .answered r) (L .value (L .answered r) ∷ []) → ent 𝓤 (⋆ 𝓤 H A (‵ (fobs γ (R .coded .code (L .session r))) ∷ ‵ (fbor κ (Body (mem R) b o γ)) ∷ ‵ (flft κ q) ∷ ‵ ftrue ∷ [])) (Post₀ (L .value (L .answered r)))
+    exits₀ : (r : L .change .Denot) → L .means (L .answered r) (L .session r) found₀ → Is (L .answer) (L .answered r) (L .value (L .answered r) ∷ []) → ent 𝓤 (⋆ 𝓤 H A (‵ (fobs γ (R .coded .code (L .session r))) ∷ ‵ (fbor κ (Body (mem R) b o γ)) ∷ ‵ (flft κ q) ∷ ‵ ftrue ∷ [])) (Post₀ (L .value (L .answered r)))
     exits₀ r e is-answer =
         qed W (‵ (fobs γ (R .coded .code (L .session r))) ∷ ‵ (fbor κ (Body (mem R) b o γ)) ∷ ‵ (flft κ q) ∷ ‵ ftrue ∷ []) ∵
         suffices ! _ (ends-at 𝓤 H A ended₀ stayed₀ (clauses₀ 𝓤 f) W (((κ, tt), (q, tt), tt, a₀, vals₀), tt) (L .value (L .answered r)) (L .answered r) (L .session r, tt) (tt, tt)) $
@@ -162,7 +162,7 @@ module _ (L : Returned) where
           move ! (1 ∷ 6 ∷ []) $ fjoin ! $ move ! (5 ∷ 0 ∷ []) $ use2 W (raw (ByValue₀ 𝓤 H A f .pre to₀)) asked₀ $
           calls-at ! fm (ByValue₀ 𝓤 H A f) known to₀ (and-then ! (load ! (from ! (stop !)) (look ! 5 refl)) (no-more !)) (λ u.
           use1 W (later (some (λ (r : L .change .Denot). (‵ ftrue ⊛ ‵ (L .change .own r (u ∷ []))) ⊛ raw (ensured 𝓤 H A by-value₀ (by-value-clauses₀ 𝓤 f) tt (h, tt) tt r)))) (id⊢ 𝓤 _) $ await ! tt $ pick ! (λ r.
-          split ! $ move ! (1 ∷ []) $ use1 W (raw (fact 𝓤 (leaves r found₀))) (said₀ r) $ heard ! (leaves r found₀) (λ e. split ! $ move ! (1 ∷ []) $
+          split ! $ move ! (1 ∷ []) $ use1 W (raw (fact 𝓤 (L .leaves r found₀))) (said₀ r) $ heard ! (L .leaves r found₀) (λ e. split ! $ move ! (1 ∷ []) $
           -- [the result; the other token; the session's cell; the open borrow; obs; auth; then the locals]
           peeks ! (L .change) (Is (L .change)) (shows 𝓤 H A (L .change)) r (u ∷ []) (λ is.
           land ! (from ! (stop !)) (init ! 8 refl (L .change-typed 𝓤 H A W r _ is .0)) $
@@ -173,7 +173,7 @@ module _ (L : Returned) where
           drop ! $ owned ! R (Is R) (LL.makes T.the-type T′.the-plain 𝓤 H A) (L .session r) _ (L .session-is r _ is) $ move ! (2 ∷ 0 ∷ 3 ∷ 4 ∷ 5 ∷ []) $ closes ! tt R (L .session r) (mach (L .session r) ∷ []) b o $
           returns ! (look ! 10 refl) $ forget ! 4 refl $ forget ! 6 refl $ forget ! 8 refl $ forget ! 10 refl $
           move ! (10 ∷ 11 ∷ []) $ free1 ! $ move ! (8 ∷ 9 ∷ []) $ free1 ! $ move ! (6 ∷ 7 ∷ []) $ free1 ! $ move ! (4 ∷ 5 ∷ []) $ free1 ! $ free0 ! $
-          keep ! (0 ∷ 1 ∷ 2 ∷ 3 ∷ []) $ by ! (exits₀ r e (L .answer-is r _ is))))))))))))
+          keep ! (0 ∷ 1 ∷ 2 ∷ 3 ∷ []) $ by ! (exits₀ r (L .meant r _ e) (L .answer-is r _ is))))))))))))
 
   pub meets₀ : {M : Type 1} (𝓤 : URA M) (H : Heap 𝓤) (A : Atoms 𝓤) → Given 𝓤 H A → (f : Session → Changed) (g : Name) (𝓣 : Tables 𝓤 H) → Triple 𝓤 (𝓣 .C g) (ByValue₀ 𝓤 H A f)
       → Meets 𝓤 H A (ended₀ .signature) (WpFn 𝓤 H (𝓣 .C) (𝓣 .Λ) (fn₀ g)) (closing 𝓤 H A ended₀ (clauses₀ 𝓤 f))
@@ -194,7 +194,7 @@ module _ (L : Returned) where
     clauses₁ κs a = record { ghost = Unit {0}; requires = λ _. emp 𝓤; ensures = λ _ r z. fact 𝓤 (L .means r (now (z .0)) (f (now (a .0)) (now (a .1 .0)))) }
 
     abbrev pub by-value-clauses₁ : Clauses 𝓤 by-value₁
-    by-value-clauses₁ κs a = record { ghost = Unit {0}; requires = λ _. emp 𝓤; ensures = λ _ r z. fact 𝓤 (leaves r (f (a .0) (now (a .1 .0)))) }
+    by-value-clauses₁ κs a = record { ghost = Unit {0}; requires = λ _. emp 𝓤; ensures = λ _ r z. fact 𝓤 (L .leaves r (f (a .0) (now (a .1 .0)))) }
 
   -- the contract of the by-value function
   abbrev pub ByValue₁ : {M : Type 1} (𝓤 : URA M) (H : Heap 𝓤) (A : Atoms 𝓤) → (Session → List ℕ → Changed) → Contract 𝓤
@@ -237,10 +237,10 @@ module _ (L : Returned) where
     asked₁ = qed W ((‵ (flft κ′ q′) ⊛ ‵ ftrue) ∷ ‵ (owns (R ∷ ShrSlice (named 0) κ′ u8 ∷ []) (h, (step, tt)) (mach h ∷ [], (s₁ ∷ [], tt))) ∷ []) ∵ join ! $ frame ! $ done !
 
     -- of its `ensured`, the clause alone
-    said₁ : (r : L .change .Denot) → ent 𝓤 (ensured 𝓤 H A by-value₁ (by-value-clauses₁ 𝓤 f) (κ′, tt) (h, (step, tt)) tt r) (fact 𝓤 (leaves r found₁))
-    said₁ r = exE 𝓤 _ (λ ws. snd∗ 𝓤 (sem 𝓤 H A (lasts by-value₁ (κ′, tt) (h, (step, tt)) ws)) (fact 𝓤 (leaves r found₁)))
+    said₁ : (r : L .change .Denot) → ent 𝓤 (ensured 𝓤 H A by-value₁ (by-value-clauses₁ 𝓤 f) (κ′, tt) (h, (step, tt)) tt r) (fact 𝓤 (L .leaves r found₁))
+    said₁ r = exE 𝓤 _ (λ ws. snd∗ 𝓤 (sem 𝓤 H A (lasts by-value₁ (κ′, tt) (h, (step, tt)) ws)) (fact 𝓤 (L .leaves r found₁)))
 
-    exits₁ : (r : L .change .Denot) → leaves r found₁ → Is (L .answer) (L .answered r) (L .value (L .answered r) ∷ []) → ent 𝓤 (⋆ 𝓤 H A (‵ (fobs γ (R .coded .code (L .session r))) ∷ ‵ (fbor κ (Body (mem R) b o γ)) ∷ ‵ (flft κ q) ∷ (‵ (flft κ′ q′) ⊛ ‵ ftrue) ∷ [])) (Post₁ (L .value (L .answered r)))
+    exits₁ : (r : L .change .Denot) → L .means (L .answered r) (L .session r) found₁ → Is (L .answer) (L .answered r) (L .value (L .answered r) ∷ []) → ent 𝓤 (⋆ 𝓤 H A (‵ (fobs γ (R .coded .code (L .session r))) ∷ ‵ (fbor κ (Body (mem R) b o γ)) ∷ ‵ (flft κ q) ∷ (‵ (flft κ′ q′) ⊛ ‵ ftrue) ∷ [])) (Post₁ (L .value (L .answered r)))
     exits₁ r e is-answer =
         qed W (‵ (fobs γ (R .coded .code (L .session r))) ∷ ‵ (fbor κ (Body (mem R) b o γ)) ∷ ‵ (flft κ q) ∷ (‵ (flft κ′ q′) ⊛ ‵ ftrue) ∷ []) ∵
         suffices ! _ (ends-at 𝓤 H A ended₁ stayed₁ (clauses₁ 𝓤 f) W (((κ, (κ′, tt)), (q, (q′, tt)), tt, a₁, vals₁), tt) (L .value (L .answered r)) (L .answered r) (L .session r, (tt, tt)) (tt, (tt, tt))) $
@@ -263,7 +263,7 @@ module _ (L : Returned) where
           move ! (1 ∷ 6 ∷ []) $ fjoin ! $ move ! (5 ∷ 0 ∷ []) $ use2 W (raw (ByValue₁ 𝓤 H A f .pre to₁)) asked₁ $
           calls-at ! fm (ByValue₁ 𝓤 H A f) known to₁ (and-then ! (load ! (from ! (stop !)) (look ! 5 refl)) (and-then ! (load ! (from ! (stop !)) (look ! 9 refl)) (no-more !))) (λ u.
           use1 W (later (some (λ (r : L .change .Denot). ((‵ (flft κ′ q′) ⊛ ‵ ftrue) ⊛ ‵ (L .change .own r (u ∷ []))) ⊛ raw (ensured 𝓤 H A by-value₁ (by-value-clauses₁ 𝓤 f) (κ′, tt) (h, (step, tt)) tt r)))) (id⊢ 𝓤 _) $ await ! tt $ pick ! (λ r.
-          split ! $ move ! (1 ∷ []) $ use1 W (raw (fact 𝓤 (leaves r found₁))) (said₁ r) $ heard ! (leaves r found₁) (λ e. split ! $ move ! (1 ∷ []) $
+          split ! $ move ! (1 ∷ []) $ use1 W (raw (fact 𝓤 (L .leaves r found₁))) (said₁ r) $ heard ! (L .leaves r found₁) (λ e. split ! $ move ! (1 ∷ []) $
           -- [the result; the other token; the session's cell; the open borrow; obs; auth; then the locals]
           peeks ! (L .change) (Is (L .change)) (shows 𝓤 H A (L .change)) r (u ∷ []) (λ is.
           land ! (from ! (stop !)) (init ! 8 refl (L .change-typed 𝓤 H A W r _ is .0)) $
@@ -274,7 +274,7 @@ module _ (L : Returned) where
           drop ! $ owned ! R (Is R) (LL.makes T.the-type T′.the-plain 𝓤 H A) (L .session r) _ (L .session-is r _ is) $ move ! (2 ∷ 0 ∷ 3 ∷ 4 ∷ 5 ∷ []) $ closes ! tt R (L .session r) (mach (L .session r) ∷ []) b o $
           returns ! (look ! 12 refl) $ forget ! 4 refl $ forget ! 6 refl $ forget ! 8 refl $ forget ! 10 refl $ forget ! 12 refl $
           move ! (12 ∷ 13 ∷ []) $ free1 ! $ move ! (10 ∷ 11 ∷ []) $ free1 ! $ move ! (8 ∷ 9 ∷ []) $ free1 ! $ move ! (6 ∷ 7 ∷ []) $ free1 ! $ move ! (4 ∷ 5 ∷ []) $ free1 ! $ free0 ! $
-          keep ! (0 ∷ 1 ∷ 2 ∷ 3 ∷ []) $ by ! (exits₁ r e (L .answer-is r _ is)))))))))))))
+          keep ! (0 ∷ 1 ∷ 2 ∷ 3 ∷ []) $ by ! (exits₁ r (L .meant r _ e) (L .answer-is r _ is)))))))))))))
 
   pub meets₁ : {M : Type 1} (𝓤 : URA M) (H : Heap 𝓤) (A : Atoms 𝓤) → Given 𝓤 H A → (f : Session → List ℕ → Changed) (g : Name) (𝓣 : Tables 𝓤 H) → Triple 𝓤 (𝓣 .C g) (ByValue₁ 𝓤 H A f)
       → Meets 𝓤 H A (ended₁ .signature) (WpFn 𝓤 H (𝓣 .C) (𝓣 .Λ) (fn₁ g)) (closing 𝓤 H A ended₁ (clauses₁ 𝓤 f))
@@ -295,7 +295,7 @@ module _ (L : Returned) where
     clauses₂ κs a = record { ghost = Unit {0}; requires = λ _. emp 𝓤; ensures = λ _ r z. fact 𝓤 (L .means r (now (z .0)) (f (now (a .0)) (a .1 .0) (now (a .1 .1 .0)))) }
 
     abbrev pub by-value-clauses₂ : Clauses 𝓤 by-value₂
-    by-value-clauses₂ κs a = record { ghost = Unit {0}; requires = λ _. emp 𝓤; ensures = λ _ r z. fact 𝓤 (leaves r (f (a .0) (a .1 .0) (now (a .1 .1 .0)))) }
+    by-value-clauses₂ κs a = record { ghost = Unit {0}; requires = λ _. emp 𝓤; ensures = λ _ r z. fact 𝓤 (L .leaves r (f (a .0) (a .1 .0) (now (a .1 .1 .0)))) }
 
   -- the contract of the by-value function
   abbrev pub ByValue₂ : {M : Type 1} (𝓤 : URA M) (H : Heap 𝓤) (A : Atoms 𝓤) → (Session → ℕ → List ℕ → Changed) → Contract 𝓤
@@ -338,10 +338,10 @@ module _ (L : Returned) where
     asked₂ = qed W ((‵ (flft κ′ q′) ⊛ ‵ ftrue) ∷ ‵ (owns (R ∷ usize ∷ ShrSlice (named 0) κ′ u8 ∷ []) (h, (i, (step, tt))) (mach h ∷ [], (vint w64 i ∷ [], (s₂ ∷ [], tt)))) ∷ []) ∵ join ! $ frame ! $ done !
 
     -- of its `ensured`, the clause alone
-    said₂ : (r : L .change .Denot) → ent 𝓤 (ensured 𝓤 H A by-value₂ (by-value-clauses₂ 𝓤 f) (κ′, tt) (h, (i, (step, tt))) tt r) (fact 𝓤 (leaves r found₂))
-    said₂ r = exE 𝓤 _ (λ ws. snd∗ 𝓤 (sem 𝓤 H A (lasts by-value₂ (κ′, tt) (h, (i, (step, tt))) ws)) (fact 𝓤 (leaves r found₂)))
+    said₂ : (r : L .change .Denot) → ent 𝓤 (ensured 𝓤 H A by-value₂ (by-value-clauses₂ 𝓤 f) (κ′, tt) (h, (i, (step, tt))) tt r) (fact 𝓤 (L .leaves r found₂))
+    said₂ r = exE 𝓤 _ (λ ws. snd∗ 𝓤 (sem 𝓤 H A (lasts by-value₂ (κ′, tt) (h, (i, (step, tt))) ws)) (fact 𝓤 (L .leaves r found₂)))
 
-    exits₂ : (r : L .change .Denot) → leaves r found₂ → Is (L .answer) (L .answered r) (L .value (L .answered r) ∷ []) → ent 𝓤 (⋆ 𝓤 H A (‵ (fobs γ (R .coded .code (L .session r))) ∷ ‵ (fbor κ (Body (mem R) b o γ)) ∷ ‵ (flft κ q) ∷ (‵ (flft κ′ q′) ⊛ ‵ ftrue) ∷ [])) (Post₂ (L .value (L .answered r)))
+    exits₂ : (r : L .change .Denot) → L .means (L .answered r) (L .session r) found₂ → Is (L .answer) (L .answered r) (L .value (L .answered r) ∷ []) → ent 𝓤 (⋆ 𝓤 H A (‵ (fobs γ (R .coded .code (L .session r))) ∷ ‵ (fbor κ (Body (mem R) b o γ)) ∷ ‵ (flft κ q) ∷ (‵ (flft κ′ q′) ⊛ ‵ ftrue) ∷ [])) (Post₂ (L .value (L .answered r)))
     exits₂ r e is-answer =
         qed W (‵ (fobs γ (R .coded .code (L .session r))) ∷ ‵ (fbor κ (Body (mem R) b o γ)) ∷ ‵ (flft κ q) ∷ (‵ (flft κ′ q′) ⊛ ‵ ftrue) ∷ []) ∵
         suffices ! _ (ends-at 𝓤 H A ended₂ stayed₂ (clauses₂ 𝓤 f) W (((κ, (κ′, tt)), (q, (q′, tt)), tt, a₂, vals₂), tt) (L .value (L .answered r)) (L .answered r) (L .session r, (tt, (tt, tt))) (tt, (tt, (tt, tt)))) $
@@ -364,7 +364,7 @@ module _ (L : Returned) where
           move ! (1 ∷ 6 ∷ []) $ fjoin ! $ move ! (5 ∷ 0 ∷ []) $ use2 W (raw (ByValue₂ 𝓤 H A f .pre to₂)) asked₂ $
           calls-at ! fm (ByValue₂ 𝓤 H A f) known to₂ (and-then ! (load ! (from ! (stop !)) (look ! 5 refl)) (and-then ! (load ! (from ! (stop !)) (look ! 11 refl)) (and-then ! (load ! (from ! (stop !)) (look ! 9 refl)) (no-more !)))) (λ u.
           use1 W (later (some (λ (r : L .change .Denot). ((‵ (flft κ′ q′) ⊛ ‵ ftrue) ⊛ ‵ (L .change .own r (u ∷ []))) ⊛ raw (ensured 𝓤 H A by-value₂ (by-value-clauses₂ 𝓤 f) (κ′, tt) (h, (i, (step, tt))) tt r)))) (id⊢ 𝓤 _) $ await ! tt $ pick ! (λ r.
-          split ! $ move ! (1 ∷ []) $ use1 W (raw (fact 𝓤 (leaves r found₂))) (said₂ r) $ heard ! (leaves r found₂) (λ e. split ! $ move ! (1 ∷ []) $
+          split ! $ move ! (1 ∷ []) $ use1 W (raw (fact 𝓤 (L .leaves r found₂))) (said₂ r) $ heard ! (L .leaves r found₂) (λ e. split ! $ move ! (1 ∷ []) $
           -- [the result; the other token; the session's cell; the open borrow; obs; auth; then the locals]
           peeks ! (L .change) (Is (L .change)) (shows 𝓤 H A (L .change)) r (u ∷ []) (λ is.
           land ! (from ! (stop !)) (init ! 8 refl (L .change-typed 𝓤 H A W r _ is .0)) $
@@ -375,7 +375,7 @@ module _ (L : Returned) where
           drop ! $ owned ! R (Is R) (LL.makes T.the-type T′.the-plain 𝓤 H A) (L .session r) _ (L .session-is r _ is) $ move ! (2 ∷ 0 ∷ 3 ∷ 4 ∷ 5 ∷ []) $ closes ! tt R (L .session r) (mach (L .session r) ∷ []) b o $
           returns ! (look ! 14 refl) $ forget ! 4 refl $ forget ! 6 refl $ forget ! 8 refl $ forget ! 10 refl $ forget ! 12 refl $ forget ! 14 refl $
           move ! (14 ∷ 15 ∷ []) $ free1 ! $ move ! (12 ∷ 13 ∷ []) $ free1 ! $ move ! (10 ∷ 11 ∷ []) $ free1 ! $ move ! (8 ∷ 9 ∷ []) $ free1 ! $ move ! (6 ∷ 7 ∷ []) $ free1 ! $ move ! (4 ∷ 5 ∷ []) $ free1 ! $ free0 ! $
-          keep ! (0 ∷ 1 ∷ 2 ∷ 3 ∷ []) $ by ! (exits₂ r e (L .answer-is r _ is))))))))))))))
+          keep ! (0 ∷ 1 ∷ 2 ∷ 3 ∷ []) $ by ! (exits₂ r (L .meant r _ e) (L .answer-is r _ is))))))))))))))
 
   pub meets₂ : {M : Type 1} (𝓤 : URA M) (H : Heap 𝓤) (A : Atoms 𝓤) → Given 𝓤 H A → (f : Session → ℕ → List ℕ → Changed) (g : Name) (𝓣 : Tables 𝓤 H) → Triple 𝓤 (𝓣 .C g) (ByValue₂ 𝓤 H A f)
       → Meets 𝓤 H A (ended₂ .signature) (WpFn 𝓤 H (𝓣 .C) (𝓣 .Λ) (fn₂ g)) (closing 𝓤 H A ended₂ (clauses₂ 𝓤 f))

@@ -1,3 +1,2 @@
 pub mod NumberLaws
-pub mod EditWalk
-pub mod OpenWalk
+pub mod LentNumber

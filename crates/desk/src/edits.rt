@@ -1,13 +1,11 @@
-// The calls on a session that is lent: each takes it out, calls the one by value, puts back what that leaves, and answers
-// by the refusal's number.
-use crate::number::done;
+// The calls on a session that is lent: each takes it out, calls the one by value, and puts back what that leaves.
+use crate::numbered::amended;
+use crate::numbered::entered;
+use crate::numbered::opened;
+use crate::numbered::redone;
+use crate::numbered::stricken;
+use crate::numbered::undone;
 use bmap::Session;
-use session::amended;
-use session::entered;
-use session::open;
-use session::redone;
-use session::stricken;
-use session::undone;
 ghost use Rattle.bmap.specs.Session.{enter, strike, amend, editSession, undoSession, redoSession, openSession};
 ghost use Rattle.desk.specs.Numbers.{answers};
 
@@ -16,9 +14,9 @@ ghost use Rattle.desk.specs.Numbers.{answers};
 pub extern "C" fn waroth_open(s: &mut Session, store: &[u8]) -> u8
     ensures { λ r. ⌜ answers r (now (s .exit)) (openSession (now (store .entry))) ⌝ }
 {
-    let e = open(store);
+    let e = opened(*s, store);
     *s = e.session;
-    done(e.outcome)
+    e.number
 }
 
 #[no_mangle]
@@ -27,7 +25,7 @@ pub extern "C" fn waroth_enter(s: &mut Session, names: &[u8]) -> u8
 {
     let e = entered(*s, names);
     *s = e.session;
-    done(e.outcome)
+    e.number
 }
 
 #[no_mangle]
@@ -36,7 +34,7 @@ pub extern "C" fn waroth_strike(s: &mut Session) -> u8
 {
     let e = stricken(*s);
     *s = e.session;
-    done(e.outcome)
+    e.number
 }
 
 #[no_mangle]
@@ -45,7 +43,7 @@ pub extern "C" fn waroth_amend(s: &mut Session, number: usize, names: &[u8]) -> 
 {
     let e = amended(*s, number, names);
     *s = e.session;
-    done(e.outcome)
+    e.number
 }
 
 #[no_mangle]
@@ -54,7 +52,7 @@ pub extern "C" fn waroth_undo(s: &mut Session) -> u8
 {
     let e = undone(*s);
     *s = e.session;
-    done(e.outcome)
+    e.number
 }
 
 #[no_mangle]
@@ -63,5 +61,5 @@ pub extern "C" fn waroth_redo(s: &mut Session) -> u8
 {
     let e = redone(*s);
     *s = e.session;
-    done(e.outcome)
+    e.number
 }

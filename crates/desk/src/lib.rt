@@ -4,6 +4,7 @@ mod domains;
 mod edits;
 mod judgements;
 mod number;
+mod numbered;
 mod program;
 mod sheets;
 

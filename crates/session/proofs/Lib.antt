@@ -6,6 +6,7 @@ pub mod ReplayLaws
 pub mod OpenLaws
 pub mod CallLaws
 pub mod LentWalk
+pub mod LentChange
 pub mod ModelLaws
 pub mod SomeDomain
 pub mod Theorems

@@ -1,15 +1,16 @@
--- `desk::edits::waroth_open` meets its contract: the walk of `proofs/OpenWalk.antt`, at what `open` ensures.
+-- `desk::edits::waroth_open` meets its contract: the walk of session's `proofs/LentWalk.antt`, at what `opened` ensures.
 -- Assumes nothing.
+use Prim.Native.Nat.{ℕ}
+use mathlib.Core.List.{List}
+use Rattle.bmap.specs.declared.session.Session.{Session}
 use Rattle.bmap.specs.Session.{openSession}
 use contract.Running.{givenOf, tables, tablesOf}
 use denote.Triple.Spec.{tripleOf}
 use denote.Triple.Table.{entered as at-its-key, cited}
-use Rattle.desk.proofs.OpenWalk.{ByValue, meets}
-use Rattle.session.proofs.open.Symbol as g
-use Rattle.session.proofs.open.Met as g-thm
-use Rattle.desk.proofs.EditWalk.{Done}
-use Rattle.desk.proofs.number.done.Symbol as number
-use Rattle.desk.proofs.number.done.Met as number-thm
+use Rattle.session.proofs.LentWalk.{ByValue₁, meets₁}
+use Rattle.desk.proofs.LentNumber.{numbered}
+use Rattle.desk.proofs.numbered.opened.Symbol as g
+use Rattle.desk.proofs.numbered.opened.Met as g-thm
 use Rattle.desk.proofs.edits.waroth_open as f
 use Rattle.desk.proofs.edits.waroth_open.Key.{name}
 use Rattle.desk.proofs.edits.waroth_open.Statement.{statement}
@@ -20,6 +21,5 @@ unfolding code.routine tablesOf
 waroth-open-spec 𝓤 H 𝓜 𝓖 𝓡 =
     at-its-key 𝓤 H (tripleOf 𝓤 H (𝓖 .A) f.signature (f.spec 𝓤 H (𝓖 .A) (𝓜 .mem) (𝓡 .run)))
     (tables 𝓤 H 𝓜 𝓡 code.env .C) (tables 𝓤 H 𝓜 𝓡 code.env .Λ) name code.function (code.unfolded 𝓤 H 𝓜 𝓡)
-    (meets 𝓤 H (𝓖 .A) (givenOf 𝓤 H 𝓜 𝓖) openSession g.name number.name (tablesOf 𝓤 H 𝓜 (tables 𝓤 H 𝓜 𝓡 code.env))
-    (cited 𝓤 H (ByValue 𝓤 H (𝓖 .A) openSession) 𝓜 𝓡 code.env g.name g.routine code.calls-session·open (g-thm.met 𝓤 H 𝓜 𝓖 𝓡))
-    (cited 𝓤 H (Done 𝓤 H (𝓖 .A)) 𝓜 𝓡 code.env number.name number.routine code.calls-desk·number·done (number-thm.met 𝓤 H 𝓜 𝓖 𝓡)))
+    (meets₁ numbered 𝓤 H (𝓖 .A) (givenOf 𝓤 H 𝓜 𝓖) (λ (s : Session) (store : List ℕ). openSession store) g.name (tablesOf 𝓤 H 𝓜 (tables 𝓤 H 𝓜 𝓡 code.env))
+    (cited 𝓤 H (ByValue₁ numbered 𝓤 H (𝓖 .A) (λ (s : Session) (store : List ℕ). openSession store)) 𝓜 𝓡 code.env g.name g.routine code.calls-desk·numbered·opened (g-thm.met 𝓤 H 𝓜 𝓖 𝓡)))

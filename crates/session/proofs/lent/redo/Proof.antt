@@ -4,6 +4,7 @@ use contract.Running.{givenOf, tables, tablesOf}
 use denote.Triple.Spec.{tripleOf}
 use denote.Triple.Table.{entered as at-its-key, cited}
 use Rattle.bmap.specs.Session.{redoSession}
+use Rattle.session.proofs.LentChange.{change}
 use Rattle.session.proofs.LentWalk.{ByValue₀, meets₀}
 use Rattle.session.proofs.value.redone.Symbol as g
 use Rattle.session.proofs.value.redone.Met as g-thm
@@ -17,5 +18,5 @@ unfolding code.routine tablesOf
 redo-spec 𝓤 H 𝓜 𝓖 𝓡 =
     at-its-key 𝓤 H (tripleOf 𝓤 H (𝓖 .A) f.signature (f.spec 𝓤 H (𝓖 .A) (𝓜 .mem) (𝓡 .run)))
     (tables 𝓤 H 𝓜 𝓡 code.env .C) (tables 𝓤 H 𝓜 𝓡 code.env .Λ) name code.function (code.unfolded 𝓤 H 𝓜 𝓡)
-    (meets₀ 𝓤 H (𝓖 .A) (givenOf 𝓤 H 𝓜 𝓖) redoSession g.name (tablesOf 𝓤 H 𝓜 (tables 𝓤 H 𝓜 𝓡 code.env))
-    (cited 𝓤 H (ByValue₀ 𝓤 H (𝓖 .A) redoSession) 𝓜 𝓡 code.env g.name g.routine code.calls-session·value·redone (g-thm.met 𝓤 H 𝓜 𝓖 𝓡)))
+    (meets₀ change 𝓤 H (𝓖 .A) (givenOf 𝓤 H 𝓜 𝓖) redoSession g.name (tablesOf 𝓤 H 𝓜 (tables 𝓤 H 𝓜 𝓡 code.env))
+    (cited 𝓤 H (ByValue₀ change 𝓤 H (𝓖 .A) redoSession) 𝓜 𝓡 code.env g.name g.routine code.calls-session·value·redone (g-thm.met 𝓤 H 𝓜 𝓖 𝓡)))

@@ -1,0 +1,62 @@
+// The calls on a session by value, which answer by the refusal's number.
+use crate::number::done;
+use bmap::Session;
+use session::Change;
+ghost use mathlib.Core.Path.{_≡_};
+ghost use Rattle.bmap.specs.Session.{enter, strike, amend, editSession, undoSession, redoSession, openSession};
+ghost use Rattle.session.specs.Calls.{changedOf};
+ghost use Rattle.desk.specs.Numbers.{numberedOf};
+
+// What a call leaves.
+pub(crate) struct Numbered {
+    pub(crate) number: u8,
+    pub(crate) session: Session,
+}
+
+fn by_number(change: Change) -> Numbered
+    ensures { λ r. ⌜ r ≡ numberedOf (changedOf change) ⌝ }
+{
+    let outcome = change.outcome;
+    let session = change.session;
+    Numbered {
+        number: done(outcome),
+        session,
+    }
+}
+
+// Whatever the session was before: it is taken, so that the call has the others' form.
+pub(crate) fn opened(_s: Session, store: &[u8]) -> Numbered
+    ensures { λ r. ⌜ r ≡ numberedOf (openSession (now (store .entry))) ⌝ }
+{
+    by_number(session::open(store))
+}
+
+pub(crate) fn entered(s: Session, names: &[u8]) -> Numbered
+    ensures { λ r. ⌜ r ≡ numberedOf (editSession (enter (now (names .entry))) s) ⌝ }
+{
+    by_number(session::entered(s, names))
+}
+
+pub(crate) fn stricken(s: Session) -> Numbered
+    ensures { λ r. ⌜ r ≡ numberedOf (editSession strike s) ⌝ }
+{
+    by_number(session::stricken(s))
+}
+
+pub(crate) fn amended(s: Session, number: usize, names: &[u8]) -> Numbered
+    ensures { λ r. ⌜ r ≡ numberedOf (editSession (amend number (now (names .entry))) s) ⌝ }
+{
+    by_number(session::amended(s, number, names))
+}
+
+pub(crate) fn undone(s: Session) -> Numbered
+    ensures { λ r. ⌜ r ≡ numberedOf (undoSession s) ⌝ }
+{
+    by_number(session::undone(s))
+}
+
+pub(crate) fn redone(s: Session) -> Numbered
+    ensures { λ r. ⌜ r ≡ numberedOf (redoSession s) ⌝ }
+{
+    by_number(session::redone(s))
+}

@@ -1,5 +1,6 @@
 pub mod LoopLaws
 pub mod MaskLaws
+pub mod NamingLaws
 pub mod ByteLaws
 pub mod MeaningLaws
 pub mod StateLaws

@@ -11,6 +11,7 @@ ghost use Rattle.bmap.specs.Domain.{Domain, Law};
 ghost use Rattle.judge.specs.Masks.{unionFrom, maskFrom};
 ghost use Rattle.judge.specs.Told.{Says, Lawful, Owned, Knowing, ownerOf};
 use crate::acting::pushed;
+use crate::acting::share;
 use crate::acting::taken_in;
 use crate::reading::EXECUTABLE;
 use crate::reading::byte;
@@ -57,12 +58,6 @@ pub(crate) fn all_knowers(
         f += 1;
     }
     table
-}
-
-fn share(a: u16, b: u16) -> bool
-    ensures { λ r. ⌜ r ≡ not (eqb (bitAnd a b) 0) ⌝ }
-{
-    a & b != 0
 }
 
 // The fluents that somebody of a crew knows, as a mask.

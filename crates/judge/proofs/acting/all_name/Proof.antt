@@ -16,4 +16,10 @@ returns : tie.Need-returns
 returns c = λ names others. joins-by names (c .before .before .args .action) (c .before .before .args .crew) (others (c .before .before .args .action) (c .before .before .fits .action .fits)) (c .share .ensures)
 
 pub all-name-spec : {M : Type 1} → statement M
-all-name-spec = tie.close (tie.spec mul-share element-copy-out-share share-requires returns)
+all-name-spec =
+    tie.close
+    (tie.spec
+    mul-share
+    element-copy-out-share
+    share-requires
+    returns)

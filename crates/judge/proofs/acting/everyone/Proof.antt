@@ -22,4 +22,11 @@ returns : tie.Need-returns
 returns c = omega (arith, limit-is (c .args .n) (c .pre), everyone-is 0 (c .args .n))
 
 pub everyone-spec : {M : Type 1} → statement M
-everyone-spec = tie.close (tie.spec cast-limit shl-limit sub-result cast-result returns)
+everyone-spec =
+    tie.close
+    (tie.spec
+    cast-limit
+    shl-limit
+    sub-result
+    cast-result
+    returns)

@@ -7,7 +7,7 @@ use native.Mathlib.Omega.{arith}
 use lib.ListN.{length, drop}
 use lib.Seq.{drop-append-le}
 use Rattle.bmap.specs.Number.{signedWord}
-use Rattle.bmap.specs.Tree.{Expr, Con, constant, fluent, two, one, reified, compared, joined, negated, occurs, always}
+use Rattle.bmap.specs.Tree.{Expr, Con, constant, fluent, two, one, reified, compared, joined, negated, occurs}
 use Rattle.bmap.specs.Code.{Code, expression, constraint, no-code, a-constant, a-fluent, of-two, of-one, a-reified, of-comparison, of-junction, a-negation, an-occurrence, a-truth}
 use Rattle.bmap.specs.Code.{Parsed, Parser, twoBytes, made, second, operand, operands, codeOf, exprAfter, conAfter, parseE, parseC}
 use Rattle.law.proofs.Used.{used-e, used-c}

@@ -107,7 +107,12 @@ fn all_name(others: &[u16; NAMES], action: u8, crew: u16) -> bool
 }
 
 // The first n entries, from the last to the first, so that each takes the lowest bit.
-pub(crate) fn who_acts(names: &[u8], actions: &[u8; Counts::ENTRIES], crews: &[u16; Counts::ENTRIES], n: usize) -> Acting
+pub(crate) fn who_acts(
+    names: &[u8],
+    actions: &[u8; Counts::ENTRIES],
+    crews: &[u16; Counts::ENTRIES],
+    n: usize,
+) -> Acting
     requires { ⌜ (length (now names) ≤ mostAgents) × ((n ≤ mostEntries) × ((n ≤ length (now actions)) × (n ≤ length (now crews)))) ⌝ }
     ensures { λ r. ⌜ r ≡ actingOf (now (names .entry)) (now (actions .entry)) (now (crews .entry)) n ⌝ }
 {

@@ -11,10 +11,6 @@ ghost use Rattle.bmap.specs.Judge.{each, placed, permits, permitted, mayOccur, 
 ghost use Rattle.number.specs.Answer.{truthOf};
 ghost use Rattle.judge.specs.Answer.{passOf, kindOf};
 ghost use Rattle.judge.specs.Told.{Belonging, Occurring, Says, Lawful, Owned, Within, Seen, lawNumber, scopeKind};
-use bmap::Counts;
-use bmap::LEVELS;
-use bmap::STORE;
-use bmap::Sheet;
 use crate::acting::has_agent;
 use crate::acting::has_entry;
 use crate::acting::wide;
@@ -22,6 +18,10 @@ use crate::held::FRAME;
 use crate::reading::constraint_of;
 use crate::verdict::Check;
 use crate::verdict::Fault;
+use bmap::Counts;
+use bmap::LEVELS;
+use bmap::STORE;
+use bmap::Sheet;
 use number::Truth;
 
 // 1: "each agent by number: it names an action but belongs to no occurring entry with that name". The mask has the agents

@@ -12,14 +12,14 @@ ghost use Rattle.bmap.specs.Meaning.{History};
 ghost use Rattle.bmap.specs.Judge.{settled};
 ghost use Rattle.judge.specs.Told.{Lawful, Within, Occurring, Seen};
 ghost use Rattle.judge.specs.Settings.{settledOf, countOf};
-use bmap::Counts;
-use bmap::LEVELS;
-use bmap::STORE;
-use bmap::Sheet;
 use crate::held::FRAME;
 use crate::reading::Wants;
 use crate::reading::wanted;
 use crate::verdict::Fault;
+use bmap::Counts;
+use bmap::LEVELS;
+use bmap::STORE;
+use bmap::Sheet;
 
 // So many settings, or the first fault and its law.
 pub enum Settled {

@@ -24,12 +24,7 @@ fn hold(held: &mut [u8; STORE], at: usize, frame: &[u8])
     }
 }
 
-pub(crate) fn hold_laws(
-    held: &mut [u8; STORE],
-    store: &[u8],
-    laws: &[u16; Counts::LAWS],
-    n: usize,
-)
+pub(crate) fn hold_laws(held: &mut [u8; STORE], store: &[u8], laws: &[u16; Counts::LAWS], n: usize)
     requires { ⌜ (length (now held) ≡ storeSize) × (n ≤ mostLaws) ⌝ }
     ensures { λ _. ⌜ (length (now (held .exit)) ≡ storeSize) × Held (now (store .entry)) (now (laws .entry)) n (now (held .exit)) ⌝ }
 {

@@ -10,10 +10,6 @@ ghost use Rattle.bmap.specs.Verdict.{judgement, judgeSheet};
 ghost use Rattle.index.specs.Index.{domainOf, Sound};
 ghost use Rattle.judge.specs.Answer.{answerOf, statesIn, statesWritten};
 ghost use Rattle.judge.specs.Prepared.{judgedOf};
-use bmap::LEVELS;
-use bmap::Refusal;
-use bmap::STORE;
-use bmap::Sheet;
 use crate::held::hold_laws;
 use crate::knowledge::all_knowers;
 use crate::knowledge::all_owners;
@@ -22,11 +18,21 @@ use crate::states::copy_states;
 use crate::steps::Ran;
 use crate::steps::run_sheet;
 use crate::verdict::Judgement;
+use bmap::LEVELS;
+use bmap::Refusal;
+use bmap::STORE;
+use bmap::Sheet;
 use domain::index_of;
 use index::Index;
 
 // What the checks need is found once: the laws, who knows what, whose laws count, where those of each kind stand.
-fn judge_steps(store: &[u8], index: Index, sheet: &[u8], n: usize, levels: &mut [i16; LEVELS]) -> Ran
+fn judge_steps(
+    store: &[u8],
+    index: Index,
+    sheet: &[u8],
+    n: usize,
+    levels: &mut [i16; LEVELS],
+) -> Ran
     requires { ⌜ Sound (now store) index × ((n ≤ mostSteps) × ((length (now sheet) ≡ n * index .counts .agents) × (length (now levels) ≡ levelsSize))) ⌝ }
     ensures { λ r. ⌜ ((r .reached ≤ mostSteps + 1) × (length (now (levels .exit)) ≡ levelsSize))
         × (judgedOf (index .counts .fluents) r (now (levels .exit)) ≡ judge (domainOf (now (store .entry)) index) (rows (index .counts .agents) n (now (sheet .entry)))) ⌝ }

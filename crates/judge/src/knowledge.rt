@@ -10,13 +10,13 @@ ghost use Rattle.bmap.specs.Limits.{mostAgents, mostFluents, mostLaws, storeSiz
 ghost use Rattle.bmap.specs.Domain.{Domain, Law};
 ghost use Rattle.judge.specs.Masks.{unionFrom, maskFrom};
 ghost use Rattle.judge.specs.Told.{Says, Lawful, Owned, Knowing, ownerOf};
-use bmap::Counts;
-use bmap::STORE;
 use crate::acting::pushed;
 use crate::acting::share;
 use crate::acting::taken_in;
 use crate::held::FRAME;
 use crate::reading::EXECUTABLE;
+use bmap::Counts;
+use bmap::STORE;
 
 // The owner of a law that does not count.
 const NOBODY: u8 = 255;

@@ -10,10 +10,10 @@ ghost use Rattle.bmap.specs.Judge.{Setting, stateAfter};
 ghost use Rattle.judge.specs.States.{stateAt, leaving, Kept};
 ghost use Rattle.judge.specs.Settings.{settingsOf};
 ghost use Rattle.judge.specs.Landing.{Ranged, Laid, ranged, fitOf};
-use bmap::Counts;
-use bmap::LEVELS;
 use crate::verdict::Check;
 use crate::verdict::Fault;
+use bmap::Counts;
+use bmap::LEVELS;
 
 // The levels of state j, wide enough for what an expression gives.
 fn old_levels(levels: &[i16; LEVELS], j: usize, w: usize) -> [i32; Counts::FLUENTS]

@@ -12,12 +12,12 @@ ghost use Rattle.number.specs.Answer.{truthOf};
 ghost use Rattle.judge.specs.Settings.{settingFrom};
 ghost use Rattle.judge.specs.Told.{Says, Seen, Occurring, Within, Ordered, frameOf, conOf, placeOf, asksOf};
 ghost use Rattle.judge.specs.Answer.{wantsOf};
-use bmap::LEVELS;
-use bmap::STORE;
-use bmap::Sheet;
 use crate::acting::has_entry;
 use crate::acting::wide;
 use crate::held::FRAME;
+use bmap::LEVELS;
+use bmap::STORE;
+use bmap::Sheet;
 use law::Evaluated;
 use law::Judged;
 use number::Truth;
@@ -58,7 +58,13 @@ pub enum Wants {
 }
 
 // A fluent and the expression after it.
-fn setting_at(held: &[u8; STORE], at: usize, levels: &[i16; LEVELS], occurred: &[u64; Sheet::STEPS + 1], j: usize) -> Wants
+fn setting_at(
+    held: &[u8; STORE],
+    at: usize,
+    levels: &[i16; LEVELS],
+    occurred: &[u64; Sheet::STEPS + 1],
+    j: usize,
+) -> Wants
     ensures { λ r. ⌜ (length (now (held .entry)) ≡ storeSize → wantsOf r ≡ settingFrom (getD (now (held .entry)) at 0) (valueAt mostDepth (now (held .entry)) (at + 1) (now (levels .entry)) (now (occurred .entry)) j)) ⌝ }
 {
     if STORE <= at {

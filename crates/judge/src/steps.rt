@@ -11,10 +11,6 @@ ghost use Rattle.judge.specs.Answer.{verdictOf};
 ghost use Rattle.judge.specs.States.{stateAt, statesOf, leaving, Kept};
 ghost use Rattle.judge.specs.Told.{Belonging, Occurring, Acted, Few};
 ghost use Rattle.judge.specs.Prepared.{Prepared, Entered, landed, judgedOf};
-use bmap::Counts;
-use bmap::LEVELS;
-use bmap::STORE;
-use bmap::Sheet;
 use crate::acting::Acting;
 use crate::acting::who_acts;
 use crate::checks::check_agents;
@@ -32,6 +28,10 @@ use crate::states::copy_levels;
 use crate::verdict::Check;
 use crate::verdict::Fault;
 use crate::verdict::Verdict;
+use bmap::Counts;
+use bmap::LEVELS;
+use bmap::STORE;
+use bmap::Sheet;
 
 // Checks 4 to 6: what the effect laws set, the new state as state j + 1, the static laws on it.
 fn land(

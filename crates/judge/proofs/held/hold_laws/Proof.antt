@@ -1,4 +1,4 @@
-use Prim.Native.Nat.{ℕ, _+_, _*_, _-_, _≤_}
+use Prim.Native.Nat.{_+_, _*_, _-_, _≤_}
 use mathlib.Core.Path.{_≡_, ap, _∙_}
 use native.Mathlib.Omega.{arith}
 use borrow.Author.Needs.{needs}
@@ -41,12 +41,12 @@ loop-again : tie.Need-loop-again Inv-loop μ-loop
 loop-again c = let s = c .before .before .before .before .before .before .before .args in let i = c .before .before .before .before .before .loop .i in
     let short = frame-short (s .store .now) (getD (s .laws .now) i 0) (c .before .before .before .before .before .before .shared-slice-known .given (getD (s .laws .now) i 0 + 1) .fits) in
     let as-long : length (c .before .law-at .result .now) ≡ length (frameBytes (s .store .now) (getD (s .laws .now) i 0)) = ap length (c .before .law-at .ensures) in (
-  omega arith,
-  (
-    ap length (c .hold .ensures) ∙ (length-paste (c .before .before .before .before .before .loop .held) (257 * i) (c .before .law-at .result .now) (length (c .before .law-at .result .now)) (omega (arith, short)) (omega arith) ∙ c .before .before .before .before .before .loop .inv .1 .0),
-    hold-more (s .store .now) (s .laws .now) (c .before .before .before .before .before .loop .held) i (c .before .before .before .before .before .loop .inv .1 .1) (c .before .law-at .ensures) (λ k. frame-short (s .store .now) (getD (s .laws .now) k 0) (c .before .before .before .before .before .before .shared-slice-known .given (getD (s .laws .now) k 0 + 1) .fits)) (omega arith) (c .hold .ensures),
-  ),
-)
+      omega arith,
+      (
+        ap length (c .hold .ensures) ∙ (length-paste (c .before .before .before .before .before .loop .held) (257 * i) (c .before .law-at .result .now) (length (c .before .law-at .result .now)) (omega (arith, short)) (omega arith) ∙ c .before .before .before .before .before .loop .inv .1 .0),
+        hold-more (s .store .now) (s .laws .now) (c .before .before .before .before .before .loop .held) i (c .before .before .before .before .before .loop .inv .1 .1) (c .before .law-at .ensures) (λ k. frame-short (s .store .now) (getD (s .laws .now) k 0) (c .before .before .before .before .before .before .shared-slice-known .given (getD (s .laws .now) k 0 + 1) .fits)) (omega arith) (c .hold .ensures),
+      ),
+    )
 
 returns : tie.Need-returns Inv-loop μ-loop
 returns c = (c .before .loop .inv .1 .0, λ k h. c .before .loop .inv .1 .1 k (omega arith))

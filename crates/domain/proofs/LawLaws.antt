@@ -17,8 +17,8 @@ use Rattle.bmap.specs.Domain.{Law, executable, effect, must, Scope, static, con
 use Rattle.bmap.specs.Payload.{byte, only, taken, last, below, conIn, exprIn, context, asks, executableIn, effectIn, mustIn, lawIn}
 use Rattle.bmap.specs.declared.limits.Counts.{Counts}
 use Rattle.law.specs.Check.{checked}
-use Rattle.law.specs.declared.check.Checked.{Checked}
-use Rattle.law.specs.declared.check.Checked.the-variants.{Next, Refused}
+use Rattle.law.specs.declared.checks.Checked.{Checked}
+use Rattle.law.specs.declared.checks.Checked.the-variants.{Next, Refused}
 use Rattle.domain.specs.Check.{isSome}
 
 -- ---- a tree to the end

@@ -19,9 +19,10 @@ use Rattle.bmap.specs.declared.Comparison.{Comparison}
 use Rattle.bmap.specs.declared.Comparison.the-variants.{Equal, Unequal, Less, AtMost, Greater, AtLeast}
 use Rattle.bmap.specs.declared.Junction.{Junction}
 use Rattle.bmap.specs.declared.Junction.the-variants.{And, Or}
-use Rattle.bmap.specs.Code.{Row, Code, expression, constraint, no-code, codes, found, codeOf}
+use Rattle.bmap.specs.Code.{Row, Code, expression, constraint, no-code, a-constant, a-fluent, of-two, of-one, a-reified, codes, found, codeOf}
 use Rattle.law.specs.declared.table.Node.the-variants.{Expression, Constraint, Refused}
 use Rattle.law.specs.declared.table.Shape.{Shape}
+use Rattle.law.specs.declared.table.Shape.the-variants as shape
 use Rattle.law.specs.Shape.{shapeOf, opened, operationOf, singleOf, comparisonOf, junctionOf}
 
 both-parts : (a b : Bool) → T (both a b) → T a × T b
@@ -183,6 +184,15 @@ the-and : (o : Junction) → T (is-and o) → And ≡ o
 the-and And t = refl
 the-and Or t = absurd t
 
+abbrev pub no-leaf : Code → Bool
+no-leaf (expression a-constant) = false
+no-leaf (expression a-fluent) = false
+no-leaf (expression (of-two o)) = true
+no-leaf (expression (of-one o)) = true
+no-leaf (expression a-reified) = true
+no-leaf (constraint c) = true
+no-leaf no-code = true
+
 module _ (b : ℕ) where
   pub else-sum : Outside (0x13 ∷ 0x14 ∷ 0x15 ∷ 0x16 ∷ []) b → Sum ≡ operationOf (codeOf b)
   unfolding codeOf
@@ -199,3 +209,16 @@ module _ (b : ℕ) where
   pub else-and : Outside (0x27 ∷ []) b → And ≡ junctionOf (codeOf b)
   unfolding codeOf
   else-and o = the-and (junctionOf (codeOf b)) (found-outside (λ c. is-and (junctionOf c)) (0x27 ∷ []) b o codes tt)
+
+  -- the codes that stand before a value, and before a fluent and a lag
+  pub code-10 : b ≡ 0x10 → Expression shape.Value ≡ opened (codeOf b)
+  unfolding codeOf
+  code-10 e = rw e
+
+  pub code-11 : b ≡ 0x11 → Expression shape.FluentLag ≡ opened (codeOf b)
+  unfolding codeOf
+  code-11 e = rw e
+
+  pub else-tree : Outside (0x10 ∷ 0x11 ∷ []) b → T (no-leaf (codeOf b))
+  unfolding codeOf
+  else-tree o = found-outside no-leaf (0x10 ∷ 0x11 ∷ []) b o codes tt

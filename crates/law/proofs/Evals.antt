@@ -6,9 +6,6 @@ use mathlib.Core.Option.{Option, none, some}
 use Prim.Native.Nat.{ℕ, _+_, _-_, _*_, _≤_, _<_}
 use native.Mathlib.Nat.{add-assoc}
 use native.Mathlib.Omega.{arith}
-use native.Mathlib.Decide.{ℕ-discrete}
-use types.Run.{OneOf}
-use denote.Enum.Declared.{tagOf}
 use mir.Syntax.{w16, w32}
 use mir.Val.{SFits, toZ, ofZ}
 use mir.Facts.{sfits-widen, toZ-ofZ}
@@ -24,16 +21,15 @@ use Rattle.bmap.specs.Number.{Valued, value, with1, with2, operate, change, com
 use Rattle.bmap.specs.Tree.{Expr, Con, constant, fluent, two, one, reified, compared, joined, negated, occurs}
 use Rattle.bmap.specs.Meaning.{evalE, evalC}
 use Rattle.bmap.specs.Code.{Code, Parsed, Parser, codeOf, made, second, operand, operands, twoBytes, parseE, parseC}
-use Rattle.law.specs.declared.table.Operand.the-variants as each
 use Rattle.law.specs.declared.table.Shape.{Shape}
+use Rattle.law.specs.declared.table.Shape.the-variants as shape
 use Rattle.law.specs.declared.table.Node.the-variants.{Expression, Constraint}
-use Rattle.law.specs.declared.table.Pair.the-variants.{Bytes, Short}
-use Rattle.law.specs.Shape.{opened, pairOf, operationOf, singleOf, comparisonOf, junctionOf}
+use Rattle.law.specs.Shape.{opened, operationOf, singleOf, comparisonOf, junctionOf}
 use Rattle.law.specs.Mask.{bit}
 use Rattle.law.specs.Evaluate.{Meant, malformed, gives, meant, onward, historyOf, valueAt, truthAt}
-use Rattle.law.proofs.table.Operand as operand-type
-use Rattle.law.proofs.Trees.{at-constant, at-fluent, at-reified, at-one, at-two, at-truth, at-occurrence, at-negation, at-junction, at-comparison, no-entry, no-other, no-pair, a-pair}
+use Rattle.law.proofs.Trees.{at-constant, at-fluent, at-reified, at-one, at-two, at-truth, at-occurrence, at-negation, at-junction, at-comparison, pair-short, pair-long, no-pair, a-pair}
 use Rattle.law.proofs.Bits.{no-bit}
+use Rattle.law.proofs.Codes.{code-10, code-11}
 
 -- The history: what was never written, and the step that code 29 looks at.
 pub no-level : (l : List ℤ) (k f : ℕ) → length l ≤ mostFluents * k + f → pos 0 ≡ getD l (mostFluents * k + f) (pos 0)
@@ -46,7 +42,7 @@ module _ (o : List ℕ) (j e t : ℕ) where
   pub before-steps : j < t → false ≡ both (leb t j) (bit (getD o (j + 1 - t) 0) e)
   before-steps h = rw (lt-leb t j h)
 
-  pub past-steps : t ≤ j → length o ≤ j - t → false ≡ both (leb t j) (bit (getD o (j + 1 - t) 0) e)
+  pub past-steps : t ≤ j → length o ≤ j - t + 1 → false ≡ both (leb t j) (bit (getD o (j + 1 - t) 0) e)
   past-steps h out = rw (le-leb t j h) (no-step o (j + 1 - t) e (omega arith))
 
   pub at-step : t ≤ j → bit (getD o (j - t + 1) 0) e ≡ both (leb t j) (bit (getD o (j + 1 - t) 0) e)
@@ -65,11 +61,11 @@ module _ {z : ℤ} (f : SFits w16 z) where
 
 -- The leaves.
 module _ {A : Type 0} (make : ℕ → ℕ → A) (s : List ℕ) (at : ℕ) where
-  pub leaf-none : Short ≡ pairOf (drop (at + 1) s) → malformed ≡ meant (λ v. v) at (twoBytes make (drop (at + 1) s))
-  leaf-none e = rw (no-pair make (drop (at + 1) s) e)
+  pub leaf-none : length s - at < 3 → malformed ≡ meant (λ v. v) at (twoBytes make (drop (at + 1) s))
+  leaf-none h = rw (no-pair make (drop (at + 1) s) (pair-short s at h))
 
-  pub leaf-gives : {a b : ℕ} {v : A} → Bytes a b ≡ pairOf (drop (at + 1) s) → v ≡ make a b → gives v (at + 3) ≡ meant (λ v. v) at (twoBytes make (drop (at + 1) s))
-  leaf-gives e q = rw (a-pair make (drop (at + 1) s) e, q)
+  pub leaf-gives : {v : A} → 3 ≤ length s - at → v ≡ make (getD s (at + 1) 0) (getD s (at + 2) 0) → gives v (at + 3) ≡ meant (λ v. v) at (twoBytes make (drop (at + 1) s))
+  leaf-gives h q = rw (a-pair make (drop (at + 1) s) (pair-long s at h), q)
 
 leaf-meant : {T A : Type 0} (f : T → A) (make : ℕ → ℕ → T) (at : ℕ) (l : List ℕ) → meant (λ v. v) at (twoBytes (λ a b. f (make a b)) l) ≡ meant f at (twoBytes make l)
 leaf-meant f make at [] = refl
@@ -143,73 +139,56 @@ module _ (s : List ℕ) (at d : ℕ) (l : List ℤ) (o : List ℕ) (j : ℕ) (ne
   abbrev part-c : ℕ → Meant (Valued Bool)
   part-c m = truthAt (d - 1) s m l o j
 
+  pub eval-constant : getD s at 0 ≡ 0x10 → meant (λ v. v) at (twoBytes (λ hi lo. value (signedWord hi lo)) (drop (at + 1) s)) ≡ whole-e
+  unfolding evalE
+  eval-constant e = rw (at-constant s at d ne lt (code-10 (getD s at 0) e) refl) (leaf-meant fe (λ hi lo. constant (signedWord hi lo)) at (drop (at + 1) s))
+
+  pub eval-fluent : getD s at 0 ≡ 0x11 → meant (λ v. v) at (twoBytes (λ f t. value (getD l (mostFluents * (j - t) + f) (pos 0))) (drop (at + 1) s)) ≡ whole-e
+  unfolding evalE
+  eval-fluent e = rw (at-fluent s at d ne lt (code-11 (getD s at 0) e) refl) (leaf-meant fe fluent at (drop (at + 1) s))
+
   module _ {sh : Shape} (p : Expression sh ≡ opened code) where
-    pub eval-constant : sh .each ≡ each.Value → meant (λ v. v) at (twoBytes (λ hi lo. value (signedWord hi lo)) (drop (at + 1) s)) ≡ whole-e
-    unfolding evalE
-    eval-constant q = rw (at-constant s at d ne lt p q) (leaf-meant fe (λ hi lo. constant (signedWord hi lo)) at (drop (at + 1) s))
-
-    pub eval-fluent : sh .each ≡ each.FluentLag → meant (λ v. v) at (twoBytes (λ f t. value (getD l (mostFluents * (j - t) + f) (pos 0))) (drop (at + 1) s)) ≡ whole-e
-    unfolding evalE
-    eval-fluent q = rw (at-fluent s at d ne lt p q) (leaf-meant fe fluent at (drop (at + 1) s))
-
-    pub eval-entry : sh .each ≡ each.EntryLag → malformed ≡ whole-e
-    eval-entry q = absurd (no-entry code p q)
-
-    pub eval-reified : sh .each ≡ each.Constraint → onward (with1 (λ b. value (flag b))) (part-c (at + 1)) ≡ whole-e
+    pub eval-reified : sh ≡ shape.Constraint → onward (with1 (λ b. value (flag b))) (part-c (at + 1)) ≡ whole-e
     unfolding evalE
     eval-reified q = rw (at-reified s at d ne lt p q) (one-meant fc fe pc s at reified (with1 (λ b. value (flag b))) (λ a. refl))
 
-    module _ (q : sh .each ≡ each.Expression) where
-      pub eval-one : sh .operands ≡ 1 → onward (with1 (change (singleOf code))) (part-e (at + 1)) ≡ whole-e
-      unfolding evalE
-      eval-one r = rw (at-one s at d ne lt p q r) (one-meant fe fe pe s at (one (singleOf code)) (with1 (change (singleOf code))) (λ a. refl))
+    pub eval-one : sh ≡ shape.Expression → onward (with1 (change (singleOf code))) (part-e (at + 1)) ≡ whole-e
+    unfolding evalE
+    eval-one q = rw (at-one s at d ne lt p q) (one-meant fe fe pe s at (one (singleOf code)) (with1 (change (singleOf code))) (λ a. refl))
 
-      pub eval-two : {v : Valued ℤ} {m : ℕ} → (sh .operands ≡ 1 → ⊥) → gives v m ≡ part-e (at + 1) → onward (with2 (operate (operationOf code)) v) (part-e m) ≡ whole-e
-      unfolding evalE
-      eval-two r e = rw (at-two s at d ne lt p q r) (then-second fe fe pe s at (two (operationOf code)) (with2 (operate (operationOf code))) (λ a b. refl) e)
+    pub eval-two : {v : Valued ℤ} {m : ℕ} → sh ≡ shape.Expressions → gives v m ≡ part-e (at + 1) → onward (with2 (operate (operationOf code)) v) (part-e m) ≡ whole-e
+    unfolding evalE
+    eval-two q e = rw (at-two s at d ne lt p q) (then-second fe fe pe s at (two (operationOf code)) (with2 (operate (operationOf code))) (λ a b. refl) e)
 
-      pub eval-first : malformed ≡ part-e (at + 1) → malformed ≡ whole-e
-      unfolding evalE
-      eval-first e =
-          elim (ℕ-discrete (sh .operands) 1) [
-            | yes r ↦ onward-none (with1 (change (singleOf code))) e ∙ eval-one r
-            | no r ↦ rw (at-two s at d ne lt p q r) (first-none fe fe pe s at (two (operationOf code)) (with2 (operate (operationOf code))) (λ a b. refl) e)
-          ]
+    pub eval-first : sh ≡ shape.Expressions → malformed ≡ part-e (at + 1) → malformed ≡ whole-e
+    unfolding evalE
+    eval-first q e = rw (at-two s at d ne lt p q) (first-none fe fe pe s at (two (operationOf code)) (with2 (operate (operationOf code))) (λ a b. refl) e)
 
   module _ {sh : Shape} (p : Constraint sh ≡ opened code) where
-    pub eval-truth : sh .operands ≡ 0 → gives (value true) (at + 1) ≡ whole-c
+    pub eval-truth : sh ≡ shape.Nothing → gives (value true) (at + 1) ≡ whole-c
     unfolding evalC
     eval-truth q = rw (at-truth s at d ne lt p q)
 
-    pub eval-occurrence : sh .each ≡ each.EntryLag → meant (λ v. v) at (twoBytes (λ e t. value (both (leb t j) (bit (getD o (j + 1 - t) 0) e))) (drop (at + 1) s)) ≡ whole-c
+    pub eval-occurrence : sh ≡ shape.EntryLag → meant (λ v. v) at (twoBytes (λ e t. value (both (leb t j) (bit (getD o (j + 1 - t) 0) e))) (drop (at + 1) s)) ≡ whole-c
     unfolding evalC
     eval-occurrence q = rw (at-occurrence s at d ne lt p q) (leaf-meant fc occurs at (drop (at + 1) s))
 
-    pub eval-other : OneOf (2 ∷ 3 ∷ []) (tagOf operand-type.the-type (sh .each)) → malformed ≡ whole-c
-    eval-other q = absurd (no-other code p q)
+    pub eval-negation : sh ≡ shape.Constraint → onward (with1 (λ x. value (not x))) (part-c (at + 1)) ≡ whole-c
+    unfolding evalC
+    eval-negation q = rw (at-negation s at d ne lt p q) (one-meant fc fc pc s at negated (with1 (λ x. value (not x))) (λ a. refl))
 
-    module _ (q : sh .each ≡ each.Constraint) where
-      pub eval-negation : sh .operands ≡ 1 → onward (with1 (λ x. value (not x))) (part-c (at + 1)) ≡ whole-c
-      unfolding evalC
-      eval-negation r = rw (at-negation s at d ne lt p q r) (one-meant fc fc pc s at negated (with1 (λ x. value (not x))) (λ a. refl))
+    pub eval-junction : {v : Valued Bool} {m : ℕ} → sh ≡ shape.Constraints → gives v m ≡ part-c (at + 1) → onward (with2 (λ x y. value (join (junctionOf code) x y)) v) (part-c m) ≡ whole-c
+    unfolding evalC
+    eval-junction q e = rw (at-junction s at d ne lt p q) (then-second fc fc pc s at (joined (junctionOf code)) (with2 (λ x y. value (join (junctionOf code) x y))) (λ a b. refl) e)
 
-      pub eval-junction : {v : Valued Bool} {m : ℕ} → (sh .operands ≡ 1 → ⊥) → gives v m ≡ part-c (at + 1) → onward (with2 (λ x y. value (join (junctionOf code) x y)) v) (part-c m) ≡ whole-c
-      unfolding evalC
-      eval-junction r e = rw (at-junction s at d ne lt p q r) (then-second fc fc pc s at (joined (junctionOf code)) (with2 (λ x y. value (join (junctionOf code) x y))) (λ a b. refl) e)
+    pub eval-first-c : sh ≡ shape.Constraints → malformed ≡ part-c (at + 1) → malformed ≡ whole-c
+    unfolding evalC
+    eval-first-c q e = rw (at-junction s at d ne lt p q) (first-none fc fc pc s at (joined (junctionOf code)) (with2 (λ x y. value (join (junctionOf code) x y))) (λ a b. refl) e)
 
-      pub eval-first-c : malformed ≡ part-c (at + 1) → malformed ≡ whole-c
-      unfolding evalC
-      eval-first-c e =
-          elim (ℕ-discrete (sh .operands) 1) [
-            | yes r ↦ onward-none (with1 (λ x. value (not x))) e ∙ eval-negation r
-            | no r ↦ rw (at-junction s at d ne lt p q r) (first-none fc fc pc s at (joined (junctionOf code)) (with2 (λ x y. value (join (junctionOf code) x y))) (λ a b. refl) e)
-          ]
+    pub eval-compared : {v : Valued ℤ} {m : ℕ} → sh ≡ shape.Expressions → gives v m ≡ part-e (at + 1) → onward (with2 (λ x y. value (compare (comparisonOf code) x y)) v) (part-e m) ≡ whole-c
+    unfolding evalC
+    eval-compared q e = rw (at-comparison s at d ne lt p q) (then-second fe fc pe s at (compared (comparisonOf code)) (with2 (λ x y. value (compare (comparisonOf code) x y))) (λ a b. refl) e)
 
-    module _ (q : sh .each ≡ each.Expression) (r : sh .operands ≡ 0 → ⊥) where
-      pub eval-compared : {v : Valued ℤ} {m : ℕ} → gives v m ≡ part-e (at + 1) → onward (with2 (λ x y. value (compare (comparisonOf code) x y)) v) (part-e m) ≡ whole-c
-      unfolding evalC
-      eval-compared e = rw (at-comparison s at d ne lt p q r) (then-second fe fc pe s at (compared (comparisonOf code)) (with2 (λ x y. value (compare (comparisonOf code) x y))) (λ a b. refl) e)
-
-      pub eval-first-e : malformed ≡ part-e (at + 1) → malformed ≡ whole-c
-      unfolding evalC
-      eval-first-e e = rw (at-comparison s at d ne lt p q r) (first-none fe fc pe s at (compared (comparisonOf code)) (with2 (λ x y. value (compare (comparisonOf code) x y))) (λ a b. refl) e)
+    pub eval-first-e : sh ≡ shape.Expressions → malformed ≡ part-e (at + 1) → malformed ≡ whole-c
+    unfolding evalC
+    eval-first-e q e = rw (at-comparison s at d ne lt p q) (first-none fe fc pe s at (compared (comparisonOf code)) (with2 (λ x y. value (compare (comparisonOf code) x y))) (λ a b. refl) e)

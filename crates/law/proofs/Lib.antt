@@ -1,7 +1,8 @@
 pub mod Codes
 pub mod Trees
 pub mod Bits
-pub mod Checks
+pub mod CheckLaws
+pub mod PackedLaws
 pub mod Evals
 pub mod Used
 pub mod Agree

@@ -12,7 +12,7 @@ use Rattle.number.specs.declared.Value.{Value}
 use Rattle.number.specs.declared.Truth.{Truth}
 use Rattle.number.specs.Answer.{valuedOf, truthOf}
 use Rattle.number.proofs.Theorems.{same-value, same-truth}
-use Rattle.law.specs.declared.check.Checked.the-variants.{Next, Refused}
+use Rattle.law.specs.declared.checks.Checked.the-variants.{Next, Refused}
 use Rattle.law.specs.declared.eval.Evaluated.{Evaluated}
 use Rattle.law.specs.declared.eval.Evaluated.the-variants as value-as
 use Rattle.law.specs.declared.eval.Judged.{Judged}

@@ -6,10 +6,10 @@ use Rattle.bmap.specs.Plain.{if-else, all}
 use Rattle.bmap.specs.Tree.{Expr, Con, allowedE, allowedC, namedE, namedC}
 use Rattle.bmap.specs.Code.{Parsed}
 use Rattle.law.specs.Mask.{bit}
-use Rattle.law.specs.declared.check.Checked.{Checked}
-use Rattle.law.specs.declared.check.Checked.the-variants.{Next, Refused}
-use Rattle.law.specs.declared.check.Test.{Test}
-use Rattle.law.specs.declared.check.Test.the-variants.{Allowed, Known}
+use Rattle.law.specs.declared.checks.Checked.{Checked}
+use Rattle.law.specs.declared.checks.Checked.the-variants.{Next, Refused}
+use Rattle.law.specs.declared.checks.Test.{Test}
+use Rattle.law.specs.declared.checks.Test.the-variants.{Allowed, Known}
 
 -- the place just after the tree that stands at `at`, where one stands there and passes
 module _ {T : Type 0} where

@@ -4,8 +4,9 @@ use mathlib.Core.Bool.{Bool}
 use mathlib.Core.List.{List}
 use mathlib.Core.Option.{Option, none, some}
 use lib.IntN.{ℤ, pos}
-use lib.ListN.{drop, getD}
-use Rattle.bmap.specs.Limits.{mostFluents}
+use mathlib.Core.Path.{_≡_}
+use lib.ListN.{length, drop, getD}
+use Rattle.bmap.specs.Limits.{mostFluents, mostSteps, storeSize, levelsSize}
 use Rattle.bmap.specs.Number.{Valued}
 use Rattle.bmap.specs.Meaning.{History, evalE, evalC}
 use Rattle.bmap.specs.Code.{Parsed, parseE, parseC}
@@ -29,6 +30,12 @@ historyOf levels occurred = record {
   level = λ k f. levelAt levels k f;
   occurred = λ e k. inStep occurred e k;
 }
+
+-- the lengths of what is lent
+pub record Lent (s : List ℕ) (levels : List ℤ) (occurred : List ℕ) : Type 0 where
+  pub store : length s ≡ storeSize
+  pub states : length levels ≡ levelsSize
+  pub steps : length occurred ≡ mostSteps + 1
 
 -- what a tree at a place means, with the place just after the tree; or no tree stands there
 pub data Meant (A : Type 0) : Type 0 where

@@ -4,3 +4,4 @@ pub mod Mask
 pub mod Check
 pub mod Names
 pub mod Evaluate
+pub mod Packed

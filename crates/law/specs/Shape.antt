@@ -10,29 +10,25 @@ use Rattle.bmap.specs.declared.Comparison.{Comparison}
 use Rattle.bmap.specs.declared.Comparison.the-variants.{Equal}
 use Rattle.bmap.specs.declared.Junction.{Junction}
 use Rattle.bmap.specs.declared.Junction.the-variants.{And}
-use Rattle.law.specs.declared.table.Operand.{Operand}
-use Rattle.law.specs.declared.table.Operand.the-variants as operand
 use Rattle.law.specs.declared.table.Shape.{Shape}
+use Rattle.law.specs.declared.table.Shape.the-variants as shape
 use Rattle.law.specs.declared.table.Node.{Node}
 use Rattle.law.specs.declared.table.Node.the-variants.{Expression, Constraint, Refused}
 use Rattle.law.specs.declared.table.Pair.{Pair}
 use Rattle.law.specs.declared.table.Pair.the-variants.{Bytes, Short}
 
-abbrev pub shape : ℕ → Operand → Shape
-shape n o = record { operands = n; each = o }
-
 abbrev pub shapeOf : Code → Shape
-shapeOf (expression a-constant) = shape 1 operand.Value
-shapeOf (expression a-fluent) = shape 1 operand.FluentLag
-shapeOf (expression (of-two o)) = shape 2 operand.Expression
-shapeOf (expression (of-one o)) = shape 1 operand.Expression
-shapeOf (expression a-reified) = shape 1 operand.Constraint
-shapeOf (constraint (of-comparison o)) = shape 2 operand.Expression
-shapeOf (constraint (of-junction o)) = shape 2 operand.Constraint
-shapeOf (constraint a-negation) = shape 1 operand.Constraint
-shapeOf (constraint an-occurrence) = shape 1 operand.EntryLag
-shapeOf (constraint a-truth) = shape 0 operand.Expression
-shapeOf no-code = shape 0 operand.Expression
+shapeOf (expression a-constant) = shape.Value
+shapeOf (expression a-fluent) = shape.FluentLag
+shapeOf (expression (of-two o)) = shape.Expressions
+shapeOf (expression (of-one o)) = shape.Expression
+shapeOf (expression a-reified) = shape.Constraint
+shapeOf (constraint (of-comparison o)) = shape.Expressions
+shapeOf (constraint (of-junction o)) = shape.Constraints
+shapeOf (constraint a-negation) = shape.Constraint
+shapeOf (constraint an-occurrence) = shape.EntryLag
+shapeOf (constraint a-truth) = shape.Nothing
+shapeOf no-code = shape.Nothing
 
 abbrev pub opened : Code → Node
 opened (expression c) = Expression (shapeOf (expression c))

@@ -1,26 +1,34 @@
 // The evaluator: what the tree at a place gives at position j of a history. The history is lent as it is kept: the
 // levels state after state, and for each step a mask of the entries that occurred in it.
 ghost use mathlib.Core.Path.{_≡_};
-ghost use Prim.Native.Nat.{_+_, _-_, _*_};
+ghost use mathlib.Core.Bool.{not};
+ghost use Prim.Native.Nat.{_+_, _-_, _*_, _≤_, _<_};
 ghost use lib.Dec.{leb};
-ghost use lib.ListN.{drop};
+ghost use lib.ListN.{length, drop};
 ghost use Rattle.bmap.specs.Plain.{both};
-ghost use Rattle.bmap.specs.Limits.{mostDepth};
-ghost use Rattle.bmap.specs.Number.{value, with1, with2, operate, compare, join, flag, signedWord};
+ghost use Rattle.bmap.specs.Limits.{mostDepth, mostSteps, storeSize, levelsSize};
+ghost use Rattle.bmap.specs.Number.{value, with1, with2, operate, change, compare, join, flag, signedWord};
 ghost use Rattle.bmap.specs.Code.{codeOf, twoBytes};
-ghost use Rattle.number.specs.Answer.{valuedOf, truthOf};
 ghost use Rattle.law.specs.Shape.{operationOf, singleOf, comparisonOf, junctionOf};
-ghost use Rattle.law.specs.Evaluate.{evaluated, judged, meant, onward, levelAt, inStep, valueAt, truthAt};
+ghost use Rattle.law.specs.Evaluate.{Lent, gives, evaluated, judged, meant, onward, levelAt, inStep, valueAt, truthAt};
+ghost use Rattle.law.specs.Packed.{valueIn, truthIn, evaluatedIn, judgedIn};
 use crate::mask::has_bit;
+use crate::packed::MALFORMED;
+use crate::packed::end_of;
+use crate::packed::truth_of;
+use crate::packed::value_of;
+use crate::packed::with_truth;
+use crate::packed::with_value;
 use crate::table::Node;
-use crate::table::Operand;
-use crate::table::Pair;
+use crate::table::Shape;
 use crate::table::opens;
-use crate::table::pair_after;
 use bmap::Comparison;
 use bmap::Counts;
 use bmap::Junction;
+use bmap::LEVELS;
 use bmap::Operation;
+use bmap::STORE;
+use bmap::Sheet;
 use bmap::Single;
 use number::Truth;
 use number::Value;
@@ -90,32 +98,21 @@ fn state_of(j: usize, lag: u8) -> usize
 }
 
 // The level of a fluent in a state; what was never written is 0.
-fn level(levels: &[i16], state: usize, f: u8) -> i16
+fn level(levels: &[i16; LEVELS], state: usize, f: u8) -> i16
+    requires { ⌜ length (now levels) ≡ levelsSize ⌝ }
     ensures { λ r. ⌜ r ≡ levelAt (now (levels .entry)) state f ⌝ }
 {
     let f = f as usize;
-    if levels.len() <= f {
-        return 0;
-    }
-    if state <= (levels.len() - 1 - f) / Counts::FLUENTS {
+    if state <= (LEVELS - 1 - f) / Counts::FLUENTS {
         levels[Counts::FLUENTS * state + f]
     } else {
         0
     }
 }
 
-// Whether an entry occurred in a step.
-fn in_step(occurred: &[u64], step: usize, e: u8) -> bool
-    ensures { λ r. ⌜ r ≡ inStep (now (occurred .entry)) e step ⌝ }
-{
-    if occurred.len() <= step {
-        return false;
-    }
-    has_bit(occurred[step], e)
-}
-
 // "Code 29 with lag t (0 to 63) looks at step j+1−t and is false before step 1."
-fn occurs(occurred: &[u64], j: usize, e: u8, lag: u8) -> bool
+fn occurs(occurred: &[u64; Sheet::STEPS + 1], j: usize, e: u8, lag: u8) -> bool
+    requires { ⌜ length (now occurred) ≡ mostSteps + 1 ⌝ }
     ensures { λ r. ⌜ r ≡ both (leb lag j) (inStep (now (occurred .entry)) e (j + 1 - lag)) ⌝ }
 {
     let t = lag as usize;
@@ -123,183 +120,249 @@ fn occurs(occurred: &[u64], j: usize, e: u8, lag: u8) -> bool
         return false; // before step 1
     }
     let before = j - t;
-    if occurred.len() <= before {
+    if Sheet::STEPS <= before {
         return false;
     }
-    in_step(occurred, before + 1, e)
+    has_bit(occurred[before + 1], e)
 }
 
 // A number of sixteen bits always has a value.
-fn value_of(z: i16) -> Value
-    ensures { λ r. ⌜ valuedOf r ≡ value z ⌝ }
+fn number_at(z: i16, end: usize) -> u64
+    requires { ⌜ (1 ≤ end) × (end < 2147483648) ⌝ }
+    ensures { λ r. ⌜ evaluatedIn r ≡ gives (value z) end ⌝ }
 {
-    Value::Number(z as i32)
+    with_value(Value::Number(z as i32), end)
 }
 
 // The leaves, whose code stands at a place.
-fn constant_in(s: &[u8], at: usize) -> Evaluated
-    ensures { λ r. ⌜ evaluated r ≡ meant (λ v. v) at (twoBytes (λ hi lo. value (signedWord hi lo)) (drop (at + 1) (now (s .entry)))) ⌝ }
+fn constant_in(s: &[u8; STORE], at: usize) -> u64
+    requires { ⌜ length (now s) ≡ storeSize ⌝ }
+    ensures { λ r. ⌜ evaluatedIn r ≡ meant (λ v. v) at (twoBytes (λ hi lo. value (signedWord hi lo)) (drop (at + 1) (now (s .entry)))) ⌝ }
 {
-    match pair_after(s, at) {
-        Pair::Bytes(high, low) => {
-            Evaluated::Gives(value_of(number::signed_word(high, low)), at + 3)
-        }
-        Pair::Short => Evaluated::Malformed,
+    if STORE - 2 <= at {
+        return MALFORMED;
     }
+    number_at(number::signed_word(s[at + 1], s[at + 2]), at + 3)
 }
 
-fn fluent_in(s: &[u8], at: usize, levels: &[i16], j: usize) -> Evaluated
-    ensures { λ r. ⌜ evaluated r ≡ meant (λ v. v) at (twoBytes (λ f t. value (levelAt (now (levels .entry)) (j - t) f)) (drop (at + 1) (now (s .entry)))) ⌝ }
+fn fluent_in(s: &[u8; STORE], at: usize, levels: &[i16; LEVELS], j: usize) -> u64
+    requires { ⌜ (length (now s) ≡ storeSize) × (length (now levels) ≡ levelsSize) ⌝ }
+    ensures { λ r. ⌜ evaluatedIn r ≡ meant (λ v. v) at (twoBytes (λ f t. value (levelAt (now (levels .entry)) (j - t) f)) (drop (at + 1) (now (s .entry)))) ⌝ }
 {
-    match pair_after(s, at) {
-        Pair::Bytes(f, lag) => {
-            Evaluated::Gives(value_of(level(levels, state_of(j, lag), f)), at + 3)
-        }
-        Pair::Short => Evaluated::Malformed,
+    if STORE - 2 <= at {
+        return MALFORMED;
     }
+    number_at(level(levels, state_of(j, s[at + 2]), s[at + 1]), at + 3)
 }
 
-fn occurrence_in(s: &[u8], at: usize, occurred: &[u64], j: usize) -> Judged
-    ensures { λ r. ⌜ judged r ≡ meant (λ v. v) at (twoBytes (λ e t. value (both (leb t j) (inStep (now (occurred .entry)) e (j + 1 - t)))) (drop (at + 1) (now (s .entry)))) ⌝ }
+fn occurrence_in(s: &[u8; STORE], at: usize, occurred: &[u64; Sheet::STEPS + 1], j: usize) -> u64
+    requires { ⌜ (length (now s) ≡ storeSize) × (length (now occurred) ≡ mostSteps + 1) ⌝ }
+    ensures { λ r. ⌜ judgedIn r ≡ meant (λ v. v) at (twoBytes (λ e t. value (both (leb t j) (inStep (now (occurred .entry)) e (j + 1 - t)))) (drop (at + 1) (now (s .entry)))) ⌝ }
 {
-    match pair_after(s, at) {
-        Pair::Bytes(e, lag) => Judged::Gives(Truth::Is(occurs(occurred, j, e, lag)), at + 3),
-        Pair::Short => Judged::Malformed,
+    if STORE - 2 <= at {
+        return MALFORMED;
     }
+    with_truth(Truth::Is(occurs(occurred, j, s[at + 1], s[at + 2])), at + 3)
 }
 
 // "19 reified constraint": what the constraint gives, as a number.
-fn reified_of(t: Judged) -> Evaluated
-    ensures { λ r. ⌜ evaluated r ≡ onward (with1 (λ b. value (flag b))) (judged t) ⌝ }
+fn reified_of(t: u64) -> u64
+    ensures { λ r. ⌜ evaluatedIn r ≡ onward (with1 (λ b. value (flag b))) (judgedIn t) ⌝ }
 {
-    match t {
-        Judged::Gives(b, end) => Evaluated::Gives(number::reified(b), end),
-        Judged::Malformed => Evaluated::Malformed,
+    let end = end_of(t);
+    if end == 0 {
+        return MALFORMED;
     }
+    with_value(number::reified(truth_of(t)), end)
+}
+
+// An operator on one operand.
+fn changed_of(code: u8, a: u64) -> u64
+    ensures { λ r. ⌜ evaluatedIn r ≡ onward (with1 (change (singleOf (codeOf code)))) (evaluatedIn a) ⌝ }
+{
+    let end = end_of(a);
+    if end == 0 {
+        return MALFORMED;
+    }
+    with_value(number::change(single_of(code), value_of(a)), end)
+}
+
+fn negated_of(a: u64) -> u64
+    ensures { λ r. ⌜ judgedIn r ≡ onward (with1 (λ x. value (not x))) (judgedIn a) ⌝ }
+{
+    let end = end_of(a);
+    if end == 0 {
+        return MALFORMED;
+    }
+    with_truth(number::negate(truth_of(a)), end)
 }
 
 // An operator on a first operand and on what stands after it. "and" and "or" read both sides.
-fn operated_of(code: u8, a: Value, second: Evaluated) -> Evaluated
-    ensures { λ r. ⌜ evaluated r ≡ onward (with2 (operate (operationOf (codeOf code))) (valuedOf a)) (evaluated second) ⌝ }
+fn operated_of(code: u8, a: u64, b: u64) -> u64
+    ensures { λ r. ⌜ evaluatedIn r ≡ onward (with2 (operate (operationOf (codeOf code))) (valueIn a)) (evaluatedIn b) ⌝ }
 {
-    match second {
-        Evaluated::Gives(b, end) => {
-            Evaluated::Gives(number::operate(operation_of(code), a, b), end)
-        }
-        Evaluated::Malformed => Evaluated::Malformed,
+    let end = end_of(b);
+    if end == 0 {
+        return MALFORMED;
     }
+    with_value(
+        number::operate(operation_of(code), value_of(a), value_of(b)),
+        end,
+    )
 }
 
-fn compared_of(code: u8, a: Value, second: Evaluated) -> Judged
-    ensures { λ r. ⌜ judged r ≡ onward (with2 (λ x y. value (compare (comparisonOf (codeOf code)) x y)) (valuedOf a)) (evaluated second) ⌝ }
+fn compared_of(code: u8, a: u64, b: u64) -> u64
+    ensures { λ r. ⌜ judgedIn r ≡ onward (with2 (λ x y. value (compare (comparisonOf (codeOf code)) x y)) (valueIn a)) (evaluatedIn b) ⌝ }
 {
-    match second {
-        Evaluated::Gives(b, end) => {
-            Judged::Gives(number::compare(comparison_of(code), a, b), end)
-        }
-        Evaluated::Malformed => Judged::Malformed,
+    let end = end_of(b);
+    if end == 0 {
+        return MALFORMED;
     }
+    with_truth(
+        number::compare(comparison_of(code), value_of(a), value_of(b)),
+        end,
+    )
 }
 
-fn joined_of(code: u8, a: Truth, second: Judged) -> Judged
-    ensures { λ r. ⌜ judged r ≡ onward (with2 (λ x y. value (join (junctionOf (codeOf code)) x y)) (truthOf a)) (judged second) ⌝ }
+fn joined_of(code: u8, a: u64, b: u64) -> u64
+    ensures { λ r. ⌜ judgedIn r ≡ onward (with2 (λ x y. value (join (junctionOf (codeOf code)) x y)) (truthIn a)) (judgedIn b) ⌝ }
 {
-    match second {
-        Judged::Gives(b, end) => Judged::Gives(number::join(junction_of(code), a, b), end),
-        Judged::Malformed => Judged::Malformed,
+    let end = end_of(b);
+    if end == 0 {
+        return MALFORMED;
     }
+    with_truth(
+        number::join(junction_of(code), truth_of(a), truth_of(b)),
+        end,
+    )
 }
 
-// An expression with so much depth left.
+// An expression with so much depth left. The leaves are most of a tree: their codes are looked at before the table.
 fn value_in(
-    s: &[u8],
+    s: &[u8; STORE],
     at: usize,
     depth: usize,
-    levels: &[i16],
-    occurred: &[u64],
+    levels: &[i16; LEVELS],
+    occurred: &[u64; Sheet::STEPS + 1],
     j: usize,
-) -> Evaluated
-    ensures { λ r. ⌜ evaluated r ≡ valueAt depth (now (s .entry)) at (now (levels .entry)) (now (occurred .entry)) j ⌝ }
+) -> u64
+    requires { ⌜ Lent (now s) (now levels) (now occurred) ⌝ }
+    ensures { λ r. ⌜ evaluatedIn r ≡ valueAt depth (now (s .entry)) at (now (levels .entry)) (now (occurred .entry)) j ⌝ }
 {
     if depth == 0 {
-        return Evaluated::Malformed;
+        return MALFORMED;
     }
-    if s.len() <= at {
-        return Evaluated::Malformed;
+    if STORE <= at {
+        return MALFORMED;
     }
     let code = s[at];
+    if code == 0x10 {
+        return constant_in(s, at);
+    }
+    if code == 0x11 {
+        return fluent_in(s, at, levels, j);
+    }
     let Node::Expression(shape) = opens(code) else {
-        return Evaluated::Malformed;
+        return MALFORMED;
     };
-    let each = shape.each;
-    match each {
-        Operand::Value => constant_in(s, at),
-        Operand::FluentLag => fluent_in(s, at, levels, j),
-        Operand::EntryLag => Evaluated::Malformed,
-        Operand::Constraint => reified_of(truth_in(s, at + 1, depth - 1, levels, occurred, j)),
-        Operand::Expression => {
-            let Evaluated::Gives(a, next) = value_in(s, at + 1, depth - 1, levels, occurred, j)
-            else {
-                return Evaluated::Malformed;
-            };
-            if shape.operands == 1 {
-                return Evaluated::Gives(number::change(single_of(code), a), next);
+    match shape {
+        Shape::Constraint => reified_of(truth_in(s, at + 1, depth - 1, levels, occurred, j)),
+        Shape::Expression => changed_of(code, value_in(s, at + 1, depth - 1, levels, occurred, j)),
+        Shape::Expressions => {
+            let a = value_in(s, at + 1, depth - 1, levels, occurred, j);
+            let next = end_of(a);
+            if next == 0 {
+                return MALFORMED;
             }
             operated_of(code, a, value_in(s, next, depth - 1, levels, occurred, j))
         }
+        _ => MALFORMED,
     }
 }
 
 // A constraint with so much depth left.
-fn truth_in(s: &[u8], at: usize, depth: usize, levels: &[i16], occurred: &[u64], j: usize) -> Judged
-    ensures { λ r. ⌜ judged r ≡ truthAt depth (now (s .entry)) at (now (levels .entry)) (now (occurred .entry)) j ⌝ }
+fn truth_in(
+    s: &[u8; STORE],
+    at: usize,
+    depth: usize,
+    levels: &[i16; LEVELS],
+    occurred: &[u64; Sheet::STEPS + 1],
+    j: usize,
+) -> u64
+    requires { ⌜ Lent (now s) (now levels) (now occurred) ⌝ }
+    ensures { λ r. ⌜ judgedIn r ≡ truthAt depth (now (s .entry)) at (now (levels .entry)) (now (occurred .entry)) j ⌝ }
 {
     if depth == 0 {
-        return Judged::Malformed;
+        return MALFORMED;
     }
-    if s.len() <= at {
-        return Judged::Malformed;
+    if STORE <= at {
+        return MALFORMED;
     }
     let code = s[at];
     let Node::Constraint(shape) = opens(code) else {
-        return Judged::Malformed;
+        return MALFORMED;
     };
-    if shape.operands == 0 {
-        return Judged::Gives(Truth::Is(true), at + 1);
-    }
-    let each = shape.each;
-    match each {
-        Operand::EntryLag => occurrence_in(s, at, occurred, j),
-        Operand::Constraint => {
-            let Judged::Gives(a, next) = truth_in(s, at + 1, depth - 1, levels, occurred, j) else {
-                return Judged::Malformed;
-            };
-            if shape.operands == 1 {
-                return Judged::Gives(number::negate(a), next);
+    match shape {
+        Shape::Nothing => with_truth(Truth::Is(true), at + 1),
+        Shape::EntryLag => occurrence_in(s, at, occurred, j),
+        Shape::Constraint => negated_of(truth_in(s, at + 1, depth - 1, levels, occurred, j)),
+        Shape::Constraints => {
+            let a = truth_in(s, at + 1, depth - 1, levels, occurred, j);
+            let next = end_of(a);
+            if next == 0 {
+                return MALFORMED;
             }
             joined_of(code, a, truth_in(s, next, depth - 1, levels, occurred, j))
         }
-        Operand::Expression => {
-            let Evaluated::Gives(a, next) = value_in(s, at + 1, depth - 1, levels, occurred, j)
-            else {
-                return Judged::Malformed;
-            };
+        Shape::Expressions => {
+            let a = value_in(s, at + 1, depth - 1, levels, occurred, j);
+            let next = end_of(a);
+            if next == 0 {
+                return MALFORMED;
+            }
             compared_of(code, a, value_in(s, next, depth - 1, levels, occurred, j))
         }
-        _ => Judged::Malformed,
+        _ => MALFORMED,
     }
 }
 
+// The lengths that the types say are told to a proof where an array is lent as a slice. Nothing is done.
+fn lent(_s: &[u8], _levels: &[i16], _occurred: &[u64]) {}
+
 // The expression at a place.
-pub fn expression_at(s: &[u8], at: usize, levels: &[i16], occurred: &[u64], j: usize) -> Evaluated
+pub fn expression_at(
+    s: &[u8; STORE],
+    at: usize,
+    levels: &[i16; LEVELS],
+    occurred: &[u64; Sheet::STEPS + 1],
+    j: usize,
+) -> Evaluated
     ensures { λ r. ⌜ evaluated r ≡ valueAt mostDepth (now (s .entry)) at (now (levels .entry)) (now (occurred .entry)) j ⌝ }
 {
-    value_in(s, at, bmap::DEPTH, levels, occurred, j)
+    lent(s, levels, occurred);
+    let word = value_in(s, at, bmap::DEPTH, levels, occurred, j);
+    let end = end_of(word);
+    if end == 0 {
+        return Evaluated::Malformed;
+    }
+    Evaluated::Gives(value_of(word), end)
 }
 
 // The constraint at a place.
-pub fn constraint_at(s: &[u8], at: usize, levels: &[i16], occurred: &[u64], j: usize) -> Judged
+pub fn constraint_at(
+    s: &[u8; STORE],
+    at: usize,
+    levels: &[i16; LEVELS],
+    occurred: &[u64; Sheet::STEPS + 1],
+    j: usize,
+) -> Judged
     ensures { λ r. ⌜ judged r ≡ truthAt mostDepth (now (s .entry)) at (now (levels .entry)) (now (occurred .entry)) j ⌝ }
 {
-    truth_in(s, at, bmap::DEPTH, levels, occurred, j)
+    lent(s, levels, occurred);
+    let word = truth_in(s, at, bmap::DEPTH, levels, occurred, j);
+    let end = end_of(word);
+    if end == 0 {
+        return Judged::Malformed;
+    }
+    Judged::Gives(truth_of(word), end)
 }

@@ -1,16 +1,17 @@
 // Expressions and constraints where they stand in bytes, as laws hold them. `table` says what each code opens and how many
-// operands follow; by it `check` accepts a tree and finds its end, `names` asks which fluents it names, and `eval` says what
+// operands follow; by it `checks` accepts a tree and finds its end, `names` asks which fluents it names, and `eval` says what
 // it gives at a position of a history. Expressions hold constraints and constraints expressions, so the functions of
 // each call each other, with less depth left.
-mod check;
+mod checks;
 mod eval;
 mod mask;
 mod names;
+mod packed;
 mod table;
 
-pub use check::Checked;
-pub use check::check_constraint;
-pub use check::check_expression;
+pub use checks::Checked;
+pub use checks::check_constraint;
+pub use checks::check_expression;
 pub use eval::Evaluated;
 pub use eval::Judged;
 pub use eval::constraint_at;

@@ -4,9 +4,9 @@ ghost use lib.ListN.{drop};
 ghost use Rattle.bmap.specs.Limits.{mostDepth};
 ghost use Rattle.bmap.specs.Code.{parseC};
 ghost use Rattle.law.specs.Names.{namesOnly};
-use crate::check::Checked;
-use crate::check::Test;
-use crate::check::constraint_in;
+use crate::checks::Checked;
+use crate::checks::Test;
+use crate::checks::constraint_in;
 
 // Whether every fluent that the constraint names has its bit in the mask: the checker, with this for its test.
 pub fn names_only(s: &[u8], at: usize, mask: u32) -> bool

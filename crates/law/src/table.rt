@@ -6,19 +6,16 @@ ghost use lib.ListN.{drop};
 ghost use Rattle.bmap.specs.Code.{codeOf};
 ghost use Rattle.law.specs.Shape.{shapeOf, opened, pairOf};
 
-// What an operand is: a tree of its own, or two bytes.
-pub enum Operand {
-    Expression,
-    Constraint,
+// What follows a code, count and sort in one word: nothing, two bytes, or one or two trees.
+pub enum Shape {
+    Nothing,
     Value,
     FluentLag,
     EntryLag,
-}
-
-// What follows a code: so many operands of one sort.
-pub struct Shape {
-    pub operands: u8,
-    pub each: Operand,
+    Expression,
+    Expressions,
+    Constraint,
+    Constraints,
 }
 
 // What a code byte opens, with what follows it.
@@ -28,77 +25,37 @@ pub enum Node {
     Refused,
 }
 
-const NONE: Shape = Shape {
-    operands: 0,
-    each: Operand::Expression,
-};
-
-const VALUE: Shape = Shape {
-    operands: 1,
-    each: Operand::Value,
-};
-
-const FLUENT: Shape = Shape {
-    operands: 1,
-    each: Operand::FluentLag,
-};
-
-const ENTRY: Shape = Shape {
-    operands: 1,
-    each: Operand::EntryLag,
-};
-
-const EXPRESSION: Shape = Shape {
-    operands: 1,
-    each: Operand::Expression,
-};
-
-const EXPRESSIONS: Shape = Shape {
-    operands: 2,
-    each: Operand::Expression,
-};
-
-const CONSTRAINT: Shape = Shape {
-    operands: 1,
-    each: Operand::Constraint,
-};
-
-const CONSTRAINTS: Shape = Shape {
-    operands: 2,
-    each: Operand::Constraint,
-};
-
 // Code by code, from the first.
 const FIRST: u8 = 0x10;
 
 const SHAPES: [Shape; 27] = [
-    VALUE, // 10 constant
-    FLUENT, // 11 fluent, lag
-    EXPRESSIONS, // 12 sum
-    EXPRESSIONS, // 13 difference
-    EXPRESSIONS, // 14 product
-    EXPRESSIONS, // 15 quotient
-    EXPRESSIONS, // 16 remainder
-    EXPRESSION, // 17 negation
-    EXPRESSION, // 18 absolute value
-    CONSTRAINT, // 19 reified constraint
-    NONE, // 1A no code
-    NONE, // 1B no code
-    NONE, // 1C no code
-    NONE, // 1D no code
-    NONE, // 1E no code
-    NONE, // 1F no code
-    EXPRESSIONS, // 20 =
-    EXPRESSIONS, // 21 ≠
-    EXPRESSIONS, // 22 <
-    EXPRESSIONS, // 23 ≤
-    EXPRESSIONS, // 24 >
-    EXPRESSIONS, // 25 ≥
-    CONSTRAINTS, // 26 and
-    CONSTRAINTS, // 27 or
-    CONSTRAINT, // 28 not
-    ENTRY, // 29 entry, lag
-    NONE, // 2A true
+    Shape::Value, // 10 constant
+    Shape::FluentLag, // 11 fluent, lag
+    Shape::Expressions, // 12 sum
+    Shape::Expressions, // 13 difference
+    Shape::Expressions, // 14 product
+    Shape::Expressions, // 15 quotient
+    Shape::Expressions, // 16 remainder
+    Shape::Expression, // 17 negation
+    Shape::Expression, // 18 absolute value
+    Shape::Constraint, // 19 reified constraint
+    Shape::Nothing, // 1A no code
+    Shape::Nothing, // 1B no code
+    Shape::Nothing, // 1C no code
+    Shape::Nothing, // 1D no code
+    Shape::Nothing, // 1E no code
+    Shape::Nothing, // 1F no code
+    Shape::Expressions, // 20 =
+    Shape::Expressions, // 21 ≠
+    Shape::Expressions, // 22 <
+    Shape::Expressions, // 23 ≤
+    Shape::Expressions, // 24 >
+    Shape::Expressions, // 25 ≥
+    Shape::Constraints, // 26 and
+    Shape::Constraints, // 27 or
+    Shape::Constraint, // 28 not
+    Shape::EntryLag, // 29 entry, lag
+    Shape::Nothing, // 2A true
 ];
 
 // What follows a code of the table.

@@ -1,39 +1,37 @@
 -- The one proof of the cycle {truth_in, value_in}: each calls both with one level less. Assumes nothing.
 use mathlib.Core.Path.{sym, ap, _∙_}
+use Prim.Native.Nat.{ℕ, _≤_, _<_}
 use native.Mathlib.Omega.{arith}
 use borrow.Author.Needs.{needs}
-use mathlib.Core.Bool.{not}
-use lib.ListN.{getD}
-use Rattle.bmap.specs.declared.Single.{Single}
-use Rattle.bmap.specs.Number.{value, with1, change}
-use Rattle.bmap.specs.Meaning.{evalE, evalC}
-use Rattle.bmap.specs.Code.{codeOf}
-use Rattle.number.specs.Answer.{valuedOf}
-use Rattle.law.specs.Shape.{singleOf}
-use Rattle.law.specs.Evaluate.{evaluated, judged, onward, historyOf}
-use Rattle.law.proofs.Trees.{deep-e, deep-c, end-e, end-c, no-expression, no-constraint}
-use Rattle.law.proofs.Evals.{nothing-there, onward-gives, eval-constant, eval-fluent, eval-entry, eval-reified, eval-one, eval-two, eval-first}
-use Rattle.law.proofs.Evals.{eval-truth, eval-occurrence, eval-other, eval-negation, eval-junction, eval-first-c, eval-compared, eval-first-e}
-use Prim.Native.Nat.{ℕ, _<_}
 use borrow.Fn.Kinds.{In}
 use borrow.Fn.PlainCycle.{Measures, is, falls, and}
+use lib.ListN.{length, getD}
+use Rattle.bmap.specs.Meaning.{evalE, evalC}
+use Rattle.law.specs.Evaluate.{onward, historyOf}
+use Rattle.law.specs.Packed.{valueIn, truthIn}
+use Rattle.law.proofs.Codes.{else-tree}
+use Rattle.law.proofs.Trees.{deep-e, deep-c, end-e, end-c, no-expression, no-constraint, other-tree, other-c}
+use Rattle.law.proofs.PackedLaws.{ends-nowhere, ends-there}
+use Rattle.law.proofs.Evals.{nothing-there, eval-constant, eval-fluent, eval-reified, eval-one, eval-two, eval-first}
+use Rattle.law.proofs.Evals.{eval-truth, eval-occurrence, eval-negation, eval-junction, eval-first-c, eval-compared, eval-first-e}
 use Rattle.law.proofs.eval.truth_in.Reads as truth-in
 use Rattle.law.proofs.eval.truth_in.Kinds as truth-in-kinds
 use Rattle.law.proofs.eval.+truth_in+value_in.Lts-truth_in as truth-in-lts
 use Rattle.law.proofs.eval.value_in.Reads as value-in
 use Rattle.law.proofs.eval.value_in.Kinds as value-in-kinds
 use Rattle.law.proofs.eval.+truth_in+value_in.Lts-value_in as value-in-lts
+use Rattle.law.proofs.eval.changed_of.Reads as changed-of-reads
 use Rattle.law.proofs.eval.compared_of.Reads as compared-of-reads
 use Rattle.law.proofs.eval.constant_in.Reads as constant-in-reads
 use Rattle.law.proofs.eval.fluent_in.Reads as fluent-in-reads
 use Rattle.law.proofs.eval.joined_of.Reads as joined-of-reads
+use Rattle.law.proofs.eval.negated_of.Reads as negated-of-reads
 use Rattle.law.proofs.eval.occurrence_in.Reads as occurrence-in-reads
 use Rattle.law.proofs.eval.operated_of.Reads as operated-of-reads
 use Rattle.law.proofs.eval.reified_of.Reads as reified-of-reads
-use Rattle.law.proofs.eval.single_of.Reads as single-of-reads
+use Rattle.law.proofs.packed.end_of.Reads as end-of-reads
+use Rattle.law.proofs.packed.with_truth.Reads as with-truth-reads
 use Rattle.law.proofs.table.opens.Reads as opens-reads
-use Rattle.number.proofs.change.Reads as change-reads
-use Rattle.number.proofs.negate.Reads as negate-reads
 use Rattle.law.proofs.eval.+truth_in+value_in.{statement}
 use Rattle.law.proofs.eval.+truth_in+value_in.Tie.{close}
 
@@ -58,132 +56,153 @@ module _ (t : ℕ) where
   value-in-below = and 3 value-in-kinds.ps (falls 3 value-in-kinds.ps _<_ μ-value-in t) value-in.Pre
 
   abbrev by-truth-in : truth-in-lts.Claims
-  by-truth-in = (opens-reads.Asked, opens-reads.Learnt, occurrence-in-reads.Asked, occurrence-in-reads.Learnt, truth-in-below, truth-in.Post, negate-reads.Asked, negate-reads.Learnt, joined-of-reads.Asked, joined-of-reads.Learnt, value-in-below, value-in.Post, compared-of-reads.Asked, compared-of-reads.Learnt)
+  by-truth-in = (opens-reads.Asked, opens-reads.Learnt, with-truth-reads.Asked, with-truth-reads.Learnt, occurrence-in-reads.Asked, occurrence-in-reads.Learnt, truth-in-below, truth-in.Post, negated-of-reads.Asked, negated-of-reads.Learnt, end-of-reads.Asked, end-of-reads.Learnt, joined-of-reads.Asked, joined-of-reads.Learnt, value-in-below, value-in.Post, compared-of-reads.Asked, compared-of-reads.Learnt)
 
   abbrev by-value-in : value-in-lts.Claims
-  by-value-in = (opens-reads.Asked, opens-reads.Learnt, constant-in-reads.Asked, constant-in-reads.Learnt, fluent-in-reads.Asked, fluent-in-reads.Learnt, truth-in-below, truth-in.Post, reified-of-reads.Asked, reified-of-reads.Learnt, value-in-below, value-in.Post, single-of-reads.Asked, single-of-reads.Learnt, change-reads.Asked, change-reads.Learnt, operated-of-reads.Asked, operated-of-reads.Learnt)
+  by-value-in = (constant-in-reads.Asked, constant-in-reads.Learnt, fluent-in-reads.Asked, fluent-in-reads.Learnt, opens-reads.Asked, opens-reads.Learnt, truth-in-below, truth-in.Post, reified-of-reads.Asked, reified-of-reads.Learnt, value-in-below, value-in.Post, changed-of-reads.Asked, changed-of-reads.Learnt, end-of-reads.Asked, end-of-reads.Learnt, operated-of-reads.Asked, operated-of-reads.Learnt)
 
   truth-in-returns : truth-in-lts.Need-returns by-truth-in truth-in-at truth-in.Post
   truth-in-returns c =
-      let a = c .before .before .before .args in
+      let a = c .before .args in
       nothing-there (λ t. evalC t (historyOf (a .levels .now) (a .occurred .now)) (a .j)) (a .at) (deep-c (a .s .now) (a .at) (a .depth) (c .if1 .taken))
 
   truth-in-returns-2 : truth-in-lts.Need-returns-2 by-truth-in truth-in-at truth-in.Post
   truth-in-returns-2 c =
-      let a = c .before .before .before .before .args in
-      nothing-there (λ t. evalC t (historyOf (a .levels .now) (a .occurred .now)) (a .j)) (a .at) (end-c (a .s .now) (a .at) (a .depth) (c .if2 .taken))
+      let k = c .before .before in
+      let a = k .args in
+      let past : length (a .s .now) ≤ a .at = omega (arith, k .pre .1 .store, c .if2 .taken) in
+      nothing-there (λ t. evalC t (historyOf (a .levels .now) (a .occurred .now)) (a .j)) (a .at) (end-c (a .s .now) (a .at) (a .depth) past)
 
   truth-in-returns-3 : truth-in-lts.Need-returns-3 by-truth-in truth-in-at truth-in.Post
   truth-in-returns-3 c =
-      let k = c .before in
-      let a = k .before .before .before .before .before .before .args in
-      nothing-there (λ t. evalC t (historyOf (a .levels .now) (a .occurred .now)) (a .j)) (a .at) (no-constraint (a .s .now) (a .at) (a .depth) (k .before .before .before .if1 .left) (k .before .before .if2 .left) _ (k .opens .ensures) (c .match .keys2))
+      let k = c .before .before .before .before .before in
+      let a = k .args in
+      let lt : a .at < length (a .s .now) = omega (arith, k .pre .1 .store, c .before .before .before .if2 .left) in
+      nothing-there (λ t. evalC t (historyOf (a .levels .now) (a .occurred .now)) (a .j)) (a .at) (no-constraint (a .s .now) (a .at) (a .depth) (c .before .before .before .before .if1 .left) lt _ (c .before .opens .ensures) (c .match .keys2))
 
   truth-in-returns-4 : truth-in-lts.Need-returns-4 by-truth-in truth-in-at truth-in.Post
   truth-in-returns-4 c =
-      let k = c .before .before .before .before .before in
-      let a = k .before .before .before .before .before .before .args in
-      eval-truth (a .s .now) (a .at) (a .depth) (a .levels .now) (a .occurred .now) (a .j) (k .before .before .before .if1 .left) (k .before .before .if2 .left) (sym (c .before .before .before .shape .given .1) ∙ k .opens .ensures) (c .if3 .taken)
+      let k = c .before .before .before .before .before .before .before .before .before .before .before .before in
+      let a = k .args in
+      let lt : a .at < length (a .s .now) = omega (arith, k .pre .1 .store, c .before .before .before .before .before .before .before .before .before .before .if2 .left) in
+      eval-first-c (a .s .now) (a .at) (a .depth) (a .levels .now) (a .occurred .now) (a .j) (c .before .before .before .before .before .before .before .before .before .before .before .if1 .left) lt (sym (c .before .before .before .before .before .before .shape .given .1) ∙ c .before .before .before .before .before .before .before .before .opens .ensures) (c .before .before .before .enum-told4 .given .1) (ends-nowhere (truthIn (c .before .before .truth-in2 .result)) (c .before .end-of .ensures) (c .if3 .taken) ∙ c .before .before .truth-in2 .ensures)
 
   truth-in-returns-5 : truth-in-lts.Need-returns-5 by-truth-in truth-in-at truth-in.Post
   truth-in-returns-5 c =
-      let k = c .before .before .before .before .before .before .before .before .before .before in
-      let a = k .before .before .before .before .before .before .args in
-      eval-first-c (a .s .now) (a .at) (a .depth) (a .levels .now) (a .occurred .now) (a .j) (k .before .before .before .if1 .left) (k .before .before .if2 .left) (sym (c .before .before .before .before .before .before .before .before .shape .given .1) ∙ k .opens .ensures) (c .before .before .before .enum-told2 .given .1) (ap judged (sym (c .enum-told3 .given .1)) ∙ c .before .before .truth-in .ensures)
+      let k = c .before .before .before .before .before .before .before .before .before .before .before .before in
+      let a = k .args in
+      let lt : a .at < length (a .s .now) = omega (arith, k .pre .1 .store, c .before .before .before .before .before .before .before .before .before .before .if2 .left) in
+      eval-first-e (a .s .now) (a .at) (a .depth) (a .levels .now) (a .occurred .now) (a .j) (c .before .before .before .before .before .before .before .before .before .before .before .if1 .left) lt (sym (c .before .before .before .before .before .before .shape .given .1) ∙ c .before .before .before .before .before .before .before .before .opens .ensures) (c .before .before .before .enum-told5 .given .1) (ends-nowhere (valueIn (c .before .before .value-in .result)) (c .before .end-of2 .ensures) (c .if4 .taken) ∙ c .before .before .value-in .ensures)
 
   truth-in-returns-6 : truth-in-lts.Need-returns-6 by-truth-in truth-in-at truth-in.Post
   truth-in-returns-6 c =
-      let k = c .before .before .before .before .before .before .before .before .before .before .before .before .before .before in
-      let a = k .before .before .before .before .before .before .args in
-      onward-gives (with1 (λ x. value (not x))) (ap judged (sym (c .before .before .before .before .a .given .1)) ∙ c .before .before .before .before .before .before .truth-in .ensures) (c .negate .ensures) ∙ eval-negation (a .s .now) (a .at) (a .depth) (a .levels .now) (a .occurred .now) (a .j) (k .before .before .before .if1 .left) (k .before .before .if2 .left) (sym (c .before .before .before .before .before .before .before .before .before .before .before .before .shape .given .1) ∙ k .opens .ensures) (c .before .before .before .before .before .before .before .enum-told2 .given .1) (c .before .if4 .taken)
+      let k = c .before .before .before .before .before .before .before .before .before .before in
+      let a = k .args in
+      let lt : a .at < length (a .s .now) = omega (arith, k .pre .1 .store, c .before .before .before .before .before .before .before .before .if2 .left) in
+      c .with-truth .ensures ∙ eval-truth (a .s .now) (a .at) (a .depth) (a .levels .now) (a .occurred .now) (a .j) (c .before .before .before .before .before .before .before .before .before .if1 .left) lt (sym (c .before .before .before .before .shape .given .1) ∙ c .before .before .before .before .before .before .opens .ensures) (c .before .enum-told .given .1)
 
   truth-in-returns-7 : truth-in-lts.Need-returns-7 by-truth-in truth-in-at truth-in.Post
   truth-in-returns-7 c =
       let k = c .before .before .before .before .before .before .before .before .before .before in
-      let a = k .before .before .before .before .before .before .args in
-      eval-first-e (a .s .now) (a .at) (a .depth) (a .levels .now) (a .occurred .now) (a .j) (k .before .before .before .if1 .left) (k .before .before .if2 .left) (sym (c .before .before .before .before .before .before .before .before .shape .given .1) ∙ k .opens .ensures) (c .before .before .before .enum-told4 .given .1) (c .before .before .before .before .before .if3 .left) (ap evaluated (sym (c .enum-told5 .given .1)) ∙ c .before .before .value-in .ensures)
+      let a = k .args in
+      let lt : a .at < length (a .s .now) = omega (arith, k .pre .1 .store, c .before .before .before .before .before .before .before .before .if2 .left) in
+      c .occurrence-in .ensures ∙ eval-occurrence (a .s .now) (a .at) (a .depth) (a .levels .now) (a .occurred .now) (a .j) (c .before .before .before .before .before .before .before .before .before .if1 .left) lt (sym (c .before .before .before .before .shape .given .1) ∙ c .before .before .before .before .before .before .opens .ensures) (c .before .enum-told2 .given .1)
 
   truth-in-returns-8 : truth-in-lts.Need-returns-8 by-truth-in truth-in-at truth-in.Post
   truth-in-returns-8 c =
-      let k = c .before .before .before .before .before .before .before .before in
-      let a = k .before .before .before .before .before .before .args in
-      c .occurrence-in .ensures ∙ eval-occurrence (a .s .now) (a .at) (a .depth) (a .levels .now) (a .occurred .now) (a .j) (k .before .before .before .if1 .left) (k .before .before .if2 .left) (sym (c .before .before .before .before .before .before .shape .given .1) ∙ k .opens .ensures) (c .before .enum-told .given .1)
+      let k = c .before .before .before .before .before .before .before .before .before .before .before in
+      let a = k .args in
+      let lt : a .at < length (a .s .now) = omega (arith, k .pre .1 .store, c .before .before .before .before .before .before .before .before .before .if2 .left) in
+      c .negated-of .ensures ∙ ap (onward _) (c .before .truth-in .ensures) ∙ eval-negation (a .s .now) (a .at) (a .depth) (a .levels .now) (a .occurred .now) (a .j) (c .before .before .before .before .before .before .before .before .before .before .if1 .left) lt (sym (c .before .before .before .before .before .shape .given .1) ∙ c .before .before .before .before .before .before .before .opens .ensures) (c .before .before .enum-told3 .given .1)
 
   truth-in-returns-9 : truth-in-lts.Need-returns-9 by-truth-in truth-in-at truth-in.Post
   truth-in-returns-9 c =
-      let k = c .before .before .before .before .before .before .before .before .before .before .before .before .before .before .before in
-      let a = k .before .before .before .before .before .before .args in
-      c .joined-of .ensures ∙ ap (onward _) (c .before .truth-in2 .ensures) ∙ eval-junction (a .s .now) (a .at) (a .depth) (a .levels .now) (a .occurred .now) (a .j) (k .before .before .before .if1 .left) (k .before .before .if2 .left) (sym (c .before .before .before .before .before .before .before .before .before .before .before .before .before .shape .given .1) ∙ k .opens .ensures) (c .before .before .before .before .before .before .before .before .enum-told2 .given .1) (c .before .before .if4 .left) (ap judged (sym (c .before .before .before .before .before .a .given .1)) ∙ c .before .before .before .before .before .before .before .truth-in .ensures)
+      let k = c .before .before .before .before .before .before .before .before .before .before .before .before .before .before in
+      let a = k .args in
+      let lt : a .at < length (a .s .now) = omega (arith, k .pre .1 .store, c .before .before .before .before .before .before .before .before .before .before .before .before .if2 .left) in
+      c .joined-of .ensures ∙ ap (onward _) (c .before .truth-in3 .ensures) ∙ eval-junction (a .s .now) (a .at) (a .depth) (a .levels .now) (a .occurred .now) (a .j) (c .before .before .before .before .before .before .before .before .before .before .before .before .before .if1 .left) lt (sym (c .before .before .before .before .before .before .before .before .shape .given .1) ∙ c .before .before .before .before .before .before .before .before .before .before .opens .ensures) (c .before .before .before .before .before .enum-told4 .given .1) (ends-there (truthIn (c .before .before .before .before .truth-in2 .result)) (c .before .before .before .end-of .ensures) (c .before .before .if3 .left) ∙ c .before .before .before .before .truth-in2 .ensures)
 
   truth-in-returns-10 : truth-in-lts.Need-returns-10 by-truth-in truth-in-at truth-in.Post
   truth-in-returns-10 c =
-      let k = c .before .before .before .before .before .before .before .before .before .before .before .before .before in
-      let a = k .before .before .before .before .before .before .args in
-      c .compared-of .ensures ∙ ap (onward _) (c .before .value-in2 .ensures) ∙ eval-compared (a .s .now) (a .at) (a .depth) (a .levels .now) (a .occurred .now) (a .j) (k .before .before .before .if1 .left) (k .before .before .if2 .left) (sym (c .before .before .before .before .before .before .before .before .before .before .before .shape .given .1) ∙ k .opens .ensures) (c .before .before .before .before .before .before .enum-told4 .given .1) (c .before .before .before .before .before .before .before .before .if3 .left) (ap evaluated (sym (c .before .before .before .a2 .given .1)) ∙ c .before .before .before .before .before .value-in .ensures)
+      let k = c .before .before .before .before .before .before .before .before .before .before .before .before .before .before in
+      let a = k .args in
+      let lt : a .at < length (a .s .now) = omega (arith, k .pre .1 .store, c .before .before .before .before .before .before .before .before .before .before .before .before .if2 .left) in
+      c .compared-of .ensures ∙ ap (onward _) (c .before .value-in2 .ensures) ∙ eval-compared (a .s .now) (a .at) (a .depth) (a .levels .now) (a .occurred .now) (a .j) (c .before .before .before .before .before .before .before .before .before .before .before .before .before .if1 .left) lt (sym (c .before .before .before .before .before .before .before .before .shape .given .1) ∙ c .before .before .before .before .before .before .before .before .before .before .opens .ensures) (c .before .before .before .before .before .enum-told5 .given .1) (ends-there (valueIn (c .before .before .before .before .value-in .result)) (c .before .before .before .end-of2 .ensures) (c .before .before .if4 .left) ∙ c .before .before .before .before .value-in .ensures)
 
   truth-in-returns-11 : truth-in-lts.Need-returns-11 by-truth-in truth-in-at truth-in.Post
   truth-in-returns-11 c =
-      let k = c .before .before .before .before .before .before in
-      let a = k .before .before .before .before .before .before .args in
-      eval-other (a .s .now) (a .at) (a .depth) (a .levels .now) (a .occurred .now) (a .j) (k .before .before .before .if1 .left) (k .before .before .if2 .left) (sym (c .before .before .before .before .shape .given .1) ∙ k .opens .ensures) (c .match2 .keys4)
+      let k = c .before .before .before .before .before .before .before .before in
+      let a = k .args in
+      let lt : a .at < length (a .s .now) = omega (arith, k .pre .1 .store, c .before .before .before .before .before .before .if2 .left) in
+      nothing-there (λ t. evalC t (historyOf (a .levels .now) (a .occurred .now)) (a .j)) (a .at) (other-c (a .s .now) (a .at) (a .depth) (c .before .before .before .before .before .before .before .if1 .left) lt (sym (c .before .before .shape .given .1) ∙ c .before .before .before .before .opens .ensures) (c .match2 .keys6))
 
   value-in-returns : value-in-lts.Need-returns by-value-in value-in-at value-in.Post
   value-in-returns c =
-      let a = c .before .before .before .args in
+      let a = c .before .args in
       nothing-there (λ t. evalE t (historyOf (a .levels .now) (a .occurred .now)) (a .j)) (a .at) (deep-e (a .s .now) (a .at) (a .depth) (c .if1 .taken))
 
   value-in-returns-2 : value-in-lts.Need-returns-2 by-value-in value-in-at value-in.Post
   value-in-returns-2 c =
-      let a = c .before .before .before .before .args in
-      nothing-there (λ t. evalE t (historyOf (a .levels .now) (a .occurred .now)) (a .j)) (a .at) (end-e (a .s .now) (a .at) (a .depth) (c .if2 .taken))
+      let k = c .before .before in
+      let a = k .args in
+      let past : length (a .s .now) ≤ a .at = omega (arith, k .pre .1 .store, c .if2 .taken) in
+      nothing-there (λ t. evalE t (historyOf (a .levels .now) (a .occurred .now)) (a .j)) (a .at) (end-e (a .s .now) (a .at) (a .depth) past)
 
   value-in-returns-3 : value-in-lts.Need-returns-3 by-value-in value-in-at value-in.Post
   value-in-returns-3 c =
-      let k = c .before in
-      let a = k .before .before .before .before .before .before .args in
-      nothing-there (λ t. evalE t (historyOf (a .levels .now) (a .occurred .now)) (a .j)) (a .at) (no-expression (a .s .now) (a .at) (a .depth) (k .before .before .before .if1 .left) (k .before .before .if2 .left) _ (k .opens .ensures) (c .match .keys2))
+      let k = c .before .before .before .before .before in
+      let a = k .args in
+      let lt : a .at < length (a .s .now) = omega (arith, k .pre .1 .store, c .before .before .before .if2 .left) in
+      c .constant-in .ensures ∙ eval-constant (a .s .now) (a .at) (a .depth) (a .levels .now) (a .occurred .now) (a .j) (c .before .before .before .before .if1 .left) lt (c .before .if3 .taken)
 
   value-in-returns-4 : value-in-lts.Need-returns-4 by-value-in value-in-at value-in.Post
   value-in-returns-4 c =
-      let k = c .before .before .before .before .before .before .before .before in
-      let a = k .before .before .before .before .before .before .args in
-      eval-first (a .s .now) (a .at) (a .depth) (a .levels .now) (a .occurred .now) (a .j) (k .before .before .before .if1 .left) (k .before .before .if2 .left) (sym (c .before .before .before .before .before .before .shape .given .1) ∙ k .opens .ensures) (c .before .before .before .enum-told5 .given .1) (ap evaluated (sym (c .enum-told6 .given .1)) ∙ c .before .before .value-in .ensures)
+      let k = c .before .before .before .before .before .before in
+      let a = k .args in
+      let lt : a .at < length (a .s .now) = omega (arith, k .pre .1 .store, c .before .before .before .before .if2 .left) in
+      c .fluent-in .ensures ∙ eval-fluent (a .s .now) (a .at) (a .depth) (a .levels .now) (a .occurred .now) (a .j) (c .before .before .before .before .before .if1 .left) lt (c .before .if4 .taken)
 
   value-in-returns-5 : value-in-lts.Need-returns-5 by-value-in value-in-at value-in.Post
   value-in-returns-5 c =
-      let k = c .before .before .before .before .before .before .before .before .before .before .before .before .before in
-      let a = k .before .before .before .before .before .before .args in
-      onward-gives (with1 (change (singleOf (codeOf (getD (a .s .now) (a .at) 0))))) (ap evaluated (sym (c .before .before .before .before .before .a .given .1)) ∙ c .before .before .before .before .before .before .before .value-in .ensures) (c .change .ensures ∙ ap (λ (o : Single). with1 (change o) (valuedOf (c .before .before .before .before .before .a .given .0 .0))) (c .before .single-of .ensures)) ∙ eval-one (a .s .now) (a .at) (a .depth) (a .levels .now) (a .occurred .now) (a .j) (k .before .before .before .if1 .left) (k .before .before .if2 .left) (sym (c .before .before .before .before .before .before .before .before .before .before .before .shape .given .1) ∙ k .opens .ensures) (c .before .before .before .before .before .before .before .before .enum-told5 .given .1) (c .before .before .if3 .taken)
+      let k = c .before .before .before .before .before .before .before in
+      let a = k .args in
+      let lt : a .at < length (a .s .now) = omega (arith, k .pre .1 .store, c .before .before .before .before .before .if2 .left) in
+      nothing-there (λ t. evalE t (historyOf (a .levels .now) (a .occurred .now)) (a .j)) (a .at) (no-expression (a .s .now) (a .at) (a .depth) (c .before .before .before .before .before .before .if1 .left) lt _ (c .before .opens .ensures) (c .match .keys2))
 
   value-in-returns-6 : value-in-lts.Need-returns-6 by-value-in value-in-at value-in.Post
   value-in-returns-6 c =
-      let k = c .before .before .before .before .before .before in
-      let a = k .before .before .before .before .before .before .args in
-      c .constant-in .ensures ∙ eval-constant (a .s .now) (a .at) (a .depth) (a .levels .now) (a .occurred .now) (a .j) (k .before .before .before .if1 .left) (k .before .before .if2 .left) (sym (c .before .before .before .before .shape .given .1) ∙ k .opens .ensures) (c .before .enum-told .given .1)
+      let k = c .before .before .before .before .before .before .before .before .before .before .before .before .before .before in
+      let a = k .args in
+      let lt : a .at < length (a .s .now) = omega (arith, k .pre .1 .store, c .before .before .before .before .before .before .before .before .before .before .before .before .if2 .left) in
+      eval-first (a .s .now) (a .at) (a .depth) (a .levels .now) (a .occurred .now) (a .j) (c .before .before .before .before .before .before .before .before .before .before .before .before .before .if1 .left) lt (sym (c .before .before .before .before .before .before .shape .given .1) ∙ c .before .before .before .before .before .before .before .before .opens .ensures) (c .before .before .before .enum-told3 .given .1) (ends-nowhere (valueIn (c .before .before .value-in2 .result)) (c .before .end-of .ensures) (c .if5 .taken) ∙ c .before .before .value-in2 .ensures)
 
   value-in-returns-7 : value-in-lts.Need-returns-7 by-value-in value-in-at value-in.Post
   value-in-returns-7 c =
-      let k = c .before .before .before .before .before .before in
-      let a = k .before .before .before .before .before .before .args in
-      c .fluent-in .ensures ∙ eval-fluent (a .s .now) (a .at) (a .depth) (a .levels .now) (a .occurred .now) (a .j) (k .before .before .before .if1 .left) (k .before .before .if2 .left) (sym (c .before .before .before .before .shape .given .1) ∙ k .opens .ensures) (c .before .enum-told2 .given .1)
+      let k = c .before .before .before .before .before .before .before .before .before .before .before .before .before in
+      let a = k .args in
+      let lt : a .at < length (a .s .now) = omega (arith, k .pre .1 .store, c .before .before .before .before .before .before .before .before .before .before .before .if2 .left) in
+      c .reified-of .ensures ∙ ap (onward _) (c .before .truth-in .ensures) ∙ eval-reified (a .s .now) (a .at) (a .depth) (a .levels .now) (a .occurred .now) (a .j) (c .before .before .before .before .before .before .before .before .before .before .before .before .if1 .left) lt (sym (c .before .before .before .before .before .shape .given .1) ∙ c .before .before .before .before .before .before .before .opens .ensures) (c .before .before .enum-told .given .1)
 
   value-in-returns-8 : value-in-lts.Need-returns-8 by-value-in value-in-at value-in.Post
   value-in-returns-8 c =
-      let k = c .before .before .before .before .before in
-      let a = k .before .before .before .before .before .before .args in
-      eval-entry (a .s .now) (a .at) (a .depth) (a .levels .now) (a .occurred .now) (a .j) (k .before .before .before .if1 .left) (k .before .before .if2 .left) (sym (c .before .before .before .shape .given .1) ∙ k .opens .ensures) (c .enum-told3 .given .1)
+      let k = c .before .before .before .before .before .before .before .before .before .before .before .before .before in
+      let a = k .args in
+      let lt : a .at < length (a .s .now) = omega (arith, k .pre .1 .store, c .before .before .before .before .before .before .before .before .before .before .before .if2 .left) in
+      c .changed-of .ensures ∙ ap (onward _) (c .before .value-in .ensures) ∙ eval-one (a .s .now) (a .at) (a .depth) (a .levels .now) (a .occurred .now) (a .j) (c .before .before .before .before .before .before .before .before .before .before .before .before .if1 .left) lt (sym (c .before .before .before .before .before .shape .given .1) ∙ c .before .before .before .before .before .before .before .opens .ensures) (c .before .before .enum-told2 .given .1)
 
   value-in-returns-9 : value-in-lts.Need-returns-9 by-value-in value-in-at value-in.Post
   value-in-returns-9 c =
-      let k = c .before .before .before .before .before .before .before in
-      let a = k .before .before .before .before .before .before .args in
-      c .reified-of .ensures ∙ ap (onward _) (c .before .truth-in .ensures) ∙ eval-reified (a .s .now) (a .at) (a .depth) (a .levels .now) (a .occurred .now) (a .j) (k .before .before .before .if1 .left) (k .before .before .if2 .left) (sym (c .before .before .before .before .before .shape .given .1) ∙ k .opens .ensures) (c .before .before .enum-told4 .given .1)
+      let k = c .before .before .before .before .before .before .before .before .before .before .before .before .before .before .before .before in
+      let a = k .args in
+      let lt : a .at < length (a .s .now) = omega (arith, k .pre .1 .store, c .before .before .before .before .before .before .before .before .before .before .before .before .before .before .if2 .left) in
+      c .operated-of .ensures ∙ ap (onward _) (c .before .value-in3 .ensures) ∙ eval-two (a .s .now) (a .at) (a .depth) (a .levels .now) (a .occurred .now) (a .j) (c .before .before .before .before .before .before .before .before .before .before .before .before .before .before .before .if1 .left) lt (sym (c .before .before .before .before .before .before .before .before .shape .given .1) ∙ c .before .before .before .before .before .before .before .before .before .before .opens .ensures) (c .before .before .before .before .before .enum-told3 .given .1) (ends-there (valueIn (c .before .before .before .before .value-in2 .result)) (c .before .before .before .end-of .ensures) (c .before .before .if5 .left) ∙ c .before .before .before .before .value-in2 .ensures)
 
   value-in-returns-10 : value-in-lts.Need-returns-10 by-value-in value-in-at value-in.Post
   value-in-returns-10 c =
-      let k = c .before .before .before .before .before .before .before .before .before .before .before .before .before in
-      let a = k .before .before .before .before .before .before .args in
-      c .operated-of .ensures ∙ ap (onward _) (c .before .value-in2 .ensures) ∙ eval-two (a .s .now) (a .at) (a .depth) (a .levels .now) (a .occurred .now) (a .j) (k .before .before .before .if1 .left) (k .before .before .if2 .left) (sym (c .before .before .before .before .before .before .before .before .before .before .before .shape .given .1) ∙ k .opens .ensures) (c .before .before .before .before .before .before .before .before .enum-told5 .given .1) (c .before .before .if3 .left) (ap evaluated (sym (c .before .before .before .before .before .a .given .1)) ∙ c .before .before .before .before .before .before .before .value-in .ensures)
+      let k = c .before .before .before .before .before .before .before .before .before .before in
+      let a = k .args in
+      let lt : a .at < length (a .s .now) = omega (arith, k .pre .1 .store, c .before .before .before .before .before .before .before .before .if2 .left) in
+      nothing-there (λ t. evalE t (historyOf (a .levels .now) (a .occurred .now)) (a .j)) (a .at) (other-tree (a .s .now) (a .at) (a .depth) (c .before .before .before .before .before .before .before .before .before .if1 .left) lt (sym (c .before .before .shape .given .1) ∙ c .before .before .before .before .opens .ensures) (else-tree (getD (a .s .now) (a .at) 0) (c .before .before .before .before .before .before .if3 .left, (c .before .before .before .before .before .if4 .left, tt))) (c .match2 .keys4))
 
 pub +truth-in+value-in-spec : {M : Type 1} → statement M
 +truth-in+value-in-spec =
@@ -196,31 +215,35 @@ pub +truth-in+value-in-spec : {M : Type 1} → statement M
     (λ c. search needs)
     (truth-in-returns-3 t)
     (λ c. search needs)
+    (λ c. search needs)
+    (λ c κs. search needs)
+    (λ c. search needs)
+    (λ c κs. search needs)
+    (λ c. search needs)
+    (λ c. search needs)
+    (λ c. search needs)
+    (λ c κs. (omega arith, c .before .before .before .before .before .before .before .before .before .pre .1))
+    (λ c κs. search needs)
+    (λ c. search needs)
+    (λ c. search needs)
+    (λ c. search needs)
+    (λ c κs. (omega arith, c .before .before .before .before .before .before .before .before .before .pre .1))
+    (λ c κs. search needs)
     (truth-in-returns-4 t)
     (λ c. search needs)
+    (λ c κs. (omega arith, c .before .before .before .before .before .before .before .before .before .before .before .before .pre .1))
     (λ c κs. search needs)
     (λ c. search needs)
     (λ c. search needs)
     (λ c. search needs)
-    (λ c κs. (omega arith, tt))
-    (λ c. search needs)
-    (λ c. search needs)
+    (λ c κs. (omega arith, c .before .before .before .before .before .before .before .before .before .pre .1))
+    (λ c κs. search needs)
     (truth-in-returns-5 t)
+    (λ c. search needs)
+    (λ c κs. (omega arith, c .before .before .before .before .before .before .before .before .before .before .before .before .pre .1))
     (λ c κs. search needs)
     (truth-in-returns-6 t)
-    (λ c. search needs)
-    (λ c κs. (omega arith, tt))
-    (λ c κs. search needs)
-    (λ c. search needs)
-    (λ c. search needs)
-    (λ c. search needs)
-    (λ c κs. (omega arith, tt))
-    (λ c. search needs)
-    (λ c. search needs)
     (truth-in-returns-7 t)
-    (λ c. search needs)
-    (λ c κs. (omega arith, tt))
-    (λ c κs. search needs)
     (truth-in-returns-8 t)
     (truth-in-returns-9 t)
     (truth-in-returns-10 t)
@@ -230,32 +253,31 @@ pub +truth-in+value-in-spec : {M : Type 1} → statement M
     (value-in-returns-2 t)
     (λ c. search needs)
     (λ c κs. search needs)
-    (λ c. search needs)
     (value-in-returns-3 t)
-    (λ c. search needs)
     (λ c κs. search needs)
-    (λ c. search needs)
-    (λ c κs. search needs)
-    (λ c. search needs)
-    (λ c. search needs)
-    (λ c. search needs)
-    (λ c. search needs)
-    (λ c κs. (omega arith, tt))
-    (λ c κs. search needs)
-    (λ c. search needs)
-    (λ c. search needs)
-    (λ c. search needs)
-    (λ c κs. (omega arith, tt))
-    (λ c. search needs)
-    (λ c. search needs)
     (value-in-returns-4 t)
     (λ c κs. search needs)
-    (λ c κs. search needs)
+    (λ c. search needs)
     (value-in-returns-5 t)
     (λ c. search needs)
-    (λ c κs. (omega arith, tt))
+    (λ c. search needs)
+    (λ c. search needs)
+    (λ c κs. (omega arith, c .before .before .before .before .before .before .before .before .before .before .before .pre .1))
+    (λ c κs. search needs)
+    (λ c. search needs)
+    (λ c. search needs)
+    (λ c. search needs)
+    (λ c κs. (omega arith, c .before .before .before .before .before .before .before .before .before .before .before .pre .1))
+    (λ c κs. search needs)
+    (λ c. search needs)
+    (λ c. search needs)
+    (λ c. search needs)
+    (λ c κs. (omega arith, c .before .before .before .before .before .before .before .before .before .before .before .pre .1))
     (λ c κs. search needs)
     (value-in-returns-6 t)
+    (λ c. search needs)
+    (λ c κs. (omega arith, c .before .before .before .before .before .before .before .before .before .before .before .before .before .before .pre .1))
+    (λ c κs. search needs)
     (value-in-returns-7 t)
     (value-in-returns-8 t)
     (value-in-returns-9 t)

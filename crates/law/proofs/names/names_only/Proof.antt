@@ -3,7 +3,7 @@ use borrow.Author.Needs.{needs}
 use lib.ListN.{drop}
 use Rattle.bmap.specs.Limits.{mostDepth}
 use Rattle.bmap.specs.Code.{parseC}
-use Rattle.law.proofs.Checks.{names-all, names-more}
+use Rattle.law.proofs.CheckLaws.{names-all, names-more}
 use Rattle.law.proofs.names.names_only.Statement.{statement}
 use Rattle.law.proofs.names.names_only.Tie as tie
 

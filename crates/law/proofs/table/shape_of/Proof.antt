@@ -14,4 +14,4 @@ returns c = let s = c .before in table _ refl (s .args .code) _ (s .pre .0) (s .
 pub shape-of-spec : {M : Type 1} → statement M
 shape-of-spec =
     tie.close
-    (tie.spec (λ c. search needs) (λ c. search needs) (λ c. search needs) (λ c. search needs) returns)
+    (tie.spec (λ c. search needs) (λ c. search needs) (λ c. search needs) returns)

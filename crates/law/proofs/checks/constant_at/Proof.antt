@@ -5,9 +5,9 @@ use Rattle.bmap.specs.Number.{signedWord}
 use Rattle.bmap.specs.Tree.{constant}
 use Rattle.law.specs.Check.{passesE}
 use Rattle.law.proofs.Trees.{pair-in}
-use Rattle.law.proofs.Checks.{leaf-short, leaf-passes, passes-constant}
-use Rattle.law.proofs.check.constant_at.Statement.{statement}
-use Rattle.law.proofs.check.constant_at.Tie as tie
+use Rattle.law.proofs.CheckLaws.{leaf-short, leaf-passes, passes-constant}
+use Rattle.law.proofs.checks.constant_at.Statement.{statement}
+use Rattle.law.proofs.checks.constant_at.Tie as tie
 
 add-t6 : tie.Need-add-t6
 add-t6 c = omega (arith, pair-in (c .before .before .before .before .args .s .now) (c .before .before .before .before .args .at) (sym (c .enum-told .given .1) ∙ c .before .before .pair-after .ensures))

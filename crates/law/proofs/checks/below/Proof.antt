@@ -1,6 +1,6 @@
 use borrow.Author.Tests.{lt-ltb, le-ltb}
-use Rattle.law.proofs.check.below.Statement.{statement}
-use Rattle.law.proofs.check.below.Tie as tie
+use Rattle.law.proofs.checks.below.Statement.{statement}
+use Rattle.law.proofs.checks.below.Tie as tie
 
 returns : tie.Need-returns
 returns c = simp (lt-ltb _ _ (c .if1 .taken))

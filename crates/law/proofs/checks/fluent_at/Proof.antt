@@ -4,9 +4,9 @@ use borrow.Author.Needs.{needs}
 use Rattle.bmap.specs.Tree.{fluent}
 use Rattle.law.specs.Check.{passesE}
 use Rattle.law.proofs.Trees.{pair-in}
-use Rattle.law.proofs.Checks.{leaf-short, leaf-passes, leaf-fails}
-use Rattle.law.proofs.check.fluent_at.Statement.{statement}
-use Rattle.law.proofs.check.fluent_at.Tie as tie
+use Rattle.law.proofs.CheckLaws.{leaf-short, leaf-passes, leaf-fails}
+use Rattle.law.proofs.checks.fluent_at.Statement.{statement}
+use Rattle.law.proofs.checks.fluent_at.Tie as tie
 
 add-t10 : tie.Need-add-t10
 add-t10 c =

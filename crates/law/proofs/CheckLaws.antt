@@ -5,9 +5,6 @@ use mathlib.Core.List.{List, [], _∷_, _++_}
 use mathlib.Core.Option.{Option, none, some}
 use Prim.Native.Nat.{ℕ, _+_, _-_, _<_}
 use native.Mathlib.Nat.{add-assoc}
-use native.Mathlib.Decide.{ℕ-discrete}
-use types.Run.{OneOf}
-use denote.Enum.Declared.{tagOf}
 use lib.Dec.{leb, ltb}
 use lib.ListN.{length, drop, getD}
 use lib.Seq.{drop-drop}
@@ -21,20 +18,19 @@ use Rattle.bmap.specs.Limits.{mostLag}
 use Rattle.bmap.specs.Number.{signedWord}
 use Rattle.bmap.specs.Tree.{Expr, Con, constant, fluent, two, one, reified, compared, joined, negated, occurs, always, allowedE, allowedC, namedE, namedC}
 use Rattle.bmap.specs.Code.{Code, Parsed, Parser, codeOf, made, second, operand, operands, twoBytes, parseE, parseC}
-use Rattle.law.specs.declared.table.Operand.the-variants as each
 use Rattle.law.specs.declared.table.Shape.{Shape}
+use Rattle.law.specs.declared.table.Shape.the-variants as shape
 use Rattle.law.specs.declared.table.Node.the-variants.{Expression, Constraint}
 use Rattle.law.specs.declared.table.Pair.the-variants.{Bytes, Short}
-use Rattle.law.specs.declared.check.Checked.{Checked}
-use Rattle.law.specs.declared.check.Checked.the-variants.{Next, Refused}
-use Rattle.law.specs.declared.check.Test.{Test}
-use Rattle.law.specs.declared.check.Test.the-variants.{Allowed, Known}
+use Rattle.law.specs.declared.checks.Checked.{Checked}
+use Rattle.law.specs.declared.checks.Checked.the-variants.{Next, Refused}
+use Rattle.law.specs.declared.checks.Test.{Test}
+use Rattle.law.specs.declared.checks.Test.the-variants.{Allowed, Known}
 use Rattle.law.specs.Shape.{opened, pairOf, operationOf, singleOf, comparisonOf, junctionOf}
 use Rattle.law.specs.Mask.{bit}
 use Rattle.law.specs.Names.{namesOnly}
 use Rattle.law.specs.Check.{checked, passesE, passesC}
-use Rattle.law.proofs.table.Operand as operand-type
-use Rattle.law.proofs.Trees.{at-constant, at-fluent, at-reified, at-one, at-two, at-truth, at-occurrence, at-negation, at-junction, at-comparison, no-entry, no-other, no-pair, a-pair}
+use Rattle.law.proofs.Trees.{at-constant, at-fluent, at-reified, at-one, at-two, at-truth, at-occurrence, at-negation, at-junction, at-comparison, no-pair, a-pair}
 
 -- A tree passes where its operands do.
 both-true : (b : Bool) → both b true ≡ b
@@ -177,62 +173,45 @@ module _ (t : Test) (s : List ℕ) (at d : ℕ) (ne : d ≡ 0 → ⊥) (lt : at 
   part-c m = checked (passesC t) m (parseC (d - 1) (drop m s))
 
   module _ {sh : Shape} (p : Expression sh ≡ opened code) where
-    pub check-constant : sh .each ≡ each.Value → checked (passesE t) at (twoBytes (λ hi lo. constant (signedWord hi lo)) (drop (at + 1) s)) ≡ whole-e
+    pub check-constant : sh ≡ shape.Value → checked (passesE t) at (twoBytes (λ hi lo. constant (signedWord hi lo)) (drop (at + 1) s)) ≡ whole-e
     check-constant q = rw (at-constant s at d ne lt p q)
 
-    pub check-fluent : sh .each ≡ each.FluentLag → checked (passesE t) at (twoBytes fluent (drop (at + 1) s)) ≡ whole-e
+    pub check-fluent : sh ≡ shape.FluentLag → checked (passesE t) at (twoBytes fluent (drop (at + 1) s)) ≡ whole-e
     check-fluent q = rw (at-fluent s at d ne lt p q)
 
-    pub check-entry : sh .each ≡ each.EntryLag → Refused ≡ whole-e
-    check-entry q = absurd (no-entry code p q)
-
-    pub check-reified : sh .each ≡ each.Constraint → part-c (at + 1) ≡ whole-e
+    pub check-reified : sh ≡ shape.Constraint → part-c (at + 1) ≡ whole-e
     check-reified q = rw (at-reified s at d ne lt p q) (one-checked (passesC t) (passesE t) reified (passes-reified t) at 1 (parseC (d - 1) (drop (at + 1) s)))
 
-    module _ (q : sh .each ≡ each.Expression) where
-      pub check-one : sh .operands ≡ 1 → part-e (at + 1) ≡ whole-e
-      check-one r = rw (at-one s at d ne lt p q r) (one-checked (passesE t) (passesE t) (one (singleOf code)) (passes-one t (singleOf code)) at 1 (parseE (d - 1) (drop (at + 1) s)))
+    pub check-one : sh ≡ shape.Expression → part-e (at + 1) ≡ whole-e
+    check-one q = rw (at-one s at d ne lt p q) (one-checked (passesE t) (passesE t) (one (singleOf code)) (passes-one t (singleOf code)) at 1 (parseE (d - 1) (drop (at + 1) s)))
 
-      pub check-two : {m : ℕ} → (sh .operands ≡ 1 → ⊥) → Next m ≡ part-e (at + 1) → part-e m ≡ whole-e
-      check-two r e = rw (at-two s at d ne lt p q r) (then-second (passesE t) (passesE t) (two (operationOf code)) (passes-two t (operationOf code)) (parseE (d - 1)) s at e)
+    pub check-two : {m : ℕ} → sh ≡ shape.Expressions → Next m ≡ part-e (at + 1) → part-e m ≡ whole-e
+    check-two q e = rw (at-two s at d ne lt p q) (then-second (passesE t) (passesE t) (two (operationOf code)) (passes-two t (operationOf code)) (parseE (d - 1)) s at e)
 
-      pub check-first : Refused ≡ part-e (at + 1) → Refused ≡ whole-e
-      check-first e =
-          elim (ℕ-discrete (sh .operands) 1) [
-            | yes r ↦ e ∙ check-one r
-            | no r ↦ rw (at-two s at d ne lt p q r) (first-refused (passesE t) (passesE t) (two (operationOf code)) (passes-two t (operationOf code)) (parseE (d - 1)) s at e)
-          ]
+    pub check-first : sh ≡ shape.Expressions → Refused ≡ part-e (at + 1) → Refused ≡ whole-e
+    check-first q e = rw (at-two s at d ne lt p q) (first-refused (passesE t) (passesE t) (two (operationOf code)) (passes-two t (operationOf code)) (parseE (d - 1)) s at e)
 
   module _ {sh : Shape} (p : Constraint sh ≡ opened code) where
-    pub check-truth : sh .operands ≡ 0 → Next (at + 1) ≡ whole-c
+    pub check-truth : sh ≡ shape.Nothing → Next (at + 1) ≡ whole-c
     check-truth q = rw (at-truth s at d ne lt p q, passes-always t)
 
-    pub check-occurrence : sh .each ≡ each.EntryLag → checked (passesC t) at (twoBytes occurs (drop (at + 1) s)) ≡ whole-c
+    pub check-occurrence : sh ≡ shape.EntryLag → checked (passesC t) at (twoBytes occurs (drop (at + 1) s)) ≡ whole-c
     check-occurrence q = rw (at-occurrence s at d ne lt p q)
 
-    pub check-other : OneOf (2 ∷ 3 ∷ []) (tagOf operand-type.the-type (sh .each)) → Refused ≡ whole-c
-    check-other q = absurd (no-other code p q)
+    pub check-negation : sh ≡ shape.Constraint → part-c (at + 1) ≡ whole-c
+    check-negation q = rw (at-negation s at d ne lt p q) (one-checked (passesC t) (passesC t) negated (passes-negated t) at 1 (parseC (d - 1) (drop (at + 1) s)))
 
-    module _ (q : sh .each ≡ each.Constraint) where
-      pub check-negation : sh .operands ≡ 1 → part-c (at + 1) ≡ whole-c
-      check-negation r = rw (at-negation s at d ne lt p q r) (one-checked (passesC t) (passesC t) negated (passes-negated t) at 1 (parseC (d - 1) (drop (at + 1) s)))
+    pub check-junction : {m : ℕ} → sh ≡ shape.Constraints → Next m ≡ part-c (at + 1) → part-c m ≡ whole-c
+    check-junction q e = rw (at-junction s at d ne lt p q) (then-second (passesC t) (passesC t) (joined (junctionOf code)) (passes-joined t (junctionOf code)) (parseC (d - 1)) s at e)
 
-      pub check-junction : {m : ℕ} → (sh .operands ≡ 1 → ⊥) → Next m ≡ part-c (at + 1) → part-c m ≡ whole-c
-      check-junction r e = rw (at-junction s at d ne lt p q r) (then-second (passesC t) (passesC t) (joined (junctionOf code)) (passes-joined t (junctionOf code)) (parseC (d - 1)) s at e)
+    pub check-first-c : sh ≡ shape.Constraints → Refused ≡ part-c (at + 1) → Refused ≡ whole-c
+    check-first-c q e = rw (at-junction s at d ne lt p q) (first-refused (passesC t) (passesC t) (joined (junctionOf code)) (passes-joined t (junctionOf code)) (parseC (d - 1)) s at e)
 
-      pub check-first-c : Refused ≡ part-c (at + 1) → Refused ≡ whole-c
-      check-first-c e =
-          elim (ℕ-discrete (sh .operands) 1) [
-            | yes r ↦ e ∙ check-negation r
-            | no r ↦ rw (at-junction s at d ne lt p q r) (first-refused (passesC t) (passesC t) (joined (junctionOf code)) (passes-joined t (junctionOf code)) (parseC (d - 1)) s at e)
-          ]
+    pub check-compared : {m : ℕ} → sh ≡ shape.Expressions → Next m ≡ part-e (at + 1) → part-e m ≡ whole-c
+    check-compared q e = rw (at-comparison s at d ne lt p q) (then-second (passesE t) (passesC t) (compared (comparisonOf code)) (passes-compared t (comparisonOf code)) (parseE (d - 1)) s at e)
 
-    module _ (q : sh .each ≡ each.Expression) (r : sh .operands ≡ 0 → ⊥) where
-      pub check-compared : {m : ℕ} → Next m ≡ part-e (at + 1) → part-e m ≡ whole-c
-      check-compared e = rw (at-comparison s at d ne lt p q r) (then-second (passesE t) (passesC t) (compared (comparisonOf code)) (passes-compared t (comparisonOf code)) (parseE (d - 1)) s at e)
-
-      pub check-first-e : Refused ≡ part-e (at + 1) → Refused ≡ whole-c
-      check-first-e e = rw (at-comparison s at d ne lt p q r) (first-refused (passesE t) (passesC t) (compared (comparisonOf code)) (passes-compared t (comparisonOf code)) (parseE (d - 1)) s at e)
+    pub check-first-e : sh ≡ shape.Expressions → Refused ≡ part-e (at + 1) → Refused ≡ whole-c
+    check-first-e q e = rw (at-comparison s at d ne lt p q) (first-refused (passesE t) (passesC t) (compared (comparisonOf code)) (passes-compared t (comparisonOf code)) (parseE (d - 1)) s at e)
 
 -- What the place after a tree says of the fluents that it names.
 module _ (mask at : ℕ) where

@@ -1,8 +1,8 @@
 use mathlib.Core.Path.{_∙_}
 use borrow.Author.Needs.{needs}
-use Rattle.law.proofs.Checks.{entry-allowed, entry-barred, entry-known}
-use Rattle.law.proofs.check.entry_passes.Statement.{statement}
-use Rattle.law.proofs.check.entry_passes.Tie as tie
+use Rattle.law.proofs.CheckLaws.{entry-allowed, entry-barred, entry-known}
+use Rattle.law.proofs.checks.entry_passes.Statement.{statement}
+use Rattle.law.proofs.checks.entry_passes.Tie as tie
 
 returns : tie.Need-returns
 returns c = c .below .ensures ∙ entry-allowed _ _ _ (c .before .before .before .test .given .1) (c .before .if1 .taken)

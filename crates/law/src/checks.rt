@@ -12,8 +12,8 @@ ghost use Rattle.bmap.specs.Code.{parseE, parseC, twoBytes};
 ghost use Rattle.law.specs.Check.{checked, passesE, passesC};
 use crate::mask::has_bit;
 use crate::table::Node;
-use crate::table::Operand;
 use crate::table::Pair;
+use crate::table::Shape;
 use crate::table::opens;
 use crate::table::pair_after;
 use bmap::Context;
@@ -118,21 +118,18 @@ pub fn expression_in(s: &[u8], at: usize, depth: usize, test: Test) -> Checked
     let Node::Expression(shape) = opens(s[at]) else {
         return Checked::Refused;
     };
-    let each = shape.each;
-    match each {
-        Operand::Value => constant_at(s, at, test),
-        Operand::FluentLag => fluent_at(s, at, test),
-        Operand::EntryLag => Checked::Refused,
-        Operand::Constraint => constraint_in(s, at + 1, depth - 1, test),
-        Operand::Expression => {
+    match shape {
+        Shape::Value => constant_at(s, at, test),
+        Shape::FluentLag => fluent_at(s, at, test),
+        Shape::Constraint => constraint_in(s, at + 1, depth - 1, test),
+        Shape::Expression => expression_in(s, at + 1, depth - 1, test),
+        Shape::Expressions => {
             let Checked::Next(middle) = expression_in(s, at + 1, depth - 1, test) else {
                 return Checked::Refused;
             };
-            if shape.operands == 1 {
-                return Checked::Next(middle);
-            }
             expression_in(s, middle, depth - 1, test)
         }
+        _ => Checked::Refused,
     }
 }
 
@@ -148,22 +145,17 @@ pub fn constraint_in(s: &[u8], at: usize, depth: usize, test: Test) -> Checked
     let Node::Constraint(shape) = opens(s[at]) else {
         return Checked::Refused;
     };
-    if shape.operands == 0 {
-        return Checked::Next(at + 1);
-    }
-    let each = shape.each;
-    match each {
-        Operand::EntryLag => entry_at(s, at, test),
-        Operand::Constraint => {
+    match shape {
+        Shape::Nothing => Checked::Next(at + 1),
+        Shape::EntryLag => entry_at(s, at, test),
+        Shape::Constraint => constraint_in(s, at + 1, depth - 1, test),
+        Shape::Constraints => {
             let Checked::Next(middle) = constraint_in(s, at + 1, depth - 1, test) else {
                 return Checked::Refused;
             };
-            if shape.operands == 1 {
-                return Checked::Next(middle);
-            }
             constraint_in(s, middle, depth - 1, test)
         }
-        Operand::Expression => {
+        Shape::Expressions => {
             let Checked::Next(middle) = expression_in(s, at + 1, depth - 1, test) else {
                 return Checked::Refused;
             };

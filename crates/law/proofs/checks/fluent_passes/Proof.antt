@@ -1,8 +1,8 @@
 use mathlib.Core.Path.{_∙_}
 use borrow.Author.Needs.{needs}
-use Rattle.law.proofs.Checks.{fluent-allowed, fluent-known}
-use Rattle.law.proofs.check.fluent_passes.Statement.{statement}
-use Rattle.law.proofs.check.fluent_passes.Tie as tie
+use Rattle.law.proofs.CheckLaws.{fluent-allowed, fluent-known}
+use Rattle.law.proofs.checks.fluent_passes.Statement.{statement}
+use Rattle.law.proofs.checks.fluent_passes.Tie as tie
 
 returns : tie.Need-returns
 returns c = c .below .ensures ∙ fluent-allowed _ _ _ (c .before .before .test .given .1)

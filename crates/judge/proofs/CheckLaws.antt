@@ -1,5 +1,5 @@
 -- The checks of a step, turn by turn. Assumes nothing.
-use Prim.Native.Nat.{ℕ, suc, _-_, _≤_, _<_}
+use Prim.Native.Nat.{ℕ, suc, _+_, _-_, _≤_, _<_}
 use mathlib.Core.Path.{_≡_, refl, sym, ap, _∙_, subst}
 use mathlib.Core.List.{List, [], _∷_}
 use mathlib.Core.Bool.{Bool, true, false}
@@ -7,6 +7,7 @@ use native.Mathlib.Omega.{arith}
 use native.Mathlib.Decide.{decLt}
 use lib.Dec.{eqb}
 use lib.ListN.{length, getD, drop}
+use lib.Seq.{getD-drop}
 use borrow.Author.Tests.{eq-eqb, ne-eqb, eqb-true}
 use Rattle.bmap.specs.Plain.{either, if-else, any}
 use Rattle.bmap.specs.Number.{Valued, value, no-value}
@@ -27,9 +28,9 @@ noLaw = must static always
 abbrev pub noEntry : Entry
 noEntry = record { name = 0; crew = 0 }
 
-module _ {Y : Type 0} (R : ℕ → List Law → Y) (d : Domain) (store places : List ℕ) (n kind from to : ℕ)
-    (lawful : Lawful d store places n) (within : Within store places n kind from to)
-    (idle : (k : ℕ) (l : Law) (rest : List Law) → Says d (frameOf store places k) l → (getD (frameOf store places k) 0 0 ≡ kind → ⊥) → R k (l ∷ rest) ≡ R (suc k) rest) where
+module _ {Y : Type 0} (R : ℕ → List Law → Y) (d : Domain) (held : List ℕ) (n kind from to : ℕ)
+    (lawful : Lawful d held n) (within : Within held n kind from to)
+    (idle : (k : ℕ) (l : Law) (rest : List Law) → Says d (frameOf held k) l → (getD (frameOf held k) 0 0 ≡ kind → ⊥) → R k (l ∷ rest) ≡ R (suc k) rest) where
   pub run-starts : R 0 (d .laws) ≡ R from (drop from (d .laws))
   run-starts =
       starts R (d .laws) noLaw from (omega (arith, lawful .count, within .starts))
@@ -40,16 +41,16 @@ module _ {Y : Type 0} (R : ℕ → List Law → Y) (d : Domain) (store places : 
       rests R (d .laws) noLaw l e
       (λ k p q. let r : k < n = omega (arith, lawful .count) in idle k (lawNumber d k) _ (lawful .law k r) (within .after k (omega arith) r))
 
-module _ (d : Domain) (store places : List ℕ) (n kind from to l : ℕ) (lawful : Lawful d store places n) (within : Within store places n kind from to) (h : l < to) where
+module _ (d : Domain) (held : List ℕ) (n kind from to l : ℕ) (lawful : Lawful d held n) (within : Within held n kind from to) (h : l < to) where
   pub run-law : l < length (d .laws)
   run-law = omega (arith, lawful .count, within .ends)
 
-  pub run-says : Says d (frameOf store places l) (lawNumber d l)
+  pub run-says : Says d (frameOf held l) (lawNumber d l)
   run-says = lawful .law l (omega (arith, within .ends))
 
--- the frame that was handed out
-pub said : (d : Domain) (l : Law) {frame frame′ : List ℕ} → frame ≡ frame′ → Says d frame′ l → Says d frame l
-said d l e w = subst (λ (f : List ℕ). Says d f l) (sym e) w
+-- the first byte from a place on
+pub front : (held : List ℕ) (p : ℕ) → getD (drop p held) 0 0 ≡ getD held p 0
+front held p = getD-drop p held 0 0 ∙ ap (λ (k : ℕ). getD held k 0) (let z : p + 0 ≡ p = omega arith in z)
 
 -- ---- 1: the agents
 
@@ -105,8 +106,7 @@ scope-self goal = refl
 
 module _ (d : Domain) (frame : List ℕ) where
   pub says : (l : Law) → Says d frame l → Spelt (countsOf d) (getD frame 0 0) (drop 2 frame) l
-  unfolding Says
-  says l e = spelt (countsOf d) (getD frame 0 0) (drop 2 frame) e
+  says l w = subst (λ (p : List ℕ). Spelt (countsOf d) (getD frame 0 0) p l) (sym (w .stands)) (spelt (countsOf d) (getD frame 0 0) (w .payload) (w .more) (w .law))
 
   -- a law of the scope's kind is one of the scope
   pub must-by-kind : (s : Scope) (l : Law) → Says d frame l → getD frame 0 0 ≡ scopeKind s → l ≡ must s (conOf l)
@@ -191,9 +191,6 @@ module _ (d : Domain) (h : History) (j : ℕ) (names : Names) (i : ℕ) (e : Ent
   occurs-not o = ap (λ (b : Bool). if-else b (permitted d h j i 0 (d .laws)) pass) (sym o)
 
 -- ---- where the laws of a kind stand
-
-pub kind-not : {b kind : ℕ} {frame frame′ : List ℕ} → b ≡ getD frame 0 0 → frame ≡ frame′ → (b ≡ kind → ⊥) → getD frame′ 0 0 ≡ kind → ⊥
-kind-not e q n k = n (e ∙ (ap (λ (f : List ℕ). getD f 0 0) q ∙ k))
 
 pub above-more : (P : ℕ → Type 0) (i : ℕ) → 0 < i → ((k : ℕ) → i ≤ k → P k) → P (i - 1) → (k : ℕ) → i - 1 ≤ k → P k
 above-more P i h more p k q = elim (decLt k i) [

@@ -7,6 +7,7 @@ use lib.Dec.{eqb}
 use lib.IntN.{pos}
 use lib.ListN.{length, getD, take, drop}
 use Rattle.bmap.specs.Plain.{numbers}
+use Rattle.bmap.specs.Limits.{storeSize}
 use Rattle.bmap.specs.Domain.{Fluent, Entry, has}
 use Rattle.bmap.specs.Payload.{lawIn}
 use Rattle.bmap.specs.Accept.{countsOf}
@@ -16,10 +17,11 @@ use Rattle.index.specs.declared.Index.{Index}
 use Rattle.index.specs.Index.{fluentAt, knowledgeAt, entryOf, lawBytes, lawOf, lawAt, domainOf, Sound}
 use Rattle.judge.specs.Masks.{unionFrom}
 use Rattle.judge.specs.Landing.{Ranged}
-use Rattle.judge.specs.Told.{Says, Lawful, Knowing, lawNumber, frameOf}
+use Rattle.judge.specs.Told.{Lawful, Knowing, Held, lawNumber, frameOf}
 use Rattle.judge.specs.Prepared.{Entered}
 use Rattle.judge.proofs.LoopLaws.{map-length, map-at}
 use Rattle.judge.proofs.CheckLaws.{noLaw, noEntry}
+use Rattle.judge.proofs.HeldLaws.{held-says}
 use Rattle.judge.proofs.LandingLaws.{noFluent}
 use Rattle.judge.proofs.KnowledgeLaws.{knows-is}
 use Rattle.judge.proofs.JudgeLaws.{firsts}
@@ -48,12 +50,16 @@ module _ (s : List ℕ) (x : Index) where
   unfolding domainOf
   law-count = map-length (lawAt s x) 0 (n .laws)
 
-  law-says : Sound s x → (i : ℕ) → i < n .laws → Says (domainOf s x) (frameOf s (x .laws) i) (lawNumber (domainOf s x) i)
-  unfolding Says lawOf
+  law-says : Sound s x → (i : ℕ) → i < n .laws → lawIn (countsOf (domainOf s x)) (getD (lawBytes s x i) 0 0) (drop 2 (lawBytes s x i)) ≡ some (lawNumber (domainOf s x) i)
+  unfolding lawOf
   law-says sound i h = ap (λ (c : Counts). lawIn c (getD (lawBytes s x i) 0 0) (drop 2 (lawBytes s x i))) counts-are ∙ (sound .law i h ∙ ap some (sym (law-number i h)))
 
-  pub index-lawful : Sound s x → Lawful (domainOf s x) s (x .laws) (n .laws)
-  index-lawful sound = record { count = law-count; law = law-says sound }
+  pub index-lawful : (held : List ℕ) → Sound s x → length held ≡ storeSize → Held s (x .laws) (n .laws) held → Lawful (domainOf s x) held (n .laws)
+  index-lawful held sound long copied = record {
+    long = long;
+    count = law-count;
+    law = λ i h. held-says (domainOf s x) (lawBytes s x i) (frameOf held i) (lawNumber (domainOf s x) i) (copied i h) (law-says sound i h);
+  }
 
   pub index-ranged : Ranged (domainOf s x) (x .lowest) (x .highest) (n .fluents)
   unfolding domainOf

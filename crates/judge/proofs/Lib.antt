@@ -1,6 +1,9 @@
 pub mod LoopLaws
 pub mod MaskLaws
+pub mod NamingLaws
+pub mod LongerLaws
 pub mod ByteLaws
+pub mod HeldLaws
 pub mod MeaningLaws
 pub mod StateLaws
 pub mod CheckLaws

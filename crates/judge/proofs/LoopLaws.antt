@@ -66,31 +66,6 @@ each-none f i = refl
 
 -- ---- the n numbers
 
-module _ (n i : ℕ) where
-  pub numbers-end : n ≤ i → numbers i (n - i) ≡ []
-  unfolding numbers
-  numbers-end h = let z : n - i ≡ 0 = omega arith in rw z
-
-  pub numbers-on : i < n → numbers i (n - i) ≡ i ∷ numbers (i + 1) (n - (i + 1))
-  unfolding numbers
-  numbers-on h = let z : n - i ≡ suc (n - (i + 1)) = omega arith in rw (z, add-one)
-
-pub all-start : (p : ℕ → Bool) (n : ℕ) → all p (numbers 0 n) ≡ all p (numbers 0 (n - 0))
-all-start p n = ap (λ (k : ℕ). all p (numbers 0 k)) (let z : n ≡ n - 0 = omega arith in z)
-
-module _ (p : ℕ → Bool) (n i : ℕ) where
-  pub all-end : n ≤ i → all p (numbers i (n - i)) ≡ true
-  unfolding all
-  all-end h = ap (all p) (numbers-end n i h)
-
-  pub all-stop : i < n → p i ≡ false → all p (numbers i (n - i)) ≡ false
-  unfolding all
-  all-stop h e = ap (all p) (numbers-on n i h) ∙ rw e
-
-  pub all-on : i < n → p i ≡ true → all p (numbers i (n - i)) ≡ all p (numbers (i + 1) (n - (i + 1)))
-  unfolding all
-  all-on h e = ap (all p) (numbers-on n i h) ∙ rw e
-
 pub numbers-length : (i n : ℕ) → length (numbers i n) ≡ n
 unfolding numbers
 numbers-length i zero = refl

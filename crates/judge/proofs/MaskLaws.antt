@@ -11,22 +11,10 @@ use lib.ListN.{getD}
 use lib.Arith.{lt-one}
 use lib.Pow.{pow-add, pow-mono, shr-shr, shr-lt, shr-le, field, mod-mod-pow, shl-exact, pow-pos}
 use native.Mathlib.Nat.{mod-le}
-use borrow.Author.Tests.{eq-eqb, ne-eqb}
+use borrow.Author.Tests.{ne-eqb}
 use Rattle.bmap.specs.Plain.{either, both, if-else, any, numbers}
-use Rattle.bmap.specs.Domain.{Names, has, follows}
+use Rattle.bmap.specs.Domain.{has}
 use Rattle.judge.specs.Masks.{flagOf, maskFrom, unionFrom}
-
--- ---- one entry
-
-module _ (names : Names) (action crew a : ℕ) {t : Bool} (i : t ≡ has crew a) where
-  pub follows-out : t ≡ false → follows names (record { name = action; crew = crew }) a ≡ true
-  follows-out q = rw (← i, q)
-
-  pub follows-in : t ≡ true → getD names a 0 ≡ action → follows names (record { name = action; crew = crew }) a ≡ true
-  follows-in q s = rw (← i, q, eq-eqb (getD names a 0) action s)
-
-  pub follows-not : t ≡ true → (getD names a 0 ≡ action → ⊥) → follows names (record { name = action; crew = crew }) a ≡ false
-  follows-not q s = rw (← i, q, ne-eqb (getD names a 0) action s)
 
 -- a number below 2 ^ 64 has no bit past 63
 pub no-bit : (mask i : ℕ) → mask < 2 ^ 64 → 64 ≤ i → false ≡ has mask i
@@ -36,6 +24,9 @@ no-bit mask i h p =
   where
     lt-of-lt : (mask i : ℕ) → mask < 2 ^ 64 → 64 ≤ i → mask < 2 ^ (0 + i)
     lt-of-lt mask i h p = let y : 0 + i ≡ i = omega arith in rw y (omega (arith, pow-mono {i = 64} {j = i} p))
+
+pub pow-suc : (n : ℕ) → 2 ^ suc n ≡ 2 ^ n * 2
+pow-suc n = ap (λ (k : ℕ). 2 ^ k) (sym (add-one n)) ∙ pow-add 2 n 1
 
 -- ---- building a mask, from the last number to the first
 
@@ -57,9 +48,6 @@ module _ (p : ℕ → Bool) where
   flag-lt : (t : Bool) → flagOf t < 2
   flag-lt true = omega arith
   flag-lt false = omega arith
-
-  pow-suc : (n : ℕ) → 2 ^ suc n ≡ 2 ^ n * 2
-  pow-suc n = ap (λ (k : ℕ). 2 ^ k) (sym (add-one n)) ∙ pow-add 2 n 1
 
   pub mask-lt : (i n : ℕ) → maskFrom p i n < 2 ^ n
   unfolding maskFrom
@@ -184,7 +172,7 @@ shares (suc n) x y h =
     ∙ (some-bit (bitAnd (x / 2) (y / 2)) (min (x % 2) (y % 2)) (omega arith)
     ∙ (ap (λ (t : Bool). either t (not (eqb (bitAnd (x / 2) (y / 2)) 0))) (min-bit (x % 2) (y % 2) (omega arith) (omega arith) ∙ (ap (λ (t : Bool). both t (eqb (y % 2) 1)) (first-bit x) ∙ ap (λ (t : Bool). both (has x 0) t) (first-bit y)))
     ∙ ap (λ (t : Bool). either (both (has x 0) (has y 0)) t)
-    (shares n (x / 2) (y / 2) (omega (arith, pow-suc (λ k. true) n))
+    (shares n (x / 2) (y / 2) (omega (arith, pow-suc n))
     ∙ (any-same (λ a. both (has (x / 2) a) (has (y / 2) a)) (λ a. both (has x (suc a)) (has y (suc a))) 0 n (λ k p q. ap (λ (t : Bool). both t (has (y / 2) k)) (sym (next-bit x k)) ∙ ap (λ (t : Bool). both (has x (suc k)) t) (sym (next-bit y k)))
     ∙ sym (any-next (λ a. both (has x a) (has y a)) 0 n)))))
 

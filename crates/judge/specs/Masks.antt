@@ -1,8 +1,10 @@
 -- Sets of agents, entries and fluents as masks: "Mask bit i stands for agent i".
-use Prim.Native.Nat.{ℕ, zero, suc, _+_, _*_}
-use mathlib.Core.Bool.{Bool, true, false}
+use Prim.Native.Nat.{ℕ, zero, suc, _+_, _*_, _<_}
+use mathlib.Core.Path.{_≡_}
+use mathlib.Core.Bool.{Bool, true, false, not}
 use mathlib.Core.List.{List}
 use lib.Bits.{bitOr}
+use lib.Dec.{eqb}
 use lib.ListN.{length, getD}
 use Rattle.bmap.specs.Plain.{if-else, all, numbers}
 use Rattle.bmap.specs.Domain.{Names, follows}
@@ -25,6 +27,18 @@ unionFrom p masks i (suc n) = if-else (p i) (bitOr (unionFrom p masks (suc i) n)
 -- "An entry occurs in a step when every agent of its crew names its action", for a step that names something for each agent
 unfoldable pub joins : Names → ℕ → ℕ → Bool
 joins names action crew = all (follows names (record { name = action; crew = crew })) (numbers 0 (length names))
+
+-- a name is a byte
+abbrev pub nameCount : ℕ
+nameCount = 256
+
+-- agent a gives another name than k
+abbrev pub differs : Names → ℕ → ℕ → Bool
+differs names k a = not (eqb (getD names a 0) k)
+
+-- a table has, for each name, the agents who give another
+abbrev pub Others : Names → List ℕ → Type 0
+Others names others = (k : ℕ) → k < nameCount → getD others k 0 ≡ maskFrom (differs names k) 0 (length names)
 
 abbrev pub joinsAt : Names → List ℕ → List ℕ → ℕ → Bool
 joinsAt names actions crews i = joins names (getD actions i 0) (getD crews i 0)

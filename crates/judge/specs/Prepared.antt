@@ -14,11 +14,11 @@ use Rattle.judge.specs.Told.{Lawful, Owned, Ordered}
 use Rattle.judge.specs.declared.reading.Runs.{Runs}
 use Rattle.judge.specs.declared.steps.Ran.{Ran}
 
--- the store's laws, who may read them and where those of each kind stand, the fluents' bounds, the number of entries
-pub record Prepared (d : Domain) (store places owners : List ℕ) (n : ℕ) (runs : Runs) (lowest highest : List ℤ) (w count : ℕ) : Type 0 where
-  pub lawful : Lawful d store places n
+-- the held laws, who may read them and where those of each kind stand, the fluents' bounds, the number of entries
+pub record Prepared (d : Domain) (held owners : List ℕ) (n : ℕ) (runs : Runs) (lowest highest : List ℤ) (w count : ℕ) : Type 0 where
+  pub lawful : Lawful d held n
   pub owned : Owned d owners
-  pub ordered : Ordered store places n runs
+  pub ordered : Ordered held n runs
   pub ranged : Ranged d lowest highest w
   pub entries : length (d .entries) ≡ count
 

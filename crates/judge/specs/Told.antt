@@ -2,12 +2,12 @@
 use Prim.Native.Nat.{ℕ, _+_, _-_, _*_, _≤_, _<_}
 use mathlib.Core.Path.{_≡_}
 use mathlib.Core.Bool.{Bool, true}
-use mathlib.Core.List.{List, []}
+use mathlib.Core.List.{List, [], _++_}
 use mathlib.Core.Option.{some}
 use lib.IntN.{ℤ, pos}
-use lib.ListN.{length, getD, drop}
+use lib.ListN.{length, getD, take, drop}
 use Rattle.bmap.specs.Plain.{any, if-else}
-use Rattle.bmap.specs.Limits.{mostFluents}
+use Rattle.bmap.specs.Limits.{mostFluents, mostLaws, storeSize}
 use Rattle.bmap.specs.Tree.{Con, always}
 use Rattle.bmap.specs.Meaning.{History}
 use Rattle.bmap.specs.Domain.{Domain, Names, Law, executable, effect, must, Scope, static, concurrency, goal, entryAt, has, occursIn, knows, readable}
@@ -43,18 +43,30 @@ placeOf (executable e c) = 3
 placeOf (effect e c f x) = 3
 placeOf (must s c) = 2
 
--- the bytes of a frame are this law
-unfoldable pub Says : Domain → List ℕ → Law → Type 0
-Says d frame l = lawIn (countsOf d) (getD frame 0 0) (drop 2 frame) ≡ some l
+-- the bytes start with a frame that is this law
+pub record Says (d : Domain) (bytes : List ℕ) (l : Law) : Type 0 where
+  pub payload : List ℕ
+  pub more : List ℕ
+  pub stands : drop 2 bytes ≡ payload ++ more
+  pub law : lawIn (countsOf d) (getD bytes 0 0) payload ≡ some l
 
--- the frame of law i
-abbrev pub frameOf : List ℕ → List ℕ → ℕ → List ℕ
-frameOf store places i = frameBytes store (getD places i 0)
+-- a frame is a kind, a count and at most 255 bytes
+abbrev pub frameSize : ℕ
+frameSize = 257
 
--- the frames at these places are the domain's laws
-pub record Lawful (d : Domain) (store places : List ℕ) (n : ℕ) : Type 0 where
+-- the bytes from law i on, where laws are held
+abbrev pub frameOf : List ℕ → ℕ → List ℕ
+frameOf held i = drop (frameSize * i) held
+
+-- the frames at these places of a store are held
+abbrev pub Held : List ℕ → List ℕ → ℕ → List ℕ → Type 0
+Held store places n held = (i : ℕ) → i < n → take (length (frameBytes store (getD places i 0))) (frameOf held i) ≡ frameBytes store (getD places i 0)
+
+-- the held laws are the domain's
+pub record Lawful (d : Domain) (held : List ℕ) (n : ℕ) : Type 0 where
+  pub long : length held ≡ storeSize
   pub count : length (d .laws) ≡ n
-  pub law : (i : ℕ) → i < n → Says d (frameOf store places i) (lawNumber d i)
+  pub law : (i : ℕ) → i < n → Says d (frameOf held i) (lawNumber d i)
 
 -- whose law it is, if its crew may read it: "a law that names a fluent known to nobody in the crew counts as false"
 abbrev pub ownerOf : Domain → Law → ℕ
@@ -74,18 +86,22 @@ pub record Knowing (d : Domain) (table : List ℕ) (w : ℕ) (crews : List ℕ) 
   pub crew : (e : ℕ) → e < length (d .entries) → entryAt d e .crew ≡ getD crews e 0
 
 -- the laws of a kind lie from one number to another
-pub record Within (store places : List ℕ) (n kind from to : ℕ) : Type 0 where
+pub record Within (held : List ℕ) (n kind from to : ℕ) : Type 0 where
   pub starts : from ≤ n
   pub ends : to ≤ n
-  pub before : (i : ℕ) → i < from → getD (frameOf store places i) 0 0 ≡ kind → ⊥
-  pub after : (i : ℕ) → to ≤ i → i < n → getD (frameOf store places i) 0 0 ≡ kind → ⊥
+  pub before : (i : ℕ) → i < from → getD (frameOf held i) 0 0 ≡ kind → ⊥
+  pub after : (i : ℕ) → to ≤ i → i < n → getD (frameOf held i) 0 0 ≡ kind → ⊥
 
-pub record Ordered (store places : List ℕ) (n : ℕ) (runs : Runs) : Type 0 where
-  pub executable : Within store places n 0xA5 (runs .executable .from) (runs .executable .to)
-  pub effect : Within store places n 0xA6 (runs .effect .from) (runs .effect .to)
-  pub fixed : Within store places n 0xA7 (runs .fixed .from) (runs .fixed .to)
-  pub concurrency : Within store places n 0xA8 (runs .concurrency .from) (runs .concurrency .to)
-  pub goal : Within store places n 0xA9 (runs .goal .from) (runs .goal .to)
+pub record Ordered (held : List ℕ) (n : ℕ) (runs : Runs) : Type 0 where
+  pub executable : Within held n 0xA5 (runs .executable .from) (runs .executable .to)
+  pub effect : Within held n 0xA6 (runs .effect .from) (runs .effect .to)
+  pub fixed : Within held n 0xA7 (runs .fixed .from) (runs .fixed .to)
+  pub concurrency : Within held n 0xA8 (runs .concurrency .from) (runs .concurrency .to)
+  pub goal : Within held n 0xA9 (runs .goal .from) (runs .goal .to)
+
+-- the numbers of laws keep their limit
+abbrev pub Few : Runs → Type 0
+Few runs = ((runs .executable .to ≤ mostLaws) × (runs .effect .to ≤ mostLaws)) × ((runs .fixed .to ≤ mostLaws) × ((runs .concurrency .to ≤ mostLaws) × (runs .goal .to ≤ mostLaws)))
 
 -- the levels of the states 0 to j are those of a history, and the masks of the steps 1 to j + 1 its occurrences, if they are asked
 pub record Seen (asked : Bool) (d : Domain) (h : History) (levels : List ℤ) (occurred : List ℕ) (j : ℕ) : Type 0 where

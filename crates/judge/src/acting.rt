@@ -1,17 +1,28 @@
 // Who acts in a step: the entries that occur, and the agents who belong to one of them, each as a mask.
 ghost use mathlib.Core.Path.{_≡_};
-ghost use Prim.Native.Nat.{_+_, _*_, _^_, _≤_, _<_};
-ghost use lib.Bits.{bitOr};
+ghost use mathlib.Core.Bool.{true, not};
+ghost use Prim.Native.Nat.{_+_, _-_, _*_, _^_, _≤_, _<_};
+ghost use lib.Bits.{bitAnd, bitOr};
+ghost use lib.Dec.{eqb};
 ghost use lib.ListN.{length};
 ghost use Rattle.bmap.specs.Plain.{if-else};
 ghost use Rattle.bmap.specs.Limits.{mostAgents, mostEntries};
-ghost use Rattle.bmap.specs.Domain.{has};
-ghost use Rattle.judge.specs.Masks.{flagOf, joins, actingOf};
+ghost use Rattle.bmap.specs.Domain.{Names, has};
+ghost use Rattle.judge.specs.Masks.{flagOf, maskFrom, joins, actingOf, nameCount, Others};
 use bmap::Counts;
+
+// A name is a byte.
+const NAMES: usize = 256;
 
 pub struct Acting {
     pub entries: u64,
     pub agents: u16,
+}
+
+pub(crate) fn wide(x: u8) -> usize
+    ensures { λ r. ⌜ r ≡ x ⌝ }
+{
+    x as usize
 }
 
 // "Mask bit i stands for agent i."
@@ -48,34 +59,70 @@ pub(crate) fn taken_in(agents: u16, others: u16, all: bool) -> u16
     if all { agents | others } else { agents }
 }
 
-// "An entry occurs in a step when every agent of its crew names its action."
-fn all_name(names: &[u8], action: u8, crew: u16) -> bool
-    requires { ⌜ length (now names) ≤ mostAgents ⌝ }
-    ensures { λ r. ⌜ r ≡ joins (now (names .entry)) action crew ⌝ }
+// Somebody is in both.
+pub(crate) fn share(a: u16, b: u16) -> bool
+    ensures { λ r. ⌜ r ≡ not (eqb (bitAnd a b) 0) ⌝ }
 {
+    a & b != 0
+}
+
+// The first n agents.
+fn everyone(n: usize) -> u16
+    requires { ⌜ n ≤ mostAgents ⌝ }
+    ensures { λ r. ⌜ r ≡ maskFrom (λ _. true) 0 n ⌝ }
+{
+    let limit: u32 = 1 << n;
+    (limit - 1) as u16
+}
+
+// A mask without its bit a.
+fn without(mask: u16, a: usize) -> u16
+    requires { ⌜ (a < mostAgents) × (2 ^ a ≤ mask) ⌝ }
+    ensures { λ r. ⌜ r ≡ mask - 2 ^ a ⌝ }
+{
+    mask - (1 << a)
+}
+
+// For each name, the agents who give another: all of them, until each is taken out where its own name stands.
+fn all_others(names: &[u8]) -> [u16; NAMES]
+    requires { ⌜ length (now names) ≤ mostAgents ⌝ }
+    ensures { λ r. ⌜ (length r ≡ nameCount) × Others (now (names .entry)) r ⌝ }
+{
+    let mut others = [everyone(names.len()); NAMES];
     let mut a = 0;
     while a < names.len() {
-        if has_agent(crew, a) {
-            if names[a] != action {
-                return false;
-            }
-        }
+        let name = names[a] as usize;
+        others[name] = without(others[name], a);
         a += 1;
     }
-    true
+    others
+}
+
+// "An entry occurs in a step when every agent of its crew names its action": nobody of it names another.
+fn all_name(others: &[u16; NAMES], action: u8, crew: u16) -> bool
+    requires { ⌜ length (now others) ≡ nameCount ⌝ }
+    ensures { λ r. ⌜ ((names : Names) → Others names (now (others .entry)) → r ≡ joins names action crew) ⌝ }
+{
+    !share(others[action as usize], crew)
 }
 
 // The first n entries, from the last to the first, so that each takes the lowest bit.
-pub(crate) fn who_acts(names: &[u8], actions: &[u8], crews: &[u16], n: usize) -> Acting
+pub(crate) fn who_acts(
+    names: &[u8],
+    actions: &[u8; Counts::ENTRIES],
+    crews: &[u16; Counts::ENTRIES],
+    n: usize,
+) -> Acting
     requires { ⌜ (length (now names) ≤ mostAgents) × ((n ≤ mostEntries) × ((n ≤ length (now actions)) × (n ≤ length (now crews)))) ⌝ }
     ensures { λ r. ⌜ r ≡ actingOf (now (names .entry)) (now (actions .entry)) (now (crews .entry)) n ⌝ }
 {
+    let others = all_others(names);
     let mut entries: u64 = 0;
     let mut agents: u16 = 0;
     let mut i = n;
     while 0 < i {
         i -= 1;
-        let occurs = all_name(names, actions[i], crews[i]);
+        let occurs = all_name(&others, actions[i], crews[i]);
         entries = pushed(entries, occurs);
         agents = taken_in(agents, crews[i], occurs);
     }

@@ -2,8 +2,8 @@
 ghost use mathlib.Core.Path.{_≡_};
 ghost use mathlib.Core.Bool.{true};
 ghost use Prim.Native.Nat.{ℕ, _≤_, _<_};
-ghost use lib.ListN.{length};
-ghost use Rattle.bmap.specs.Limits.{mostAgents, mostEntries};
+ghost use lib.ListN.{length, drop};
+ghost use Rattle.bmap.specs.Limits.{mostAgents, mostEntries, mostLaws, storeSize};
 ghost use Rattle.bmap.specs.Domain.{Domain, Names, Law, Scope};
 ghost use Rattle.bmap.specs.Meaning.{History};
 ghost use Rattle.bmap.specs.Payload.{asks};
@@ -13,11 +13,15 @@ ghost use Rattle.judge.specs.Answer.{passOf, kindOf};
 ghost use Rattle.judge.specs.Told.{Belonging, Occurring, Says, Lawful, Owned, Within, Seen, lawNumber, scopeKind};
 use crate::acting::has_agent;
 use crate::acting::has_entry;
-use crate::reading::byte;
+use crate::acting::wide;
+use crate::held::FRAME;
 use crate::reading::constraint_of;
 use crate::verdict::Check;
 use crate::verdict::Fault;
-use index::law_at;
+use bmap::Counts;
+use bmap::LEVELS;
+use bmap::STORE;
+use bmap::Sheet;
 use number::Truth;
 
 // 1: "each agent by number: it names an action but belongs to no occurring entry with that name". The mask has the agents
@@ -40,44 +44,42 @@ pub(crate) fn check_agents(names: &[u8], agents: u16) -> Check
 
 // What one law says for entry i: the owners' table has the laws that its crew may read.
 fn try_law(
-    store: &[u8],
-    laws: &[u16],
-    owners: &[u8],
-    levels: &[i16],
-    occurred: &[u64],
+    held: &[u8; STORE],
+    owners: &[u8; Counts::LAWS],
+    levels: &[i16; LEVELS],
+    occurred: &[u64; Sheet::STEPS + 1],
     j: usize,
     i: usize,
     l: usize,
 ) -> Truth
-    requires { ⌜ i < mostEntries ⌝ }
-    ensures { λ r. ⌜ ((d : Domain) (h : History) (n : ℕ) → Lawful d (now (store .entry)) (now (laws .entry)) n → l < n → Owned d (now (owners .entry)) → Seen true d h (now (levels .entry)) (now (occurred .entry)) j
+    requires { ⌜ (i < mostEntries) × (l < mostLaws) ⌝ }
+    ensures { λ r. ⌜ ((d : Domain) (h : History) (n : ℕ) → Lawful d (now (held .entry)) n → l < n → Owned d (now (owners .entry)) → Seen true d h (now (levels .entry)) (now (occurred .entry)) j
         → truthOf r ≡ permits d h j i (lawNumber d l)) ⌝ }
 {
-    if byte(owners, l) as usize != i {
+    if wide(owners[l]) != i {
         return Truth::Is(false);
     }
-    constraint_of(law_at(store, laws, l), 3, levels, occurred, j)
+    constraint_of(held, FRAME * l + 3, levels, occurred, j)
 }
 
 // "its A5 laws in order until one is true": entry i.
 fn check_entry(
-    store: &[u8],
-    laws: &[u16],
-    owners: &[u8],
+    held: &[u8; STORE],
+    owners: &[u8; Counts::LAWS],
     from: usize,
     to: usize,
-    levels: &[i16],
-    occurred: &[u64],
+    levels: &[i16; LEVELS],
+    occurred: &[u64; Sheet::STEPS + 1],
     j: usize,
     i: usize,
 ) -> Check
-    requires { ⌜ i < mostEntries ⌝ }
-    ensures { λ r. ⌜ ((d : Domain) (h : History) (n : ℕ) → Lawful d (now (store .entry)) (now (laws .entry)) n → Within (now (store .entry)) (now (laws .entry)) n 0xA5 from to → Owned d (now (owners .entry))
+    requires { ⌜ (i < mostEntries) × (to ≤ mostLaws) ⌝ }
+    ensures { λ r. ⌜ ((d : Domain) (h : History) (n : ℕ) → Lawful d (now (held .entry)) n → Within (now (held .entry)) n 0xA5 from to → Owned d (now (owners .entry))
         → Seen true d h (now (levels .entry)) (now (occurred .entry)) j → passOf r ≡ permitted d h j i 0 (d .laws)) ⌝ }
 {
     let mut l = from;
     while l < to {
-        match try_law(store, laws, owners, levels, occurred, j, i, l) {
+        match try_law(held, owners, levels, occurred, j, i, l) {
             Truth::NoTruth => {
                 return Check::Failed(Fault::NoValue, l);
             }
@@ -94,27 +96,25 @@ fn check_entry(
 
 // 2: "each occurring entry by number".
 pub(crate) fn check_entries(
-    store: &[u8],
-    laws: &[u16],
-    owners: &[u8],
+    held: &[u8; STORE],
+    owners: &[u8; Counts::LAWS],
     from: usize,
     to: usize,
     entries: u64,
     count: usize,
-    levels: &[i16],
-    occurred: &[u64],
+    levels: &[i16; LEVELS],
+    occurred: &[u64; Sheet::STEPS + 1],
     j: usize,
 ) -> Check
-    requires { ⌜ count ≤ mostEntries ⌝ }
-    ensures { λ r. ⌜ ((d : Domain) (h : History) (n : ℕ) (names : Names) → Lawful d (now (store .entry)) (now (laws .entry)) n → Within (now (store .entry)) (now (laws .entry)) n 0xA5 from to → Owned d (now (owners .entry))
+    requires { ⌜ (count ≤ mostEntries) × (to ≤ mostLaws) ⌝ }
+    ensures { λ r. ⌜ ((d : Domain) (h : History) (n : ℕ) (names : Names) → Lawful d (now (held .entry)) n → Within (now (held .entry)) n 0xA5 from to → Owned d (now (owners .entry))
         → Occurring d names entries → length (d .entries) ≡ count → Seen true d h (now (levels .entry)) (now (occurred .entry)) j → passOf r ≡ each (mayOccur d h j names) (d .entries)) ⌝ }
 {
     let mut i = 0;
     while i < count {
         if has_entry(entries, i) {
             if let Check::Failed(fault, n) = check_entry(
-                store,
-                laws,
+                held,
                 owners,
                 from,
                 to,
@@ -133,21 +133,23 @@ pub(crate) fn check_entries(
 
 // A law of the scope whose kind is asked for, false: that fault.
 fn check_law(
-    frame: &[u8],
+    held: &[u8; STORE],
+    at: usize,
     kind: u8,
     fault: Fault,
-    levels: &[i16],
-    occurred: &[u64],
+    levels: &[i16; LEVELS],
+    occurred: &[u64; Sheet::STEPS + 1],
     j: usize,
     l: usize,
 ) -> Check
-    ensures { λ r. ⌜ ((d : Domain) (h : History) (s : Scope) (law : Law) → kind ≡ scopeKind s → Says d (now (frame .entry)) law → Seen (asks s) d h (now (levels .entry)) (now (occurred .entry)) j
+    requires { ⌜ at < storeSize ⌝ }
+    ensures { λ r. ⌜ ((d : Domain) (h : History) (s : Scope) (law : Law) → kind ≡ scopeKind s → Says d (drop at (now (held .entry))) law → Seen (asks s) d h (now (levels .entry)) (now (occurred .entry)) j
         → passOf r ≡ holds s (kindOf fault) h j l law) ⌝ }
 {
-    if byte(frame, 0) != kind {
+    if held[at] != kind {
         return Check::Passed;
     }
-    match constraint_of(frame, 2, levels, occurred, j) {
+    match constraint_of(held, at + 2, levels, occurred, j) {
         Truth::NoTruth => Check::Failed(Fault::NoValue, l),
         Truth::Is(met) => {
             if met {
@@ -160,23 +162,24 @@ fn check_law(
 
 // 3, 6 and the goals: each law of a kind in order.
 pub(crate) fn check_laws(
-    store: &[u8],
-    laws: &[u16],
+    held: &[u8; STORE],
     from: usize,
     to: usize,
     kind: u8,
     fault: Fault,
-    levels: &[i16],
-    occurred: &[u64],
+    levels: &[i16; LEVELS],
+    occurred: &[u64; Sheet::STEPS + 1],
     j: usize,
 ) -> Check
-    ensures { λ r. ⌜ ((d : Domain) (h : History) (s : Scope) (n : ℕ) → kind ≡ scopeKind s → Lawful d (now (store .entry)) (now (laws .entry)) n → Within (now (store .entry)) (now (laws .entry)) n kind from to
+    requires { ⌜ to ≤ mostLaws ⌝ }
+    ensures { λ r. ⌜ ((d : Domain) (h : History) (s : Scope) (n : ℕ) → kind ≡ scopeKind s → Lawful d (now (held .entry)) n → Within (now (held .entry)) n kind from to
         → Seen (asks s) d h (now (levels .entry)) (now (occurred .entry)) j → passOf r ≡ allHold s (kindOf fault) d h j) ⌝ }
 {
     let mut l = from;
     while l < to {
         if let Check::Failed(found, n) = check_law(
-            law_at(store, laws, l),
+            held,
+            FRAME * l,
             kind,
             fault,
             levels,

@@ -12,11 +12,14 @@ ghost use Rattle.bmap.specs.Meaning.{History};
 ghost use Rattle.bmap.specs.Judge.{settled};
 ghost use Rattle.judge.specs.Told.{Lawful, Within, Occurring, Seen};
 ghost use Rattle.judge.specs.Settings.{settledOf, countOf};
+use crate::held::FRAME;
 use crate::reading::Wants;
 use crate::reading::wanted;
 use crate::verdict::Fault;
 use bmap::Counts;
-use index::law_at;
+use bmap::LEVELS;
+use bmap::STORE;
+use bmap::Sheet;
 
 // So many settings, or the first fault and its law.
 pub enum Settled {
@@ -36,26 +39,25 @@ pub(crate) fn same_level(a: i32, b: i32) -> bool
 // The settings go to the front of two arrays, the oldest first. "a value differing from an earlier one for the same fluent:
 // kind 4, the later law": the exit with a label carries that law.
 pub(crate) fn settle(
-    store: &[u8],
-    laws: &[u16],
+    held: &[u8; STORE],
     from: usize,
     to: usize,
     entries: u64,
-    levels: &[i16],
-    occurred: &[u64],
+    levels: &[i16; LEVELS],
+    occurred: &[u64; Sheet::STEPS + 1],
     j: usize,
     fluents: &mut [u8; Counts::LAWS],
     values: &mut [i32; Counts::LAWS],
 ) -> Settled
     requires { ⌜ (to ≤ mostLaws) × ((length (now fluents) ≡ mostLaws) × (length (now values) ≡ mostLaws)) ⌝ }
-    ensures { λ r. ⌜ (countOf r ≤ mostLaws) × ((d : Domain) (h : History) (n : ℕ) (names : Names) → Lawful d (now (store .entry)) (now (laws .entry)) n → Within (now (store .entry)) (now (laws .entry)) n 0xA6 from to
+    ensures { λ r. ⌜ (countOf r ≤ mostLaws) × ((d : Domain) (h : History) (n : ℕ) (names : Names) → Lawful d (now (held .entry)) n → Within (now (held .entry)) n 0xA6 from to
         → Occurring d names entries → Seen true d h (now (levels .entry)) (now (occurred .entry)) j → settledOf r (now (fluents .exit)) (now (values .exit)) ≡ settled d h j names 0 [] (d .laws)) ⌝ }
 {
     let mut bad = to;
     let mut m = 0;
     let mut l = from;
     'laws: while l < to {
-        match wanted(law_at(store, laws, l), entries, levels, occurred, j) {
+        match wanted(held, FRAME * l, entries, levels, occurred, j) {
             Wants::Blank => {
                 return Settled::Clash(Fault::NoValue, l);
             }

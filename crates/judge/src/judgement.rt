@@ -10,6 +10,7 @@ ghost use Rattle.bmap.specs.Verdict.{judgement, judgeSheet};
 ghost use Rattle.index.specs.Index.{domainOf, Sound};
 ghost use Rattle.judge.specs.Answer.{answerOf, statesIn, statesWritten};
 ghost use Rattle.judge.specs.Prepared.{judgedOf};
+use crate::held::hold_laws;
 use crate::knowledge::all_knowers;
 use crate::knowledge::all_owners;
 use crate::reading::all_runs;
@@ -19,12 +20,19 @@ use crate::steps::run_sheet;
 use crate::verdict::Judgement;
 use bmap::LEVELS;
 use bmap::Refusal;
+use bmap::STORE;
 use bmap::Sheet;
 use domain::index_of;
 use index::Index;
 
-// What the laws need is found once: who knows what, whose laws count, where those of each kind stand.
-fn judge_steps(store: &[u8], index: Index, sheet: &[u8], n: usize, levels: &mut [i16]) -> Ran
+// What the checks need is found once: the laws, who knows what, whose laws count, where those of each kind stand.
+fn judge_steps(
+    store: &[u8],
+    index: Index,
+    sheet: &[u8],
+    n: usize,
+    levels: &mut [i16; LEVELS],
+) -> Ran
     requires { ⌜ Sound (now store) index × ((n ≤ mostSteps) × ((length (now sheet) ≡ n * index .counts .agents) × (length (now levels) ≡ levelsSize))) ⌝ }
     ensures { λ r. ⌜ ((r .reached ≤ mostSteps + 1) × (length (now (levels .exit)) ≡ levelsSize))
         × (judgedOf (index .counts .fluents) r (now (levels .exit)) ≡ judge (domainOf (now (store .entry)) index) (rows (index .counts .agents) n (now (sheet .entry)))) ⌝ }
@@ -34,24 +42,24 @@ fn judge_steps(store: &[u8], index: Index, sheet: &[u8], n: usize, levels: &mut 
     let known = index.known;
     let knowers = index.knowers;
     let crews = index.crews;
+    let mut held = [0u8; STORE];
+    hold_laws(&mut held, store, &laws, counts.laws);
     let table = all_knowers(&known, &knowers, counts.knowledge, counts.fluents);
     let owners = all_owners(
-        store,
-        &laws,
+        &held,
         counts.laws,
         &table,
         counts.fluents,
         &crews,
         counts.agents,
     );
-    let runs = all_runs(store, &laws, counts.laws);
+    let runs = all_runs(&held, counts.laws);
     let start = index.start;
     let lowest = index.lowest;
     let highest = index.highest;
     let names = index.names;
     run_sheet(
-        store,
-        &laws,
+        &held,
         &owners,
         runs,
         &start,

@@ -2,20 +2,21 @@
 // false and is not read".
 ghost use mathlib.Core.Path.{_≡_};
 ghost use mathlib.Core.Bool.{not};
-ghost use Prim.Native.Nat.{ℕ, _%_, _^_, _≤_, _<_};
+ghost use Prim.Native.Nat.{ℕ, _+_, _%_, _^_, _≤_, _<_};
 ghost use lib.Bits.{bitAnd};
 ghost use lib.Dec.{eqb};
-ghost use lib.ListN.{length, getD};
-ghost use Rattle.bmap.specs.Limits.{mostAgents, mostFluents, mostLaws};
+ghost use lib.ListN.{length, getD, drop};
+ghost use Rattle.bmap.specs.Limits.{mostAgents, mostFluents, mostLaws, storeSize};
 ghost use Rattle.bmap.specs.Domain.{Domain, Law};
 ghost use Rattle.judge.specs.Masks.{unionFrom, maskFrom};
 ghost use Rattle.judge.specs.Told.{Says, Lawful, Owned, Knowing, ownerOf};
 use crate::acting::pushed;
+use crate::acting::share;
 use crate::acting::taken_in;
+use crate::held::FRAME;
 use crate::reading::EXECUTABLE;
-use crate::reading::byte;
 use bmap::Counts;
-use index::law_at;
+use bmap::STORE;
 
 // The owner of a law that does not count.
 const NOBODY: u8 = 255;
@@ -59,12 +60,6 @@ pub(crate) fn all_knowers(
     table
 }
 
-fn share(a: u16, b: u16) -> bool
-    ensures { λ r. ⌜ r ≡ not (eqb (bitAnd a b) 0) ⌝ }
-{
-    a & b != 0
-}
-
 // The fluents that somebody of a crew knows, as a mask.
 fn known_to(table: &[u16; Counts::FLUENTS], w: usize, crew: u16) -> u32
     requires { ⌜ (w ≤ mostFluents) × (length (now table) ≡ mostFluents) ⌝ }
@@ -94,20 +89,21 @@ fn crew_of(crews: &[u16], e: u8, agents: usize) -> u16
 
 // The entry of an executability law that its crew may read.
 fn owner_of(
-    frame: &[u8],
+    held: &[u8; STORE],
+    at: usize,
     table: &[u16; Counts::FLUENTS],
     w: usize,
     crews: &[u16],
     agents: usize,
 ) -> u8
-    requires { ⌜ (w ≤ mostFluents) × ((length (now table) ≡ mostFluents) × (agents ≤ mostAgents)) ⌝ }
-    ensures { λ r. ⌜ ((d : Domain) (l : Law) → Says d (now (frame .entry)) l → Knowing d (now (table .entry)) w (now (crews .entry)) agents → r ≡ ownerOf d l) ⌝ }
+    requires { ⌜ (at + 2 < storeSize) × ((w ≤ mostFluents) × ((length (now table) ≡ mostFluents) × (agents ≤ mostAgents))) ⌝ }
+    ensures { λ r. ⌜ ((d : Domain) (l : Law) → Says d (drop at (now (held .entry))) l → Knowing d (now (table .entry)) w (now (crews .entry)) agents → r ≡ ownerOf d l) ⌝ }
 {
-    if byte(frame, 0) != EXECUTABLE {
+    if held[at] != EXECUTABLE {
         return NOBODY;
     }
-    let e = byte(frame, 2);
-    if law::names_only(frame, 3, known_to(table, w, crew_of(crews, e, agents))) {
+    let e = held[at + 2];
+    if law::names_only(held, at + 3, known_to(table, w, crew_of(crews, e, agents))) {
         return e;
     }
     NOBODY
@@ -115,8 +111,7 @@ fn owner_of(
 
 // The owner of each law.
 pub(crate) fn all_owners(
-    store: &[u8],
-    laws: &[u16],
+    held: &[u8; STORE],
     n: usize,
     table: &[u16; Counts::FLUENTS],
     w: usize,
@@ -124,12 +119,12 @@ pub(crate) fn all_owners(
     agents: usize,
 ) -> [u8; Counts::LAWS]
     requires { ⌜ (n ≤ mostLaws) × ((w ≤ mostFluents) × ((length (now table) ≡ mostFluents) × (agents ≤ mostAgents))) ⌝ }
-    ensures { λ r. ⌜ (length r ≡ mostLaws) × ((d : Domain) → Lawful d (now (store .entry)) (now (laws .entry)) n → Knowing d (now (table .entry)) w (now (crews .entry)) agents → Owned d r) ⌝ }
+    ensures { λ r. ⌜ (length r ≡ mostLaws) × ((d : Domain) → Lawful d (now (held .entry)) n → Knowing d (now (table .entry)) w (now (crews .entry)) agents → Owned d r) ⌝ }
 {
     let mut owners = [NOBODY; Counts::LAWS];
     let mut i = 0;
     while i < n {
-        owners[i] = owner_of(law_at(store, laws, i), table, w, crews, agents);
+        owners[i] = owner_of(held, FRAME * i, table, w, crews, agents);
         i += 1;
     }
     owners

@@ -13,9 +13,10 @@ ghost use Rattle.judge.specs.Landing.{Ranged, Laid, ranged, fitOf};
 use crate::verdict::Check;
 use crate::verdict::Fault;
 use bmap::Counts;
+use bmap::LEVELS;
 
 // The levels of state j, wide enough for what an expression gives.
-fn old_levels(levels: &[i16], j: usize, w: usize) -> [i32; Counts::FLUENTS]
+fn old_levels(levels: &[i16; LEVELS], j: usize, w: usize) -> [i32; Counts::FLUENTS]
     requires { ⌜ (j ≤ mostSteps) × ((w ≤ mostFluents) × (length (now levels) ≡ levelsSize)) ⌝ }
     ensures { λ r. ⌜ (length r ≡ mostFluents) × ((f : ℕ) → f < w → getD r f (pos 0) ≡ getD (now (levels .entry)) (mostFluents * j + f) (pos 0)) ⌝ }
 {
@@ -40,7 +41,7 @@ fn put(new: &mut [i32; Counts::FLUENTS], f: u8, v: i32)
 
 // "Fluents that no law set keep their value": the settings over the old levels, the oldest first.
 pub(crate) fn new_levels(
-    levels: &[i16],
+    levels: &[i16; LEVELS],
     j: usize,
     w: usize,
     fluents: &[u8; Counts::LAWS],
@@ -77,11 +78,11 @@ fn fitted(lowest: i16, v: i32, highest: i16) -> Fit
 
 // 5: "each fluent by number, new value outside its range"; what is inside is stored as state j + 1.
 pub(crate) fn put_state(
-    lowest: &[i16],
-    highest: &[i16],
+    lowest: &[i16; Counts::FLUENTS],
+    highest: &[i16; Counts::FLUENTS],
     w: usize,
     new: &[i32; Counts::FLUENTS],
-    levels: &mut [i16],
+    levels: &mut [i16; LEVELS],
     j: usize,
 ) -> Check
     requires { ⌜ (j < mostSteps) × ((w ≤ mostFluents) × (((w ≤ length (now lowest)) × (w ≤ length (now highest))) × (length (now levels) ≡ levelsSize))) ⌝ }

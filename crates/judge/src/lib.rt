@@ -3,6 +3,7 @@
 mod acting;
 mod checks;
 mod effects;
+mod held;
 mod judgement;
 mod knowledge;
 mod landing;

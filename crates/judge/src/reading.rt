@@ -1,19 +1,23 @@
-// The laws of a store as the checks read them: always the frame that `index::law_at` hands out.
+// What the held laws say.
 ghost use mathlib.Core.Path.{_≡_};
 ghost use mathlib.Core.Bool.{true};
 ghost use Prim.Native.Nat.{ℕ, _+_, _≤_, _<_};
-ghost use lib.ListN.{getD};
+ghost use lib.ListN.{length, getD, drop};
 ghost use Rattle.bmap.specs.Domain.{Domain, Names, Law};
 ghost use Rattle.bmap.specs.Meaning.{History, evalC};
 ghost use Rattle.bmap.specs.Judge.{sets};
-ghost use Rattle.bmap.specs.Limits.{mostDepth};
+ghost use Rattle.bmap.specs.Limits.{mostDepth, mostLaws, storeSize};
 ghost use Rattle.law.specs.Evaluate.{valueAt};
 ghost use Rattle.number.specs.Answer.{truthOf};
 ghost use Rattle.judge.specs.Settings.{settingFrom};
 ghost use Rattle.judge.specs.Told.{Says, Seen, Occurring, Within, Ordered, frameOf, conOf, placeOf, asksOf};
 ghost use Rattle.judge.specs.Answer.{wantsOf};
 use crate::acting::has_entry;
-use index::law_at;
+use crate::acting::wide;
+use crate::held::FRAME;
+use bmap::LEVELS;
+use bmap::STORE;
+use bmap::Sheet;
 use law::Evaluated;
 use law::Judged;
 use number::Truth;
@@ -30,23 +34,17 @@ pub(crate) const CONCURRENCY: u8 = 0xA8;
 
 pub(crate) const GOAL: u8 = 0xA9;
 
-pub(crate) fn byte(s: &[u8], i: usize) -> u8
-    ensures { λ r. ⌜ r ≡ getD (now (s .entry)) i 0 ⌝ }
-{
-    if i < s.len() { s[i] } else { 0 }
-}
-
 // What the constraint of a law gives at position j. It stands after kind and count, and after the entry if there is one.
 pub(crate) fn constraint_of(
-    frame: &[u8],
+    held: &[u8; STORE],
     at: usize,
-    levels: &[i16],
-    occurred: &[u64],
+    levels: &[i16; LEVELS],
+    occurred: &[u64; Sheet::STEPS + 1],
     j: usize,
 ) -> Truth
-    ensures { λ r. ⌜ ((d : Domain) (h : History) (l : Law) → Says d (now (frame .entry)) l → at ≡ placeOf l → Seen (asksOf l) d h (now (levels .entry)) (now (occurred .entry)) j → truthOf r ≡ evalC (conOf l) h j) ⌝ }
+    ensures { λ r. ⌜ ((d : Domain) (h : History) (l : Law) (p : ℕ) → Says d (drop p (now (held .entry))) l → at ≡ p + placeOf l → Seen (asksOf l) d h (now (levels .entry)) (now (occurred .entry)) j → truthOf r ≡ evalC (conOf l) h j) ⌝ }
 {
-    match law::constraint_at(frame, at, levels, occurred, j) {
+    match law::constraint_at(held, at, levels, occurred, j) {
         Judged::Gives(truth, _) => truth,
         Judged::Malformed => Truth::NoTruth,
     }
@@ -60,14 +58,20 @@ pub enum Wants {
 }
 
 // A fluent and the expression after it.
-fn setting_at(frame: &[u8], at: usize, levels: &[i16], occurred: &[u64], j: usize) -> Wants
-    ensures { λ r. ⌜ wantsOf r ≡ settingFrom (getD (now (frame .entry)) at 0) (valueAt mostDepth (now (frame .entry)) (at + 1) (now (levels .entry)) (now (occurred .entry)) j) ⌝ }
+fn setting_at(
+    held: &[u8; STORE],
+    at: usize,
+    levels: &[i16; LEVELS],
+    occurred: &[u64; Sheet::STEPS + 1],
+    j: usize,
+) -> Wants
+    ensures { λ r. ⌜ (length (now (held .entry)) ≡ storeSize → wantsOf r ≡ settingFrom (getD (now (held .entry)) at 0) (valueAt mostDepth (now (held .entry)) (at + 1) (now (levels .entry)) (now (occurred .entry)) j)) ⌝ }
 {
-    if frame.len() <= at {
+    if STORE <= at {
         return Wants::Blank;
     }
-    let f = frame[at];
-    let Evaluated::Gives(value, _) = law::expression_at(frame, at + 1, levels, occurred, j) else {
+    let f = held[at];
+    let Evaluated::Gives(value, _) = law::expression_at(held, at + 1, levels, occurred, j) else {
         return Wants::Blank;
     };
     match value {
@@ -78,28 +82,30 @@ fn setting_at(frame: &[u8], at: usize, levels: &[i16], occurred: &[u64], j: usiz
 
 // "each A6 law in order whose entry occurs: constraint, and if true, expression"
 pub(crate) fn wanted(
-    frame: &[u8],
+    held: &[u8; STORE],
+    at: usize,
     entries: u64,
-    levels: &[i16],
-    occurred: &[u64],
+    levels: &[i16; LEVELS],
+    occurred: &[u64; Sheet::STEPS + 1],
     j: usize,
 ) -> Wants
-    ensures { λ r. ⌜ ((d : Domain) (h : History) (l : Law) (names : Names) → Says d (now (frame .entry)) l → Occurring d names entries → Seen true d h (now (levels .entry)) (now (occurred .entry)) j → wantsOf r ≡ sets d h j names l) ⌝ }
+    requires { ⌜ at + 2 < storeSize ⌝ }
+    ensures { λ r. ⌜ ((d : Domain) (h : History) (l : Law) (names : Names) → length (now (held .entry)) ≡ storeSize → Says d (drop at (now (held .entry))) l → Occurring d names entries → Seen true d h (now (levels .entry)) (now (occurred .entry)) j → wantsOf r ≡ sets d h j names l) ⌝ }
 {
-    if byte(frame, 0) != EFFECT {
+    if held[at] != EFFECT {
         return Wants::Leaves;
     }
-    if !has_entry(entries, byte(frame, 2) as usize) {
+    if !has_entry(entries, wide(held[at + 2])) {
         return Wants::Leaves;
     }
-    let Judged::Gives(truth, end) = law::constraint_at(frame, 3, levels, occurred, j) else {
+    let Judged::Gives(truth, end) = law::constraint_at(held, at + 3, levels, occurred, j) else {
         return Wants::Blank;
     };
     let Truth::Is(met) = truth else {
         return Wants::Blank;
     };
     if met {
-        return setting_at(frame, end, levels, occurred, j);
+        return setting_at(held, end, levels, occurred, j);
     }
     Wants::Leaves
 }
@@ -110,12 +116,13 @@ pub struct Run {
     pub to: usize,
 }
 
-fn first_of(store: &[u8], laws: &[u16], n: usize, kind: u8) -> usize
-    ensures { λ r. ⌜ (r ≤ n) × ((i : ℕ) → i < r → getD (frameOf (now (store .entry)) (now (laws .entry)) i) 0 0 ≡ kind → ⊥) ⌝ }
+fn first_of(held: &[u8; STORE], n: usize, kind: u8) -> usize
+    requires { ⌜ n ≤ mostLaws ⌝ }
+    ensures { λ r. ⌜ (r ≤ n) × ((i : ℕ) → i < r → getD (frameOf (now (held .entry)) i) 0 0 ≡ kind → ⊥) ⌝ }
 {
     let mut i = 0;
     while i < n {
-        if byte(law_at(store, laws, i), 0) == kind {
+        if held[FRAME * i] == kind {
             return i;
         }
         i += 1;
@@ -123,12 +130,13 @@ fn first_of(store: &[u8], laws: &[u16], n: usize, kind: u8) -> usize
     i
 }
 
-fn end_of(store: &[u8], laws: &[u16], n: usize, kind: u8) -> usize
-    ensures { λ r. ⌜ (r ≤ n) × ((i : ℕ) → r ≤ i → i < n → getD (frameOf (now (store .entry)) (now (laws .entry)) i) 0 0 ≡ kind → ⊥) ⌝ }
+fn end_of(held: &[u8; STORE], n: usize, kind: u8) -> usize
+    requires { ⌜ n ≤ mostLaws ⌝ }
+    ensures { λ r. ⌜ (r ≤ n) × ((i : ℕ) → r ≤ i → i < n → getD (frameOf (now (held .entry)) i) 0 0 ≡ kind → ⊥) ⌝ }
 {
     let mut i = n;
     while 0 < i {
-        if byte(law_at(store, laws, i - 1), 0) == kind {
+        if held[FRAME * (i - 1)] == kind {
             return i;
         }
         i -= 1;
@@ -136,11 +144,12 @@ fn end_of(store: &[u8], laws: &[u16], n: usize, kind: u8) -> usize
     i
 }
 
-pub(crate) fn run_of(store: &[u8], laws: &[u16], n: usize, kind: u8) -> Run
-    ensures { λ r. ⌜ Within (now (store .entry)) (now (laws .entry)) n kind (r .from) (r .to) ⌝ }
+pub(crate) fn run_of(held: &[u8; STORE], n: usize, kind: u8) -> Run
+    requires { ⌜ n ≤ mostLaws ⌝ }
+    ensures { λ r. ⌜ Within (now (held .entry)) n kind (r .from) (r .to) ⌝ }
 {
-    let from = first_of(store, laws, n, kind);
-    let to = end_of(store, laws, n, kind);
+    let from = first_of(held, n, kind);
+    let to = end_of(held, n, kind);
     Run { from, to }
 }
 
@@ -153,14 +162,15 @@ pub struct Runs {
     pub goal: Run,
 }
 
-pub(crate) fn all_runs(store: &[u8], laws: &[u16], n: usize) -> Runs
-    ensures { λ r. ⌜ Ordered (now (store .entry)) (now (laws .entry)) n r ⌝ }
+pub(crate) fn all_runs(held: &[u8; STORE], n: usize) -> Runs
+    requires { ⌜ n ≤ mostLaws ⌝ }
+    ensures { λ r. ⌜ Ordered (now (held .entry)) n r ⌝ }
 {
-    let executable = run_of(store, laws, n, EXECUTABLE);
-    let effect = run_of(store, laws, n, EFFECT);
-    let fixed = run_of(store, laws, n, STATIC);
-    let concurrency = run_of(store, laws, n, CONCURRENCY);
-    let goal = run_of(store, laws, n, GOAL);
+    let executable = run_of(held, n, EXECUTABLE);
+    let effect = run_of(held, n, EFFECT);
+    let fixed = run_of(held, n, STATIC);
+    let concurrency = run_of(held, n, CONCURRENCY);
+    let goal = run_of(held, n, GOAL);
     Runs {
         executable,
         effect,

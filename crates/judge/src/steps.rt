@@ -3,13 +3,13 @@ ghost use mathlib.Core.Path.{_≡_};
 ghost use mathlib.Core.List.{List};
 ghost use Prim.Native.Nat.{ℕ, _+_, _-_, _*_, _≤_, _<_};
 ghost use lib.ListN.{length, take};
-ghost use Rattle.bmap.specs.Limits.{mostAgents, mostFluents, mostEntries, mostLaws, mostSteps, levelsSize};
+ghost use Rattle.bmap.specs.Limits.{mostAgents, mostFluents, mostEntries, mostSteps, levelsSize};
 ghost use Rattle.bmap.specs.Domain.{Domain, Names};
 ghost use Rattle.bmap.specs.Sheet.{rows};
 ghost use Rattle.bmap.specs.Judge.{step, carried, judge, startOf, accepted};
 ghost use Rattle.judge.specs.Answer.{verdictOf};
 ghost use Rattle.judge.specs.States.{stateAt, statesOf, leaving, Kept};
-ghost use Rattle.judge.specs.Told.{Belonging, Occurring, Acted};
+ghost use Rattle.judge.specs.Told.{Belonging, Occurring, Acted, Few};
 ghost use Rattle.judge.specs.Prepared.{Prepared, Entered, landed, judgedOf};
 use crate::acting::Acting;
 use crate::acting::who_acts;
@@ -29,24 +29,25 @@ use crate::verdict::Check;
 use crate::verdict::Fault;
 use crate::verdict::Verdict;
 use bmap::Counts;
+use bmap::LEVELS;
+use bmap::STORE;
 use bmap::Sheet;
 
 // Checks 4 to 6: what the effect laws set, the new state as state j + 1, the static laws on it.
 fn land(
-    store: &[u8],
-    laws: &[u16],
+    held: &[u8; STORE],
     runs: Runs,
-    lowest: &[i16],
-    highest: &[i16],
+    lowest: &[i16; Counts::FLUENTS],
+    highest: &[i16; Counts::FLUENTS],
     w: usize,
     entries: u64,
-    occurred: &[u64],
-    levels: &mut [i16],
+    occurred: &[u64; Sheet::STEPS + 1],
+    levels: &mut [i16; LEVELS],
     j: usize,
 ) -> Check
-    requires { ⌜ ((j < mostSteps) × (runs .effect .to ≤ mostLaws)) × ((w ≤ mostFluents) × (((w ≤ length (now lowest)) × (w ≤ length (now highest))) × (length (now levels) ≡ levelsSize))) ⌝ }
+    requires { ⌜ ((j < mostSteps) × Few runs) × ((w ≤ mostFluents) × (((w ≤ length (now lowest)) × (w ≤ length (now highest))) × (length (now levels) ≡ levelsSize))) ⌝ }
     ensures { λ r. ⌜ Kept j (now (levels .entry)) (now (levels .exit)) × ((d : Domain) (owners : List ℕ) (n count : ℕ) (sheet : List Names) (names : Names)
-        → Prepared d (now (store .entry)) (now (laws .entry)) owners n runs (now (lowest .entry)) (now (highest .entry)) w count → Occurring d names entries → Acted d sheet (now (occurred .entry)) (j + 1)
+        → Prepared d (now (held .entry)) owners n runs (now (lowest .entry)) (now (highest .entry)) w count → Occurring d names entries → Acted d sheet (now (occurred .entry)) (j + 1)
         → leaving r (stateAt w (now (levels .exit)) (j + 1)) ≡ landed d sheet (statesOf w (j + 1) (now (levels .entry))) j names) ⌝ }
 {
     let mut fluents = [0u8; Counts::LAWS];
@@ -56,8 +57,7 @@ fn land(
     let next = j + 1;
     let effect = runs.effect;
     match settle(
-        store,
-        laws,
+        held,
         effect.from,
         effect.to,
         entries,
@@ -75,8 +75,7 @@ fn land(
             }
             let fixed = runs.fixed;
             check_laws(
-                store,
-                laws,
+                held,
                 fixed.from,
                 fixed.to,
                 STATIC,
@@ -91,23 +90,22 @@ fn land(
 
 // The step from state j: "First fault wins."
 fn take_step(
-    store: &[u8],
-    laws: &[u16],
-    owners: &[u8],
+    held: &[u8; STORE],
+    owners: &[u8; Counts::LAWS],
     runs: Runs,
-    lowest: &[i16],
-    highest: &[i16],
+    lowest: &[i16; Counts::FLUENTS],
+    highest: &[i16; Counts::FLUENTS],
     w: usize,
     count: usize,
     names: &[u8],
     acting: Acting,
-    occurred: &[u64],
-    levels: &mut [i16],
+    occurred: &[u64; Sheet::STEPS + 1],
+    levels: &mut [i16; LEVELS],
     j: usize,
 ) -> Check
-    requires { ⌜ ((j < mostSteps) × (runs .effect .to ≤ mostLaws)) × (((length (now names) ≤ mostAgents) × (count ≤ mostEntries)) × ((w ≤ mostFluents) × (((w ≤ length (now lowest)) × (w ≤ length (now highest))) × (length (now levels) ≡ levelsSize)))) ⌝ }
+    requires { ⌜ ((j < mostSteps) × Few runs) × (((length (now names) ≤ mostAgents) × (count ≤ mostEntries)) × ((w ≤ mostFluents) × (((w ≤ length (now lowest)) × (w ≤ length (now highest))) × (length (now levels) ≡ levelsSize)))) ⌝ }
     ensures { λ r. ⌜ Kept j (now (levels .entry)) (now (levels .exit)) × ((d : Domain) (n : ℕ) (sheet : List Names)
-        → Prepared d (now (store .entry)) (now (laws .entry)) (now (owners .entry)) n runs (now (lowest .entry)) (now (highest .entry)) w count
+        → Prepared d (now (held .entry)) (now (owners .entry)) n runs (now (lowest .entry)) (now (highest .entry)) w count
         → Occurring d (now (names .entry)) (acting .entries) → Belonging d (now (names .entry)) (acting .agents) → Acted d sheet (now (occurred .entry)) (j + 1)
         → leaving r (stateAt w (now (levels .exit)) (j + 1)) ≡ step d sheet (statesOf w (j + 1) (now (levels .entry))) j (now (names .entry))) ⌝ }
 {
@@ -116,8 +114,7 @@ fn take_step(
     }
     let own = runs.executable;
     if let Check::Failed(fault, n) = check_entries(
-        store,
-        laws,
+        held,
         owners,
         own.from,
         own.to,
@@ -131,8 +128,7 @@ fn take_step(
     }
     let together = runs.concurrency;
     if let Check::Failed(fault, n) = check_laws(
-        store,
-        laws,
+        held,
         together.from,
         together.to,
         CONCURRENCY,
@@ -144,8 +140,7 @@ fn take_step(
         return Check::Failed(fault, n);
     }
     land(
-        store,
-        laws,
+        held,
         runs,
         lowest,
         highest,
@@ -165,26 +160,25 @@ pub struct Ran {
 
 // The steps in turn, from state 0 of the history; the masks of those that were taken are kept for code 29.
 fn run_steps(
-    store: &[u8],
-    laws: &[u16],
-    owners: &[u8],
+    held: &[u8; STORE],
+    owners: &[u8; Counts::LAWS],
     runs: Runs,
-    lowest: &[i16],
-    highest: &[i16],
+    lowest: &[i16; Counts::FLUENTS],
+    highest: &[i16; Counts::FLUENTS],
     w: usize,
-    actions: &[u8],
-    crews: &[u16],
+    actions: &[u8; Counts::ENTRIES],
+    crews: &[u16; Counts::ENTRIES],
     count: usize,
     agents: usize,
     sheet: &[u8],
     n: usize,
-    levels: &mut [i16],
-    occurred: &mut [u64],
+    levels: &mut [i16; LEVELS],
+    occurred: &mut [u64; Sheet::STEPS + 1],
 ) -> Ran
-    requires { ⌜ ((n ≤ mostSteps) × ((runs .effect .to ≤ mostLaws) × (length (now sheet) ≡ n * agents))) × (((agents ≤ mostAgents) × ((count ≤ mostEntries) × ((count ≤ length (now actions)) × (count ≤ length (now crews)))))
+    requires { ⌜ ((n ≤ mostSteps) × (Few runs × (length (now sheet) ≡ n * agents))) × (((agents ≤ mostAgents) × ((count ≤ mostEntries) × ((count ≤ length (now actions)) × (count ≤ length (now crews)))))
         × ((w ≤ mostFluents) × (((w ≤ length (now lowest)) × (w ≤ length (now highest))) × ((length (now levels) ≡ levelsSize) × (length (now occurred) ≡ mostSteps + 1))))) ⌝ }
     ensures { λ r. ⌜ ((r .reached ≤ n + 1) × ((verdictOf (r .verdict) ≡ accepted → r .reached ≡ n + 1) × (length (now (levels .exit)) ≡ levelsSize))) × ((d : Domain) (l : ℕ)
-        → Prepared d (now (store .entry)) (now (laws .entry)) (now (owners .entry)) l runs (now (lowest .entry)) (now (highest .entry)) w count → Entered d (now (actions .entry)) (now (crews .entry)) count → d .agents ≡ agents
+        → Prepared d (now (held .entry)) (now (owners .entry)) l runs (now (lowest .entry)) (now (highest .entry)) w count → Entered d (now (actions .entry)) (now (crews .entry)) count → d .agents ≡ agents
         → judgedOf w r (now (levels .exit)) ≡ carried d (rows agents n (now (sheet .entry))) 0 (statesOf w 1 (now (levels .entry))) (rows agents n (now (sheet .entry)))) ⌝ }
 {
     let mut rest = sheet;
@@ -194,8 +188,7 @@ fn run_steps(
         let acting = who_acts(names, actions, crews, count);
         occurred[j + 1] = acting.entries;
         if let Check::Failed(fault, number) = take_step(
-            store,
-            laws,
+            held,
             owners,
             runs,
             lowest,
@@ -228,34 +221,32 @@ fn run_steps(
 
 // The static laws on state 0, the steps, the goals after the last.
 pub(crate) fn run_sheet(
-    store: &[u8],
-    laws: &[u16],
-    owners: &[u8],
+    held: &[u8; STORE],
+    owners: &[u8; Counts::LAWS],
     runs: Runs,
-    start: &[i16],
-    lowest: &[i16],
-    highest: &[i16],
+    start: &[i16; Counts::FLUENTS],
+    lowest: &[i16; Counts::FLUENTS],
+    highest: &[i16; Counts::FLUENTS],
     w: usize,
-    actions: &[u8],
-    crews: &[u16],
+    actions: &[u8; Counts::ENTRIES],
+    crews: &[u16; Counts::ENTRIES],
     count: usize,
     agents: usize,
     sheet: &[u8],
     n: usize,
-    levels: &mut [i16],
+    levels: &mut [i16; LEVELS],
 ) -> Ran
-    requires { ⌜ ((n ≤ mostSteps) × ((runs .effect .to ≤ mostLaws) × (length (now sheet) ≡ n * agents))) × (((agents ≤ mostAgents) × ((count ≤ mostEntries) × ((count ≤ length (now actions)) × (count ≤ length (now crews)))))
+    requires { ⌜ ((n ≤ mostSteps) × (Few runs × (length (now sheet) ≡ n * agents))) × (((agents ≤ mostAgents) × ((count ≤ mostEntries) × ((count ≤ length (now actions)) × (count ≤ length (now crews)))))
         × ((w ≤ mostFluents) × (((w ≤ length (now lowest)) × (w ≤ length (now highest))) × ((w ≤ length (now start)) × (length (now levels) ≡ levelsSize))))) ⌝ }
     ensures { λ r. ⌜ ((r .reached ≤ mostSteps + 1) × (length (now (levels .exit)) ≡ levelsSize)) × ((d : Domain) (l : ℕ)
-        → Prepared d (now (store .entry)) (now (laws .entry)) (now (owners .entry)) l runs (now (lowest .entry)) (now (highest .entry)) w count → Entered d (now (actions .entry)) (now (crews .entry)) count → d .agents ≡ agents
+        → Prepared d (now (held .entry)) (now (owners .entry)) l runs (now (lowest .entry)) (now (highest .entry)) w count → Entered d (now (actions .entry)) (now (crews .entry)) count → d .agents ≡ agents
         → startOf d ≡ take w (now (start .entry)) → judgedOf w r (now (levels .exit)) ≡ judge d (rows agents n (now (sheet .entry)))) ⌝ }
 {
     let mut occurred = [0u64; Sheet::STEPS + 1];
     copy_levels(start, 0, w, levels, 0);
     let fixed = runs.fixed;
     if let Check::Failed(fault, number) = check_laws(
-        store,
-        laws,
+        held,
         fixed.from,
         fixed.to,
         STATIC,
@@ -274,8 +265,7 @@ pub(crate) fn run_sheet(
         };
     }
     let ran = run_steps(
-        store,
-        laws,
+        held,
         owners,
         runs,
         lowest,
@@ -298,8 +288,7 @@ pub(crate) fn run_sheet(
     let last = n;
     let goal = runs.goal;
     if let Check::Failed(fault, number) = check_laws(
-        store,
-        laws,
+        held,
         goal.from,
         goal.to,
         GOAL,

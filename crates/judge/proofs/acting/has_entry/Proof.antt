@@ -14,4 +14,9 @@ returns-2 : tie.Need-returns-2
 returns-2 c = no-bit (c .before .args .mask) (c .before .args .i) (c .before .fits .mask .fits) (c .if1 .left)
 
 pub has-entry-spec : {M : Type 1} → statement M
-has-entry-spec = tie.close (tie.spec shr-result returns returns-2)
+has-entry-spec =
+    tie.close
+    (tie.spec
+    shr-result
+    returns
+    returns-2)

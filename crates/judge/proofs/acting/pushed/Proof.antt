@@ -19,4 +19,11 @@ returns-2 : tie.Need-returns-2
 returns-2 c = rw (c .if1 .left) (omega arith)
 
 pub pushed-spec : {M : Type 1} → statement M
-pushed-spec = tie.close (tie.spec mul-result add-result mul-result-2 returns returns-2)
+pushed-spec =
+    tie.close
+    (tie.spec
+    mul-result
+    add-result
+    mul-result-2
+    returns
+    returns-2)

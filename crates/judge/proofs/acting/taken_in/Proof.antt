@@ -9,4 +9,8 @@ returns-2 : tie.Need-returns-2
 returns-2 c = search needs
 
 pub taken-in-spec : {M : Type 1} → statement M
-taken-in-spec = tie.close (tie.spec returns returns-2)
+taken-in-spec =
+    tie.close
+    (tie.spec
+    returns
+    returns-2)

@@ -8,10 +8,13 @@ use Rattle.judge.proofs.acting.who_acts.Statement.{statement}
 use Rattle.judge.proofs.acting.who_acts.Tie as tie
 
 abbrev Inv-loop : tie.InvT-loop
-Inv-loop names actions crews n entries₀ agents₀ i₀ entries agents i = (i ≤ n) × ((entries ≡ maskFrom (joinsAt names actions crews) i (n - i)) × (agents ≡ unionFrom (joinsAt names actions crews) crews i (n - i)))
+Inv-loop names actions crews n others entries₀ agents₀ i₀ entries agents i = (i ≤ n) × ((entries ≡ maskFrom (joinsAt names actions crews) i (n - i)) × (agents ≡ unionFrom (joinsAt names actions crews) crews i (n - i)))
 
 abbrev μ-loop : tie.MeasureT-loop
-μ-loop names actions crews n entries₀ agents₀ i₀ entries agents i = i
+μ-loop names actions crews n others entries₀ agents₀ i₀ entries agents i = i
+
+all-others-requires : tie.Need-all-others-requires Inv-loop μ-loop
+all-others-requires c κs = search needs
 
 loop-holds : tie.Need-loop-holds Inv-loop μ-loop
 loop-holds c = (search needs, (mask-none _ _, union-none _ _ _))
@@ -19,26 +22,26 @@ loop-holds c = (search needs, (mask-none _ _, union-none _ _ _))
 sub-i : tie.Need-sub-i Inv-loop μ-loop
 sub-i c = search needs
 
-shared-slice-read-all-name : tie.Need-shared-slice-read-all-name Inv-loop μ-loop
-shared-slice-read-all-name c = search needs
+element-copy-out-all-name : tie.Need-element-copy-out-all-name Inv-loop μ-loop
+element-copy-out-all-name c = search needs
 
 mul-all-name : tie.Need-mul-all-name Inv-loop μ-loop
 mul-all-name c = search needs
 
-shared-slice-read-all-name-2 : tie.Need-shared-slice-read-all-name-2 Inv-loop μ-loop
-shared-slice-read-all-name-2 c = search needs
+element-copy-out-all-name-2 : tie.Need-element-copy-out-all-name-2 Inv-loop μ-loop
+element-copy-out-all-name-2 c = search needs
 
 all-name-requires : tie.Need-all-name-requires Inv-loop μ-loop
-all-name-requires c κs = search needs
+all-name-requires c κs = c .before .before .before .before .before .all-others .ensures .0
 
 pushed-requires : tie.Need-pushed-requires Inv-loop μ-loop
-pushed-requires c κs = mask-small _ _ _ 63 (omega arith) (c .before .before .before .before .loop .inv .1 .0)
+pushed-requires c κs = mask-small _ _ _ 63 (omega arith) (c .before .before .before .before .before .loop .inv .1 .0)
 
 mul-taken-in : tie.Need-mul-taken-in Inv-loop μ-loop
 mul-taken-in c = search needs
 
-shared-slice-read-taken-in : tie.Need-shared-slice-read-taken-in Inv-loop μ-loop
-shared-slice-read-taken-in c = search needs
+element-copy-out-taken-in : tie.Need-element-copy-out-taken-in Inv-loop μ-loop
+element-copy-out-taken-in c = search needs
 
 taken-in-requires : tie.Need-taken-in-requires Inv-loop μ-loop
 taken-in-requires c κs = search needs
@@ -50,13 +53,13 @@ loop-again : tie.Need-loop-again Inv-loop μ-loop
 loop-again c = let s = c .before .before .before .before .before .before .before .before .before .before .before .args in let p = joinsAt (s .names .now) (s .actions .now) (s .crews .now) in (
   omega arith,
   (
-    c .before .before .pushed .ensures ∙ mask-more p (s .n) (c .before .before .before .before .before .before .before .loop .i) (c .before .before .before .before .before .before .loop-test .taken) (c .before .before .before .before .before .before .before .loop .inv .0) (c .before .before .before .before .before .before .before .loop .inv .1 .0) (c .before .before .before .all-name .ensures),
-    c .taken-in .ensures ∙ union-more p (s .crews .now) (s .n) (c .before .before .before .before .before .before .before .loop .i) (c .before .before .before .before .before .before .loop-test .taken) (c .before .before .before .before .before .before .before .loop .inv .0) (c .before .before .before .before .before .before .before .loop .inv .1 .1) refl (c .before .before .before .all-name .ensures),
+    c .before .before .pushed .ensures ∙ mask-more p (s .n) (c .before .before .before .before .before .before .before .before .loop .i) (c .before .before .before .before .before .before .before .loop-test .taken) (c .before .before .before .before .before .before .before .before .loop .inv .0) (c .before .before .before .before .before .before .before .before .loop .inv .1 .0) ((c .before .before .before .all-name .ensures (s .names .now) (c .before .before .before .before .before .before .before .before .before .all-others .ensures .1))),
+    c .taken-in .ensures ∙ union-more p (s .crews .now) (s .n) (c .before .before .before .before .before .before .before .before .loop .i) (c .before .before .before .before .before .before .before .loop-test .taken) (c .before .before .before .before .before .before .before .before .loop .inv .0) (c .before .before .before .before .before .before .before .before .loop .inv .1 .1) refl ((c .before .before .before .all-name .ensures (s .names .now) (c .before .before .before .before .before .before .before .before .before .all-others .ensures .1))),
   ),
 )
 
 returns : tie.Need-returns Inv-loop μ-loop
-returns c = let s = c .before .before .before .before .before .args in ap (λ (e : ℕ). record { entries = e; agents = c .before .loop .agents }) (mask-whole _ (s .n) (c .before .loop .i) (c .loop-test .left) (c .before .loop .inv .1 .0)) ∙ ap (λ (a : ℕ). record { entries = maskFrom (joinsAt (s .names .now) (s .actions .now) (s .crews .now)) 0 (s .n); agents = a }) (union-whole _ _ (s .n) (c .before .loop .i) (c .loop-test .left) (c .before .loop .inv .1 .1))
+returns c = let s = c .before .before .before .before .args in ap (λ (e : ℕ). record { entries = e; agents = c .before .loop .agents }) (mask-whole _ (s .n) (c .before .loop .i) (c .loop-test .left) (c .before .loop .inv .1 .0)) ∙ ap (λ (a : ℕ). record { entries = maskFrom (joinsAt (s .names .now) (s .actions .now) (s .crews .now)) 0 (s .n); agents = a }) (union-whole _ _ (s .n) (c .before .loop .i) (c .loop-test .left) (c .before .loop .inv .1 .1))
 
 pub who-acts-spec : {M : Type 1} → statement M
 who-acts-spec =
@@ -64,15 +67,16 @@ who-acts-spec =
     (tie.spec
     Inv-loop
     μ-loop
+    all-others-requires
     loop-holds
     sub-i
-    shared-slice-read-all-name
+    element-copy-out-all-name
     mul-all-name
-    shared-slice-read-all-name-2
+    element-copy-out-all-name-2
     all-name-requires
     pushed-requires
     mul-taken-in
-    shared-slice-read-taken-in
+    element-copy-out-taken-in
     taken-in-requires
     loop-less
     loop-again

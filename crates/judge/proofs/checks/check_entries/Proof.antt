@@ -16,11 +16,11 @@ use Rattle.judge.proofs.checks.check_entries.Statement.{statement}
 use Rattle.judge.proofs.checks.check_entries.Tie as tie
 
 abbrev Inv-loop : tie.InvT-loop
-Inv-loop store laws owners from to entries count levels occurred j i₀ i = (d : Domain) (h : History) (n : ℕ) (names : Names) → Lawful d store laws n → Within store laws n 0xA5 from to → Owned d owners → Occurring d names entries → length (d .entries) ≡ count → Seen true d h levels occurred j
+Inv-loop held owners from to entries count levels occurred j i₀ i = (d : Domain) (h : History) (n : ℕ) (names : Names) → Lawful d held n → Within held n 0xA5 from to → Owned d owners → Occurring d names entries → length (d .entries) ≡ count → Seen true d h levels occurred j
     → eachFrom 0 (mayOccur d h j names) (d .entries) ≡ eachFrom i (mayOccur d h j names) (drop i (d .entries))
 
 abbrev μ-loop : tie.MeasureT-loop
-μ-loop store laws owners from to entries count levels occurred j i₀ i = count - i
+μ-loop held owners from to entries count levels occurred j i₀ i = count - i
 
 loop-holds : tie.Need-loop-holds Inv-loop μ-loop
 loop-holds c = λ d h n names lawful within owned occurring count seen. refl
@@ -35,7 +35,7 @@ enum-known-fault : tie.Need-enum-known-fault Inv-loop μ-loop
 enum-known-fault c = search needs
 
 returns : tie.Need-returns Inv-loop μ-loop
-returns c = λ d h n names lawful within owned occurring count seen. let a = c .before .before .before .before .before .before .before .before .before .before .before .before .args in let f = mayOccur d h (a .j) names in let i = c .before .before .before .before .before .before .before .loop .i in
+returns c = λ d h n names lawful within owned occurring count seen. let a = c .before .before .before .before .before .before .before .before .args in let f = mayOccur d h (a .j) names in let i = c .before .before .before .before .before .before .before .loop .i in
     let p : i < length (d .entries) = omega (arith, c .before .before .before .before .before .before .loop-test .taken) in
     sym (c .before .before .before .before .before .before .before .loop .inv d h n names lawful within owned occurring count seen ∙ stops (λ k r. eachFrom k f r) (d .entries) noEntry i p (each-stop f i _ _
     (occurs-may d h (a .j) names i _ (sym (occurring i p ∙ (sym (c .before .before .before .before .before .has-entry .ensures) ∙ c .before .before .before .before .if1 .taken))) ∙ (sym (c .before .before .before .check-entry .ensures d h n lawful within owned seen) ∙ ap passOf (c .before .fault .given .1)))))
@@ -50,7 +50,7 @@ loop-less : tie.Need-loop-less Inv-loop μ-loop
 loop-less c = search needs
 
 loop-again : tie.Need-loop-again Inv-loop μ-loop
-loop-again c = λ d h n names lawful within owned occurring count seen. let a = c .before .before .before .before .before .before .before .before .args in let f = mayOccur d h (a .j) names in let i = c .before .before .before .loop .i in
+loop-again c = λ d h n names lawful within owned occurring count seen. let a = c .before .before .before .before .args in let f = mayOccur d h (a .j) names in let i = c .before .before .before .loop .i in
     let p : i < length (d .entries) = omega (arith, c .before .before .loop-test .taken) in
     c .before .before .before .loop .inv d h n names lawful within owned occurring count seen ∙ on (λ k r. eachFrom k f r) (d .entries) noEntry i p (each-on f i _ _ (⊎-elim
     (λ w. occurs-may d h (a .j) names i _ (sym (occurring i p ∙ (sym (c .before .has-entry .ensures) ∙ w .0 .taken))) ∙ (sym (w .1 .ensures d h n lawful within owned seen) ∙ ap passOf (w .3 .given .1)))
@@ -58,7 +58,7 @@ loop-again c = λ d h n names lawful within owned occurring count seen. let a = 
     (c .if1 .came)))
 
 returns-2 : tie.Need-returns-2 Inv-loop μ-loop
-returns-2 c = λ d h n names lawful within owned occurring count seen. let a = c .before .before .before .before .before .before .args in let f = mayOccur d h (a .j) names in
+returns-2 c = λ d h n names lawful within owned occurring count seen. let a = c .before .before .args in let f = mayOccur d h (a .j) names in
     sym (c .before .loop .inv d h n names lawful within owned occurring count seen ∙ (ends (λ k r. eachFrom k f r) (d .entries) noEntry (c .before .loop .i) (omega (arith, c .loop-test .left)) ∙ each-none f (c .before .loop .i)))
 
 pub check-entries-spec : {M : Type 1} → statement M

@@ -16,14 +16,14 @@ use Rattle.judge.proofs.checks.check_entry.Statement.{statement}
 use Rattle.judge.proofs.checks.check_entry.Tie as tie
 
 abbrev Inv-loop : tie.InvT-loop
-Inv-loop store laws owners from to levels occurred j i l₀ l = (d : Domain) (h : History) (n : ℕ) → Lawful d store laws n → Within store laws n 0xA5 from to → Owned d owners → Seen true d h levels occurred j → permitted d h j i 0 (d .laws) ≡ permitted d h j i l (drop l (d .laws))
+Inv-loop held owners from to levels occurred j i l₀ l = (d : Domain) (h : History) (n : ℕ) → Lawful d held n → Within held n 0xA5 from to → Owned d owners → Seen true d h levels occurred j → permitted d h j i 0 (d .laws) ≡ permitted d h j i l (drop l (d .laws))
 
 abbrev μ-loop : tie.MeasureT-loop
-μ-loop store laws owners from to levels occurred j i l₀ l = to - l
+μ-loop held owners from to levels occurred j i l₀ l = to - l
 
 loop-holds : tie.Need-loop-holds Inv-loop μ-loop
-loop-holds c = λ d h n lawful within owned seen. let s = c .before .before .before .before .args in
-    run-starts (λ k r. permitted d h (s .j) (s .i) k r) d (s .store .now) (s .laws .now) n 0xA5 (s .from) (s .to) lawful within
+loop-holds c = λ d h n lawful within owned seen. let s = c .args in
+    run-starts (λ k r. permitted d h (s .j) (s .i) k r) d (s .held .now) n 0xA5 (s .from) (s .to) lawful within
     (λ k l r w q. permitted-on d h (s .j) (s .i) k l r (permits-none d h (s .j) (s .i) _ l w q))
 
 try-law-requires : tie.Need-try-law-requires Inv-loop μ-loop
@@ -33,16 +33,16 @@ enum-told : tie.Need-enum-told Inv-loop μ-loop
 enum-told c = search needs
 
 returns : tie.Need-returns Inv-loop μ-loop
-returns c = λ d h n lawful within owned seen. let s = c .before .before .before .before .before .before .before .before .before .args in let l = c .before .before .before .before .loop .l in
-    sym (c .before .before .before .before .loop .inv d h n lawful within owned seen ∙ stops (λ k r. permitted d h (s .j) (s .i) k r) (d .laws) noLaw l (run-law d _ _ n 0xA5 (s .from) (s .to) l lawful within (c .before .before .before .loop-test .taken))
+returns c = λ d h n lawful within owned seen. let s = c .before .before .before .before .before .args in let l = c .before .before .before .before .loop .l in
+    sym (c .before .before .before .before .loop .inv d h n lawful within owned seen ∙ stops (λ k r. permitted d h (s .j) (s .i) k r) (d .laws) noLaw l (run-law d _ n 0xA5 (s .from) (s .to) l lawful within (c .before .before .before .loop-test .taken))
     (permitted-blank d h (s .j) (s .i) l _ _ (sym (c .before .before .try-law .ensures d h n lawful (omega (arith, within .ends)) owned seen) ∙ ap truthOf (c .enum-told .given .1))))
 
 enum-known-allowed : tie.Need-enum-known-allowed Inv-loop μ-loop
 enum-known-allowed c = search needs
 
 returns-2 : tie.Need-returns-2 Inv-loop μ-loop
-returns-2 c = λ d h n lawful within owned seen. let s = c .before .before .before .before .before .before .before .before .before .before .before .args in let l = c .before .before .before .before .before .before .loop .l in
-    sym (c .before .before .before .before .before .before .loop .inv d h n lawful within owned seen ∙ stops (λ k r. permitted d h (s .j) (s .i) k r) (d .laws) noLaw l (run-law d _ _ n 0xA5 (s .from) (s .to) l lawful within (c .before .before .before .before .before .loop-test .taken))
+returns-2 c = λ d h n lawful within owned seen. let s = c .before .before .before .before .before .before .before .args in let l = c .before .before .before .before .before .before .loop .l in
+    sym (c .before .before .before .before .before .before .loop .inv d h n lawful within owned seen ∙ stops (λ k r. permitted d h (s .j) (s .i) k r) (d .laws) noLaw l (run-law d _ n 0xA5 (s .from) (s .to) l lawful within (c .before .before .before .before .before .loop-test .taken))
     (permitted-true d h (s .j) (s .i) l _ _ (sym (c .before .before .before .before .try-law .ensures d h n lawful (omega (arith, within .ends)) owned seen) ∙ (ap truthOf (c .before .before .allowed .given .1) ∙ ap value (c .if1 .taken)))))
 
 add-l : tie.Need-add-l Inv-loop μ-loop
@@ -52,13 +52,13 @@ loop-less : tie.Need-loop-less Inv-loop μ-loop
 loop-less c = search needs
 
 loop-again : tie.Need-loop-again Inv-loop μ-loop
-loop-again c = λ d h n lawful within owned seen. let s = c .before .before .before .before .before .before .before .before .before .before .before .args in let l = c .before .before .before .before .before .before .loop .l in
-    c .before .before .before .before .before .before .loop .inv d h n lawful within owned seen ∙ on (λ k r. permitted d h (s .j) (s .i) k r) (d .laws) noLaw l (run-law d _ _ n 0xA5 (s .from) (s .to) l lawful within (c .before .before .before .before .before .loop-test .taken))
+loop-again c = λ d h n lawful within owned seen. let s = c .before .before .before .before .before .before .before .args in let l = c .before .before .before .before .before .before .loop .l in
+    c .before .before .before .before .before .before .loop .inv d h n lawful within owned seen ∙ on (λ k r. permitted d h (s .j) (s .i) k r) (d .laws) noLaw l (run-law d _ n 0xA5 (s .from) (s .to) l lawful within (c .before .before .before .before .before .loop-test .taken))
     (permitted-on d h (s .j) (s .i) l _ _ (sym (c .before .before .before .before .try-law .ensures d h n lawful (omega (arith, within .ends)) owned seen) ∙ (ap truthOf (c .before .before .allowed .given .1) ∙ ap value (c .if1 .left))))
 
 returns-3 : tie.Need-returns-3 Inv-loop μ-loop
-returns-3 c = λ d h n lawful within owned seen. let s = c .before .before .before .before .before .before .args in let l = c .before .loop .l in
-    sym (c .before .loop .inv d h n lawful within owned seen ∙ run-ends (λ k r. permitted d h (s .j) (s .i) k r) d (s .store .now) (s .laws .now) n 0xA5 (s .from) (s .to) lawful within
+returns-3 c = λ d h n lawful within owned seen. let s = c .before .before .args in let l = c .before .loop .l in
+    sym (c .before .loop .inv d h n lawful within owned seen ∙ run-ends (λ k r. permitted d h (s .j) (s .i) k r) d (s .held .now) n 0xA5 (s .from) (s .to) lawful within
     (λ k l r w q. permitted-on d h (s .j) (s .i) k l r (permits-none d h (s .j) (s .i) _ l w q)) l (c .loop-test .left) (permitted-none d h (s .j) (s .i)))
 
 pub check-entry-spec : {M : Type 1} → statement M

@@ -9,24 +9,24 @@ use Rattle.bmap.specs.Payload.{asks}
 use Rattle.judge.specs.Answer.{passOf, kindOf}
 use Rattle.judge.specs.Told.{Lawful, Within, Seen, lawNumber, scopeKind}
 use Rattle.judge.proofs.LoopLaws.{stops, on, each-on, each-stop, each-none}
-use Rattle.judge.proofs.CheckLaws.{noLaw, run-starts, run-ends, run-law, run-says, holds-other, said}
+use Rattle.judge.proofs.CheckLaws.{noLaw, run-starts, run-ends, run-law, run-says, holds-other}
 use Rattle.judge.proofs.checks.check_laws.Statement.{statement}
 use Rattle.judge.proofs.checks.check_laws.Tie as tie
 
 abbrev Inv-loop : tie.InvT-loop
-Inv-loop store laws from to kind fault levels occurred j l₀ l = (d : Domain) (h : History) (s : Scope) (n : ℕ) → kind ≡ scopeKind s → Lawful d store laws n → Within store laws n kind from to → Seen (asks s) d h levels occurred j
+Inv-loop held from to kind fault levels occurred j l₀ l = (d : Domain) (h : History) (s : Scope) (n : ℕ) → kind ≡ scopeKind s → Lawful d held n → Within held n kind from to → Seen (asks s) d h levels occurred j
     → eachFrom 0 (holds s (kindOf fault) h j) (d .laws) ≡ eachFrom l (holds s (kindOf fault) h j) (drop l (d .laws))
 
 abbrev μ-loop : tie.MeasureT-loop
-μ-loop store laws from to kind fault levels occurred j l₀ l = to - l
+μ-loop held from to kind fault levels occurred j l₀ l = to - l
 
 loop-holds : tie.Need-loop-holds Inv-loop μ-loop
-loop-holds c = λ d h s n kind lawful within seen. let a = c .before .before .before .args in let f = holds s (kindOf (a .fault)) h (a .j) in
-    run-starts (λ k r. eachFrom k f r) d (a .store .now) (a .laws .now) n (a .kind) (a .from) (a .to) lawful within
+loop-holds c = λ d h s n kind lawful within seen. let a = c .args in let f = holds s (kindOf (a .fault)) h (a .j) in
+    run-starts (λ k r. eachFrom k f r) d (a .held .now) n (a .kind) (a .from) (a .to) lawful within
     (λ k l r w q. each-on f k l r (holds-other d _ s (kindOf (a .fault)) h (a .j) k l w (λ e. q (e ∙ sym kind))))
 
-law-at-requires : tie.Need-law-at-requires Inv-loop μ-loop
-law-at-requires c κs = search needs
+mul-check-law : tie.Need-mul-check-law Inv-loop μ-loop
+mul-check-law c = search needs
 
 check-law-requires : tie.Need-check-law-requires Inv-loop μ-loop
 check-law-requires c κs = search needs
@@ -35,10 +35,10 @@ enum-known-found : tie.Need-enum-known-found Inv-loop μ-loop
 enum-known-found c = search needs
 
 returns : tie.Need-returns Inv-loop μ-loop
-returns c = λ d h s n kind lawful within seen. let a = c .before .before .before .before .before .before .before .before .before .before .args in let f = holds s (kindOf (a .fault)) h (a .j) in let l = c .before .before .before .before .before .before .loop .l in
-    let i = run-law d _ _ n (a .kind) (a .from) (a .to) l lawful within (c .before .before .before .before .before .loop-test .taken) in
-    sym (c .before .before .before .before .before .before .loop .inv d h s n kind lawful within seen ∙ stops (λ k r. eachFrom k f r) (d .laws) noLaw l i (each-stop f l _ _
-    (sym (c .before .before .before .check-law .ensures d h s (lawNumber d l) kind (said d (lawNumber d l) (c .before .before .before .before .law-at .ensures) (run-says d _ _ n (a .kind) (a .from) (a .to) l lawful within (c .before .before .before .before .before .loop-test .taken))) seen) ∙ ap passOf (c .before .found .given .1))))
+returns c = λ d h s n kind lawful within seen. let a = c .before .before .before .before .before .before .args in let f = holds s (kindOf (a .fault)) h (a .j) in let l = c .before .before .before .before .before .loop .l in
+    let i = run-law d _ n (a .kind) (a .from) (a .to) l lawful within (c .before .before .before .before .loop-test .taken) in
+    sym (c .before .before .before .before .before .loop .inv d h s n kind lawful within seen ∙ stops (λ k r. eachFrom k f r) (d .laws) noLaw l i (each-stop f l _ _
+    (sym (c .before .before .before .check-law .ensures d h s (lawNumber d l) kind ((run-says d _ n (a .kind) (a .from) (a .to) l lawful within (c .before .before .before .before .loop-test .taken))) seen) ∙ ap passOf (c .before .found .given .1))))
 
 enum-told : tie.Need-enum-told Inv-loop μ-loop
 enum-told c = search needs
@@ -50,14 +50,14 @@ loop-less : tie.Need-loop-less Inv-loop μ-loop
 loop-less c = search needs
 
 loop-again : tie.Need-loop-again Inv-loop μ-loop
-loop-again c = λ d h s n kind lawful within seen. let a = c .before .before .before .before .before .before .before .before .before .args in let f = holds s (kindOf (a .fault)) h (a .j) in let l = c .before .before .before .before .before .loop .l in
-    let i = run-law d _ _ n (a .kind) (a .from) (a .to) l lawful within (c .before .before .before .before .loop-test .taken) in
-    c .before .before .before .before .before .loop .inv d h s n kind lawful within seen ∙ on (λ k r. eachFrom k f r) (d .laws) noLaw l i (each-on f l _ _
-    (sym (c .before .before .check-law .ensures d h s (lawNumber d l) kind (said d (lawNumber d l) (c .before .before .before .law-at .ensures) (run-says d _ _ n (a .kind) (a .from) (a .to) l lawful within (c .before .before .before .before .loop-test .taken))) seen) ∙ ap passOf (c .enum-told .given .1)))
+loop-again c = λ d h s n kind lawful within seen. let a = c .before .before .before .before .before .args in let f = holds s (kindOf (a .fault)) h (a .j) in let l = c .before .before .before .before .loop .l in
+    let i = run-law d _ n (a .kind) (a .from) (a .to) l lawful within (c .before .before .before .loop-test .taken) in
+    c .before .before .before .before .loop .inv d h s n kind lawful within seen ∙ on (λ k r. eachFrom k f r) (d .laws) noLaw l i (each-on f l _ _
+    (sym (c .before .before .check-law .ensures d h s (lawNumber d l) kind ((run-says d _ n (a .kind) (a .from) (a .to) l lawful within (c .before .before .before .loop-test .taken))) seen) ∙ ap passOf (c .enum-told .given .1)))
 
 returns-2 : tie.Need-returns-2 Inv-loop μ-loop
-returns-2 c = λ d h s n kind lawful within seen. let a = c .before .before .before .before .before .args in let f = holds s (kindOf (a .fault)) h (a .j) in
-    sym (c .before .loop .inv d h s n kind lawful within seen ∙ run-ends (λ k r. eachFrom k f r) d (a .store .now) (a .laws .now) n (a .kind) (a .from) (a .to) lawful within
+returns-2 c = λ d h s n kind lawful within seen. let a = c .before .before .args in let f = holds s (kindOf (a .fault)) h (a .j) in
+    sym (c .before .loop .inv d h s n kind lawful within seen ∙ run-ends (λ k r. eachFrom k f r) d (a .held .now) n (a .kind) (a .from) (a .to) lawful within
     (λ k l r w q. each-on f k l r (holds-other d _ s (kindOf (a .fault)) h (a .j) k l w (λ e. q (e ∙ sym kind)))) (c .before .loop .l) (c .loop-test .left) (each-none f))
 
 pub check-laws-spec : {M : Type 1} → statement M
@@ -67,7 +67,7 @@ check-laws-spec =
     Inv-loop
     μ-loop
     loop-holds
-    law-at-requires
+    mul-check-law
     check-law-requires
     enum-known-found
     returns

@@ -22,46 +22,46 @@ use Rattle.judge.specs.Answer.{wantsOf}
 use Rattle.judge.specs.Settings.{setting, settingsOf}
 use Rattle.judge.specs.Told.{Lawful, Within, Occurring, Seen, lawNumber}
 use Rattle.judge.proofs.SignedLaws.{back}
-use Rattle.judge.proofs.CheckLaws.{run-starts, run-ends, run-law, run-says, said}
+use Rattle.judge.proofs.CheckLaws.{run-starts, run-ends, run-law, run-says}
 use Rattle.judge.proofs.SettingLaws.{settings-none, settings-clash, settings-same, settings-other, settings-put, same-back, sets-none, settled-none, settled-idle, settled-blank, settled-clash, settled-leaves, settled-puts}
 use Rattle.judge.proofs.effects.settle.Statement.{statement}
 use Rattle.judge.proofs.effects.settle.Tie as tie
 
 -- what the settling of all laws gives
-abbrev Gives : List ℕ → List ℕ → ℕ → ℕ → ℕ → List ℤ → List ℕ → ℕ → (Domain → History → Names → Checked (List Setting)) → Type 0
-Gives store laws from to entries levels occurred j y =
-    (d : Domain) (h : History) (n : ℕ) (names : Names) → Lawful d store laws n → Within store laws n 0xA6 from to → Occurring d names entries → Seen true d h levels occurred j
+abbrev Gives : List ℕ → ℕ → ℕ → ℕ → List ℤ → List ℕ → ℕ → (Domain → History → Names → Checked (List Setting)) → Type 0
+Gives held from to entries levels occurred j y =
+    (d : Domain) (h : History) (n : ℕ) (names : Names) → Lawful d held n → Within held n 0xA6 from to → Occurring d names entries → Seen true d h levels occurred j
     → settled d h j names 0 [] (d .laws) ≡ y d h names
 
 abbrev Inv-loop : tie.InvT-loop
-Inv-loop store laws from to entries levels occurred j fluents values bad₀ m l f v i₀ bad i = (bad ≡ bad₀) × ((i ≤ m) × (all (agrees (setting f (toZ w32 v))) (settingsOf m fluents values) ≡ all (agrees (setting f (toZ w32 v))) (settingsOf i fluents values)))
+Inv-loop held from to entries levels occurred j fluents values bad₀ m l f v i₀ bad i = (bad ≡ bad₀) × ((i ≤ m) × (all (agrees (setting f (toZ w32 v))) (settingsOf m fluents values) ≡ all (agrees (setting f (toZ w32 v))) (settingsOf i fluents values)))
 
 abbrev μ-loop : tie.MeasureT-loop
-μ-loop store laws from to entries levels occurred j fluents values bad₀ m l f v i₀ bad i = i
+μ-loop held from to entries levels occurred j fluents values bad₀ m l f v i₀ bad i = i
 
 abbrev Inv-laws : tie.InvT-laws
-Inv-laws store laws from to entries levels occurred j fluents₀ values₀ bad₀ m₀ l₀ fluents values bad m l =
+Inv-laws held from to entries levels occurred j fluents₀ values₀ bad₀ m₀ l₀ fluents values bad m l =
     ((bad ≡ to) × ((list.length fluents ≡ mostLaws) × (list.length values ≡ mostLaws))) × (((m ≤ l) × (m ≤ to))
-    × Gives store laws from to entries levels occurred j (λ d h names. settled d h j names l (settingsOf m fluents values) (drop l (d .laws))))
+    × Gives held from to entries levels occurred j (λ d h names. settled d h j names l (settingsOf m fluents values) (drop l (d .laws))))
 
 abbrev μ-laws : tie.MeasureT-laws
-μ-laws store laws from to entries levels occurred j fluents₀ values₀ bad₀ m₀ l₀ fluents values bad m l =
+μ-laws held from to entries levels occurred j fluents₀ values₀ bad₀ m₀ l₀ fluents values bad m l =
     to - l
 
 laws-holds : tie.Need-laws-holds Inv-loop μ-loop Inv-laws μ-laws
 unfolding settingsOf
-laws-holds c = let s = c .before .before .before .args in (
-  (refl, c .before .before .before .pre .1),
+laws-holds c = let s = c .args in (
+  (refl, c .pre .1),
   (
     (search needs, search needs),
     λ d h n names lawful within occurring seen.
-        run-starts (λ k r. settled d h (s .j) names k [] r) d (s .store .now) (s .laws .now) n 0xA6 (s .from) (s .to) lawful within
+        run-starts (λ k r. settled d h (s .j) names k [] r) d (s .held .now) n 0xA6 (s .from) (s .to) lawful within
         (λ k l r w q. settled-idle d h (s .j) names k [] l r (sets-none d h (s .j) names _ l w q)),
   ),
 )
 
-law-at-requires : tie.Need-law-at-requires Inv-loop μ-loop Inv-laws μ-laws
-law-at-requires c κs = search needs
+mul-wanted : tie.Need-mul-wanted Inv-loop μ-loop Inv-laws μ-laws
+mul-wanted c = search needs
 
 wanted-requires : tie.Need-wanted-requires Inv-loop μ-loop Inv-laws μ-laws
 wanted-requires c κs = search needs
@@ -70,12 +70,12 @@ enum-told : tie.Need-enum-told Inv-loop μ-loop Inv-laws μ-laws
 enum-told c = search needs
 
 returns : tie.Need-returns Inv-loop μ-loop Inv-laws μ-laws
-returns c = let s = c .before .before .before .before .before .before .before .before .before .args in (
+returns c = let s = c .before .before .before .before .before .args in (
   omega arith,
   λ d h n names lawful within occurring seen.
-      sym (c .before .before .before .before .before .laws .inv .1 .1 d h n names lawful within occurring seen
-      ∙ settled-blank d h (s .j) names (d .laws) (c .before .before .before .before .before .laws .l) _ (run-law d _ _ n 0xA6 (s .from) (s .to) (c .before .before .before .before .before .laws .l) lawful within (c .before .before .before .before .laws-test .taken))
-      (sym (c .before .before .wanted .ensures d h (lawNumber d (c .before .before .before .before .before .laws .l)) names (said d (lawNumber d (c .before .before .before .before .before .laws .l)) (c .before .before .before .law-at .ensures) (run-says d _ _ n 0xA6 (s .from) (s .to) (c .before .before .before .before .before .laws .l) lawful within (c .before .before .before .before .laws-test .taken))) occurring seen) ∙ ap wantsOf (c .enum-told .given .1))),
+      sym (c .before .before .before .before .laws .inv .1 .1 d h n names lawful within occurring seen
+      ∙ settled-blank d h (s .j) names (d .laws) (c .before .before .before .before .laws .l) _ (run-law d _ n 0xA6 (s .from) (s .to) (c .before .before .before .before .laws .l) lawful within (c .before .before .before .laws-test .taken))
+      (sym (c .before .before .wanted .ensures d h (lawNumber d (c .before .before .before .before .laws .l)) names (lawful .long) ((run-says d _ n 0xA6 (s .from) (s .to) (c .before .before .before .before .laws .l) lawful within (c .before .before .before .laws-test .taken))) occurring seen) ∙ ap wantsOf (c .enum-told .given .1))),
 )
 
 enum-known-f : tie.Need-enum-known-f Inv-loop μ-loop Inv-laws μ-laws
@@ -108,7 +108,7 @@ loop-again c = (
   (
     omega arith,
     c .before .before .before .before .before .before .loop .inv .1 .1 ∙ settings-same _ _ _ _ (c .before .before .before .before .before .before .loop .i) (c .before .before .before .before .before .loop-test .taken) (c .before .before .before .if1 .taken)
-        (same-back (getD (c .before .before .before .before .before .before .before .before .before .before .before .before .before .laws .values) (c .before .before .before .before .before .before .loop .i - 1) (pos 0)) _ (c .before .before .same-level-arg .given) (c .before .same-level .ensures) (not-false _ (c .if2 .left))),
+        (same-back (getD (c .before .before .before .before .before .before .before .before .before .before .before .before .laws .values) (c .before .before .before .before .before .before .loop .i - 1) (pos 0)) _ (c .before .before .same-level-arg .given) (c .before .same-level .ensures) (not-false _ (c .if2 .left))),
   ),
 )
 
@@ -140,54 +140,54 @@ laws-less : tie.Need-laws-less Inv-loop μ-loop Inv-laws μ-laws
 laws-less c = search needs
 
 laws-again : tie.Need-laws-again Inv-loop μ-loop Inv-laws μ-laws
-laws-again c = let s = c .before .before .before .before .before .before .before .before .args in let l = c .before .before .before .before .laws .l in let m = c .before .before .before .before .laws .m in let fs = c .before .before .before .before .laws .fluents in let vs = c .before .before .before .before .laws .values in ⊎-elim
+laws-again c = let s = c .before .before .before .before .args in let l = c .before .before .before .laws .l in let m = c .before .before .before .laws .m in let fs = c .before .before .before .laws .fluents in let vs = c .before .before .before .laws .values in ⊎-elim
     (λ w. let v = toZ w32 (ofZ w32 (w .1 .given .0 .1 .0)) in let f = w .1 .given .0 .0 in
     let put : settingsOf (c .match .m) (c .match .fluents) (c .match .values) ≡ setting f v ∷ settingsOf m fs vs = rw (w .8, w .5, w .6) (settings-put m f v fs vs (omega arith) (omega arith)) in (
-      (w .7 ∙ (w .3 .inv .0 ∙ c .before .before .before .before .laws .inv .0 .0), (ap length (w .5) ∙ (list.length-set fs m f ∙ c .before .before .before .before .laws .inv .0 .1 .0), ap length (w .6) ∙ (list.length-set vs m v ∙ c .before .before .before .before .laws .inv .0 .1 .1))),
+      (w .7 ∙ (w .3 .inv .0 ∙ c .before .before .before .laws .inv .0 .0), (ap length (w .5) ∙ (list.length-set fs m f ∙ c .before .before .before .laws .inv .0 .1 .0), ap length (w .6) ∙ (list.length-set vs m v ∙ c .before .before .before .laws .inv .0 .1 .1))),
       (
         (omega arith, omega arith),
-        λ d h n names lawful within occurring seen. c .before .before .before .before .laws .inv .1 .1 d h n names lawful within occurring seen
-            ∙ settled-puts d h (s .j) names (d .laws) l (settingsOf m fs vs) (run-law d _ _ n 0xA6 (s .from) (s .to) l lawful within (c .before .before .before .laws-test .taken))
-            (sym (c .before .wanted .ensures d h (lawNumber d l) names (said d (lawNumber d l) (c .before .before .law-at .ensures) (run-says d _ _ n 0xA6 (s .from) (s .to) l lawful within (c .before .before .before .laws-test .taken))) occurring seen)
+        λ d h n names lawful within occurring seen. c .before .before .before .laws .inv .1 .1 d h n names lawful within occurring seen
+            ∙ settled-puts d h (s .j) names (d .laws) l (settingsOf m fs vs) (run-law d _ n 0xA6 (s .from) (s .to) l lawful within (c .before .before .laws-test .taken))
+            (sym (c .before .wanted .ensures d h (lawNumber d l) names (lawful .long) ((run-says d _ n 0xA6 (s .from) (s .to) l lawful within (c .before .before .laws-test .taken))) occurring seen)
             ∙ (ap wantsOf (w .1 .given .1) ∙ ap (λ (y : ℤ). value (some (setting f y))) (sym (back (w .1 .given .0 .1 .0) (w .2 .given .1 .0 .1)))))
             (w .3 .inv .1 .1 ∙ settings-none _ _ _ (w .4 .left)) put,
       ),
     ))
     (λ w. let kept : settingsOf (c .match .m) (c .match .fluents) (c .match .values) ≡ settingsOf m fs vs = rw (w .5, w .2, w .3) in (
-      (w .4 ∙ c .before .before .before .before .laws .inv .0 .0, (ap length (w .2) ∙ c .before .before .before .before .laws .inv .0 .1 .0, ap length (w .3) ∙ c .before .before .before .before .laws .inv .0 .1 .1)),
+      (w .4 ∙ c .before .before .before .laws .inv .0 .0, (ap length (w .2) ∙ c .before .before .before .laws .inv .0 .1 .0, ap length (w .3) ∙ c .before .before .before .laws .inv .0 .1 .1)),
       (
         (omega arith, omega arith),
-        λ d h n names lawful within occurring seen. c .before .before .before .before .laws .inv .1 .1 d h n names lawful within occurring seen
-            ∙ settled-leaves d h (s .j) names (d .laws) l (settingsOf m fs vs) (run-law d _ _ n 0xA6 (s .from) (s .to) l lawful within (c .before .before .before .laws-test .taken))
-            (sym (c .before .wanted .ensures d h (lawNumber d l) names (said d (lawNumber d l) (c .before .before .law-at .ensures) (run-says d _ _ n 0xA6 (s .from) (s .to) l lawful within (c .before .before .before .laws-test .taken))) occurring seen) ∙ ap wantsOf (w .1 .given .1)) kept,
+        λ d h n names lawful within occurring seen. c .before .before .before .laws .inv .1 .1 d h n names lawful within occurring seen
+            ∙ settled-leaves d h (s .j) names (d .laws) l (settingsOf m fs vs) (run-law d _ n 0xA6 (s .from) (s .to) l lawful within (c .before .before .laws-test .taken))
+            (sym (c .before .wanted .ensures d h (lawNumber d l) names (lawful .long) ((run-says d _ n 0xA6 (s .from) (s .to) l lawful within (c .before .before .laws-test .taken))) occurring seen) ∙ ap wantsOf (w .1 .given .1)) kept,
       ),
     ))
     (c .match .came)
 
 -- where the ways out of the loop over the laws meet: by its test, with all settled, or by the break, with the law at fault
 abbrev Whole : tie.Left-laws Inv-loop μ-loop Inv-laws μ-laws → (Domain → History → Names → Checked (List Setting)) → Type 0
-Whole c y = let s = c .before .before .before .before .before .args in Gives (s .store .now) (s .laws .now) (s .from) (s .to) (s .entries) (s .levels .now) (s .occurred .now) (s .j) y
+Whole c y = let s = c .before .before .args in Gives (s .held .now) (s .from) (s .to) (s .entries) (s .levels .now) (s .occurred .now) (s .j) y
 
 answer : (c : tie.Left-laws Inv-loop μ-loop Inv-laws μ-laws)
-    → ((c .before .before .before .before .before .args .to ≤ c .laws-test .bad) × Whole c (λ d h names. fine (settingsOf (c .before .laws .m) (c .before .laws .fluents) (c .before .laws .values))))
-    ⊎ ((c .laws-test .bad < c .before .before .before .before .before .args .to) × Whole c (λ d h names. fault 4 (c .laws-test .bad)))
-answer c = let s = c .before .before .before .before .before .args in let l = c .before .laws .l in ⊎-elim
+    → ((c .before .before .args .to ≤ c .laws-test .bad) × Whole c (λ d h names. fine (settingsOf (c .before .laws .m) (c .before .laws .fluents) (c .before .laws .values))))
+    ⊎ ((c .laws-test .bad < c .before .before .args .to) × Whole c (λ d h names. fault 4 (c .laws-test .bad)))
+answer c = let s = c .before .before .args in let l = c .before .laws .l in ⊎-elim
     (λ w. inl (
       omega arith,
       λ d h n names lawful within occurring seen.
           c .before .laws .inv .1 .1 d h n names lawful within occurring seen
-          ∙ run-ends (λ k r. settled d h (s .j) names k (settingsOf (c .before .laws .m) (c .before .laws .fluents) (c .before .laws .values)) r) d (s .store .now) (s .laws .now) n 0xA6 (s .from) (s .to) lawful within
+          ∙ run-ends (λ k r. settled d h (s .j) names k (settingsOf (c .before .laws .m) (c .before .laws .fluents) (c .before .laws .values)) r) d (s .held .now) n 0xA6 (s .from) (s .to) lawful within
           (λ k l r w q. settled-idle d h (s .j) names k _ l r (sets-none d h (s .j) names _ l w q)) l (w .0 .left) (λ k. settled-none d h (s .j) names k _),
     ))
     (λ w. inr (
       omega arith,
       λ d h n names lawful within occurring seen.
           c .before .laws .inv .1 .1 d h n names lawful within occurring seen
-          ∙ (settled-clash d h (s .j) names (d .laws) l _ (run-law d _ _ n 0xA6 (s .from) (s .to) l lawful within (w .0 .taken))
-          (sym (w .2 .ensures d h (lawNumber d l) names (said d (lawNumber d l) (w .1 .ensures) (run-says d _ _ n 0xA6 (s .from) (s .to) l lawful within (w .0 .taken))) occurring seen)
-          ∙ (ap wantsOf (w .4 .given .1) ∙ ap (λ (y : ℤ). value (some (setting (w .4 .given .0 .0) y))) (sym (back (w .4 .given .0 .1 .0) (w .5 .given .1 .0 .1)))))
-          (w .6 .inv .1 .1 ∙ settings-clash _ _ _ _ (w .6 .i) (w .7 .taken) (w .9 .taken) (same-back (getD (c .before .laws .values) (w .6 .i - 1) (pos 0)) _ (w .10 .given) (w .11 .ensures) (not-true _ (w .12 .taken))))
-          ∙ ap (fault 4) (sym (w .13))),
+          ∙ (settled-clash d h (s .j) names (d .laws) l _ (run-law d _ n 0xA6 (s .from) (s .to) l lawful within (w .0 .taken))
+          (sym (w .1 .ensures d h (lawNumber d l) names (lawful .long) ((run-says d _ n 0xA6 (s .from) (s .to) l lawful within (w .0 .taken))) occurring seen)
+          ∙ (ap wantsOf (w .3 .given .1) ∙ ap (λ (y : ℤ). value (some (setting (w .3 .given .0 .0) y))) (sym (back (w .3 .given .0 .1 .0) (w .4 .given .1 .0 .1)))))
+          (w .5 .inv .1 .1 ∙ settings-clash _ _ _ _ (w .5 .i) (w .6 .taken) (w .8 .taken) (same-back (getD (c .before .laws .values) (w .5 .i - 1) (pos 0)) _ (w .9 .given) (w .10 .ensures) (not-true _ (w .11 .taken))))
+          ∙ ap (fault 4) (sym (w .12))),
     ))
     (c .laws-test .came)
 
@@ -195,7 +195,7 @@ returns-2 : tie.Need-returns-2 Inv-loop μ-loop Inv-laws μ-laws
 returns-2 c = (omega arith, ⊎-elim (λ a. absurd (omega arith)) (λ a. λ d h n names lawful within occurring seen. sym (a .1 d h n names lawful within occurring seen)) (answer (c .before)))
 
 returns-3 : tie.Need-returns-3 Inv-loop μ-loop Inv-laws μ-laws
-returns-3 c = (omega (arith, c .before .before .laws .inv .1 .0, c .before .before .before .before .before .before .pre), ⊎-elim (λ a. λ d h n names lawful within occurring seen. sym (a .1 d h n names lawful within occurring seen)) (λ a. absurd (omega arith)) (answer (c .before)))
+returns-3 c = (omega (arith, c .before .before .laws .inv .1 .0, c .before .before .before .pre), ⊎-elim (λ a. λ d h n names lawful within occurring seen. sym (a .1 d h n names lawful within occurring seen)) (λ a. absurd (omega arith)) (answer (c .before)))
 
 pub settle-spec : {M : Type 1} → statement M
 settle-spec =
@@ -206,7 +206,7 @@ settle-spec =
     Inv-laws
     μ-laws
     laws-holds
-    law-at-requires
+    mul-wanted
     wanted-requires
     enum-told
     returns

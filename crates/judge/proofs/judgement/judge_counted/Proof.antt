@@ -37,4 +37,10 @@ returns-3 c = let s = c .before .before .before .before .before .before .before 
 pub judge-counted-spec : {M : Type 1} → statement M
 judge-counted-spec =
     tie.close
-    (tie.spec returns index-of-requires returns-2 judge-by-requires same-length returns-3)
+    (tie.spec
+    returns
+    index-of-requires
+    returns-2
+    judge-by-requires
+    same-length
+    returns-3)

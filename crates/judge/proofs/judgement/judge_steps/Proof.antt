@@ -32,6 +32,9 @@ long s = record {
   laws = search needs;
 }
 
+hold-laws-requires : tie.Need-hold-laws-requires
+hold-laws-requires c κs = search needs
+
 slice-aggregate-all-knowers : tie.Need-slice-aggregate-all-knowers
 slice-aggregate-all-knowers c = search needs
 
@@ -39,87 +42,48 @@ slice-aggregate-all-knowers-2 : tie.Need-slice-aggregate-all-knowers-2
 slice-aggregate-all-knowers-2 c = search needs
 
 all-knowers-requires : tie.Need-all-knowers-requires
-all-knowers-requires c κs = (c .before .before .before .before .before .before .before .before .before .pre .0 .fluents, (omega (arith, c .before .before .before .before .before .before .before .before .before .pre .0 .knowledge, long (c .before .before .before .before .before .before .before .before .before) .known), omega (arith, c .before .before .before .before .before .before .before .before .before .pre .0 .knowledge, long (c .before .before .before .before .before .before .before .before .before) .knowers)))
+all-knowers-requires c κs = (c .before .before .before .before .before .before .before .before .before .before .before .before .pre .0 .fluents, (omega (arith, c .before .before .before .before .before .before .before .before .before .before .before .before .pre .0 .knowledge, long (c .before .before .before .before .before .before .before .before .before .before .before .before) .known), omega (arith, c .before .before .before .before .before .before .before .before .before .before .before .before .pre .0 .knowledge, long (c .before .before .before .before .before .before .before .before .before .before .before .before) .knowers)))
 
 slice-aggregate-all-owners : tie.Need-slice-aggregate-all-owners
-slice-aggregate-all-owners c = search needs
-
-slice-aggregate-all-owners-2 : tie.Need-slice-aggregate-all-owners-2
-slice-aggregate-all-owners-2 c = sym (long (c .before .before .before .before .before .before .before .before .before .before .before .before .before) .crews)
+slice-aggregate-all-owners c = sym (long (c .before .before .before .before .before .before .before .before .before .before .before .before .before .before .before .before) .crews)
 
 all-owners-requires : tie.Need-all-owners-requires
-all-owners-requires c κs = (c .before .before .before .before .before .before .before .before .before .before .before .before .before .pre .0 .laws, (c .before .before .before .before .before .before .before .before .before .before .before .before .before .pre .0 .fluents, (c .before .before .before .all-knowers .ensures .0, c .before .before .before .before .before .before .before .before .before .before .before .before .before .pre .0 .agents)))
-
-slice-aggregate-all-runs : tie.Need-slice-aggregate-all-runs
-slice-aggregate-all-runs c = sym (long (c .before .before .before .before .before .before .before .before .before .before .before .before .before .before .before) .laws)
+all-owners-requires c κs = (c .before .before .before .before .before .before .before .before .before .before .before .before .before .before .before .before .pre .0 .laws, (c .before .before .before .before .before .before .before .before .before .before .before .before .before .before .before .before .pre .0 .fluents, (c .before .before .before .all-knowers .ensures .0, c .before .before .before .before .before .before .before .before .before .before .before .before .before .before .before .before .pre .0 .agents)))
 
 all-runs-requires : tie.Need-all-runs-requires
 all-runs-requires c κs = search needs
 
-slice-aggregate-run-sheet : tie.Need-slice-aggregate-run-sheet
-slice-aggregate-run-sheet c = sym (long (c .before .before .before .before .before .before .before .before .before .before .before .before .before .before .before .before .before .before .before .before .before) .laws)
-
-slice-aggregate-run-sheet-2 : tie.Need-slice-aggregate-run-sheet-2
-slice-aggregate-run-sheet-2 c = search needs
-
-slice-aggregate-run-sheet-3 : tie.Need-slice-aggregate-run-sheet-3
-slice-aggregate-run-sheet-3 c = sym (long (c .before .before .before .before .before .before .before .before .before .before .before .before .before .before .before .before .before .before .before .before .before .before .before) .start)
-
-slice-aggregate-run-sheet-4 : tie.Need-slice-aggregate-run-sheet-4
-slice-aggregate-run-sheet-4 c = sym (long (c .before .before .before .before .before .before .before .before .before .before .before .before .before .before .before .before .before .before .before .before .before .before .before .before) .lowest)
-
-slice-aggregate-run-sheet-5 : tie.Need-slice-aggregate-run-sheet-5
-slice-aggregate-run-sheet-5 c = sym (long (c .before .before .before .before .before .before .before .before .before .before .before .before .before .before .before .before .before .before .before .before .before .before .before .before .before) .highest)
-
-slice-aggregate-run-sheet-6 : tie.Need-slice-aggregate-run-sheet-6
-slice-aggregate-run-sheet-6 c = sym (long (c .before .before .before .before .before .before .before .before .before .before .before .before .before .before .before .before .before .before .before .before .before .before .before .before .before .before) .names)
-
-slice-aggregate-run-sheet-7 : tie.Need-slice-aggregate-run-sheet-7
-slice-aggregate-run-sheet-7 c = sym (long (c .before .before .before .before .before .before .before .before .before .before .before .before .before .before .before .before .before .before .before .before .before .before .before .before .before .before .before) .crews)
-
 run-sheet-requires : tie.Need-run-sheet-requires
 run-sheet-requires c κs = (
-  (c .before .before .before .before .before .before .before .before .before .before .before .before .before .before .before .before .before .before .before .before .before .before .before .before .before .before .before .before .pre .1 .0, (omega (arith, c .before .before .before .before .before .before .before .before .before .before .before .before .all-runs .ensures .effect .ends, c .before .before .before .before .before .before .before .before .before .before .before .before .before .before .before .before .before .before .before .before .before .before .before .before .before .before .before .before .pre .0 .laws), c .before .before .before .before .before .before .before .before .before .before .before .before .before .before .before .before .before .before .before .before .before .before .before .before .before .before .before .before .pre .1 .1 .0)),
+  (c .before .before .before .before .before .before .before .before .before .before .before .before .before .before .before .before .before .before .before .before .before .before .before .before .before .before .before .before .before .before .before .pre .1 .0, (((omega (arith, c .before .before .before .before .before .before .before .before .before .before .before .before .all-runs .ensures .executable .ends, c .before .before .before .before .before .before .before .before .before .before .before .before .before .before .before .before .before .before .before .before .before .before .before .before .before .before .before .before .before .before .before .pre .0 .laws), omega (arith, c .before .before .before .before .before .before .before .before .before .before .before .before .all-runs .ensures .effect .ends, c .before .before .before .before .before .before .before .before .before .before .before .before .before .before .before .before .before .before .before .before .before .before .before .before .before .before .before .before .before .before .before .pre .0 .laws)), (omega (arith, c .before .before .before .before .before .before .before .before .before .before .before .before .all-runs .ensures .fixed .ends, c .before .before .before .before .before .before .before .before .before .before .before .before .before .before .before .before .before .before .before .before .before .before .before .before .before .before .before .before .before .before .before .pre .0 .laws), (omega (arith, c .before .before .before .before .before .before .before .before .before .before .before .before .all-runs .ensures .concurrency .ends, c .before .before .before .before .before .before .before .before .before .before .before .before .before .before .before .before .before .before .before .before .before .before .before .before .before .before .before .before .before .before .before .pre .0 .laws), omega (arith, c .before .before .before .before .before .before .before .before .before .before .before .before .all-runs .ensures .goal .ends, c .before .before .before .before .before .before .before .before .before .before .before .before .before .before .before .before .before .before .before .before .before .before .before .before .before .before .before .before .before .before .before .pre .0 .laws)))), c .before .before .before .before .before .before .before .before .before .before .before .before .before .before .before .before .before .before .before .before .before .before .before .before .before .before .before .before .before .before .before .pre .1 .1 .0)),
   (
-    (c .before .before .before .before .before .before .before .before .before .before .before .before .before .before .before .before .before .before .before .before .before .before .before .before .before .before .before .before .pre .0 .agents, (c .before .before .before .before .before .before .before .before .before .before .before .before .before .before .before .before .before .before .before .before .before .before .before .before .before .before .before .before .pre .0 .entries, (omega (arith, c .before .before .before .before .before .before .before .before .before .before .before .before .before .before .before .before .before .before .before .before .before .before .before .before .before .before .before .before .pre .0 .entries, long (c .before .before .before .before .before .before .before .before .before .before .before .before .before .before .before .before .before .before .before .before .before .before .before .before .before .before .before .before) .names), omega (arith, c .before .before .before .before .before .before .before .before .before .before .before .before .before .before .before .before .before .before .before .before .before .before .before .before .before .before .before .before .pre .0 .entries, long (c .before .before .before .before .before .before .before .before .before .before .before .before .before .before .before .before .before .before .before .before .before .before .before .before .before .before .before .before) .crews)))),
-    (c .before .before .before .before .before .before .before .before .before .before .before .before .before .before .before .before .before .before .before .before .before .before .before .before .before .before .before .before .pre .0 .fluents, ((omega (arith, c .before .before .before .before .before .before .before .before .before .before .before .before .before .before .before .before .before .before .before .before .before .before .before .before .before .before .before .before .pre .0 .fluents, long (c .before .before .before .before .before .before .before .before .before .before .before .before .before .before .before .before .before .before .before .before .before .before .before .before .before .before .before .before) .lowest), omega (arith, c .before .before .before .before .before .before .before .before .before .before .before .before .before .before .before .before .before .before .before .before .before .before .before .before .before .before .before .before .pre .0 .fluents, long (c .before .before .before .before .before .before .before .before .before .before .before .before .before .before .before .before .before .before .before .before .before .before .before .before .before .before .before .before) .highest)), (omega (arith, c .before .before .before .before .before .before .before .before .before .before .before .before .before .before .before .before .before .before .before .before .before .before .before .before .before .before .before .before .pre .0 .fluents, long (c .before .before .before .before .before .before .before .before .before .before .before .before .before .before .before .before .before .before .before .before .before .before .before .before .before .before .before .before) .start), c .before .before .before .before .before .before .before .before .before .before .before .before .before .before .before .before .before .before .before .before .before .before .before .before .before .before .before .before .pre .1 .1 .1))),
+    (c .before .before .before .before .before .before .before .before .before .before .before .before .before .before .before .before .before .before .before .before .before .before .before .before .before .before .before .before .before .before .before .pre .0 .agents, (c .before .before .before .before .before .before .before .before .before .before .before .before .before .before .before .before .before .before .before .before .before .before .before .before .before .before .before .before .before .before .before .pre .0 .entries, (omega (arith, c .before .before .before .before .before .before .before .before .before .before .before .before .before .before .before .before .before .before .before .before .before .before .before .before .before .before .before .before .before .before .before .pre .0 .entries, long (c .before .before .before .before .before .before .before .before .before .before .before .before .before .before .before .before .before .before .before .before .before .before .before .before .before .before .before .before .before .before .before) .names), omega (arith, c .before .before .before .before .before .before .before .before .before .before .before .before .before .before .before .before .before .before .before .before .before .before .before .before .before .before .before .before .before .before .before .pre .0 .entries, long (c .before .before .before .before .before .before .before .before .before .before .before .before .before .before .before .before .before .before .before .before .before .before .before .before .before .before .before .before .before .before .before) .crews)))),
+    (c .before .before .before .before .before .before .before .before .before .before .before .before .before .before .before .before .before .before .before .before .before .before .before .before .before .before .before .before .before .before .before .pre .0 .fluents, ((omega (arith, c .before .before .before .before .before .before .before .before .before .before .before .before .before .before .before .before .before .before .before .before .before .before .before .before .before .before .before .before .before .before .before .pre .0 .fluents, long (c .before .before .before .before .before .before .before .before .before .before .before .before .before .before .before .before .before .before .before .before .before .before .before .before .before .before .before .before .before .before .before) .lowest), omega (arith, c .before .before .before .before .before .before .before .before .before .before .before .before .before .before .before .before .before .before .before .before .before .before .before .before .before .before .before .before .before .before .before .pre .0 .fluents, long (c .before .before .before .before .before .before .before .before .before .before .before .before .before .before .before .before .before .before .before .before .before .before .before .before .before .before .before .before .before .before .before) .highest)), (omega (arith, c .before .before .before .before .before .before .before .before .before .before .before .before .before .before .before .before .before .before .before .before .before .before .before .before .before .before .before .before .before .before .before .pre .0 .fluents, long (c .before .before .before .before .before .before .before .before .before .before .before .before .before .before .before .before .before .before .before .before .before .before .before .before .before .before .before .before .before .before .before) .start), c .before .before .before .before .before .before .before .before .before .before .before .before .before .before .before .before .before .before .before .before .before .before .before .before .before .before .before .before .before .before .before .pre .1 .1 .1))),
   ),
 )
 
-same-length : tie.Need-same-length
-same-length c = search needs
-
 returns : tie.Need-returns
-returns c = let s = c .before .before .before .before .before .before .before .before .before .before .before .before .before .before .before .before .before .before .before .before .before .before .before .before .before .before .before .before .before .before .args in let x = s .index in let d = domainOf (s .store .now) x in (
-  c .before .run-sheet .ensures .0,
-  c .before .run-sheet .ensures .1 d (x .counts .laws) (record {
-    lawful = index-lawful (s .store .now) x (c .before .before .before .before .before .before .before .before .before .before .before .before .before .before .before .before .before .before .before .before .before .before .before .before .before .before .before .before .before .before .pre .0);
-    owned = c .before .before .before .before .before .before .before .before .before .before .before .before .before .before .before .before .all-owners .ensures .1 d (index-lawful (s .store .now) x (c .before .before .before .before .before .before .before .before .before .before .before .before .before .before .before .before .before .before .before .before .before .before .before .before .before .before .before .before .before .before .pre .0)) (index-knowing (s .store .now) x (c .before .before .before .before .before .before .before .before .before .before .before .before .before .before .before .before .before .before .before .before .all-knowers .result) (c .before .before .before .before .before .before .before .before .before .before .before .before .before .before .before .before .before .before .before .before .all-knowers .ensures .1));
-    ordered = c .before .before .before .before .before .before .before .before .before .before .before .before .before .before .all-runs .ensures;
+returns c = let s = c .before .before .before .before .before .before .before .before .before .before .before .before .before .before .before .before .before .before .before .before .before .before .before .before .before .before .before .before .before .before .before .before .args in let x = s .index in let d = domainOf (s .store .now) x in (
+  c .run-sheet .ensures .0,
+  c .run-sheet .ensures .1 d (x .counts .laws) (record {
+    lawful = index-lawful (s .store .now) x (c .before .before .before .before .before .before .before .before .before .before .before .before .before .before .before .before .before .before .before .before .before .before .hold-laws .last .0) (c .before .before .before .before .before .before .before .before .before .before .before .before .before .before .before .before .before .before .before .before .before .before .before .before .before .before .before .before .before .before .before .before .pre .0) (c .before .before .before .before .before .before .before .before .before .before .before .before .before .before .before .before .before .before .before .before .before .before .hold-laws .ensures .0) (c .before .before .before .before .before .before .before .before .before .before .before .before .before .before .before .before .before .before .before .before .before .before .hold-laws .ensures .1);
+    owned = c .before .before .before .before .before .before .before .before .before .before .before .before .before .before .before .all-owners .ensures .1 d (index-lawful (s .store .now) x (c .before .before .before .before .before .before .before .before .before .before .before .before .before .before .before .before .before .before .before .before .before .before .hold-laws .last .0) (c .before .before .before .before .before .before .before .before .before .before .before .before .before .before .before .before .before .before .before .before .before .before .before .before .before .before .before .before .before .before .before .before .pre .0) (c .before .before .before .before .before .before .before .before .before .before .before .before .before .before .before .before .before .before .before .before .before .before .hold-laws .ensures .0) (c .before .before .before .before .before .before .before .before .before .before .before .before .before .before .before .before .before .before .before .before .before .before .hold-laws .ensures .1)) (index-knowing (s .store .now) x (c .before .before .before .before .before .before .before .before .before .before .before .before .before .before .before .before .before .before .before .all-knowers .result) (c .before .before .before .before .before .before .before .before .before .before .before .before .before .before .before .before .before .before .before .all-knowers .ensures .1));
+    ordered = c .before .before .before .before .before .before .before .before .before .before .before .before .before .all-runs .ensures;
     ranged = index-ranged (s .store .now) x;
     entries = index-entries (s .store .now) x;
-  }) (index-entered (s .store .now) x) (index-agents (s .store .now) x) (index-started (s .store .now) x (omega (arith, c .before .before .before .before .before .before .before .before .before .before .before .before .before .before .before .before .before .before .before .before .before .before .before .before .before .before .before .before .before .before .pre .0 .fluents, long (c .before .before .before .before .before .before .before .before .before .before .before .before .before .before .before .before .before .before .before .before .before .before .before .before .before .before .before .before .before .before) .start))),
+  }) (index-entered (s .store .now) x) (index-agents (s .store .now) x) (index-started (s .store .now) x (omega (arith, c .before .before .before .before .before .before .before .before .before .before .before .before .before .before .before .before .before .before .before .before .before .before .before .before .before .before .before .before .before .before .before .before .pre .0 .fluents, long (c .before .before .before .before .before .before .before .before .before .before .before .before .before .before .before .before .before .before .before .before .before .before .before .before .before .before .before .before .before .before .before .before) .start))),
 )
 
 pub judge-steps-spec : {M : Type 1} → statement M
 judge-steps-spec =
     tie.close
     (tie.spec
+    hold-laws-requires
     slice-aggregate-all-knowers
     slice-aggregate-all-knowers-2
     all-knowers-requires
     slice-aggregate-all-owners
-    slice-aggregate-all-owners-2
     all-owners-requires
-    slice-aggregate-all-runs
     all-runs-requires
-    slice-aggregate-run-sheet
-    slice-aggregate-run-sheet-2
-    slice-aggregate-run-sheet-3
-    slice-aggregate-run-sheet-4
-    slice-aggregate-run-sheet-5
-    slice-aggregate-run-sheet-6
-    slice-aggregate-run-sheet-7
     run-sheet-requires
-    same-length
     returns)

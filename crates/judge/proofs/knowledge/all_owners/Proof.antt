@@ -8,21 +8,20 @@ use Rattle.bmap.specs.Limits.{mostLaws}
 use Rattle.bmap.specs.Domain.{Domain}
 use Rattle.judge.specs.Told.{Lawful, Knowing, lawNumber, ownerOf}
 use Rattle.judge.proofs.LandingLaws.{filled-more}
-use Rattle.judge.proofs.CheckLaws.{said}
 use Rattle.judge.proofs.knowledge.all_owners.Statement.{statement}
 use Rattle.judge.proofs.knowledge.all_owners.Tie as tie
 
 abbrev Inv-loop : tie.InvT-loop
-Inv-loop store laws n table w crews agents owners₀ i₀ owners i = (i ≤ n) × ((length owners ≡ mostLaws) × ((d : Domain) → Lawful d store laws n → Knowing d table w crews agents → (k : ℕ) → k < i → getD owners k 0 ≡ ownerOf d (lawNumber d k)))
+Inv-loop held n table w crews agents owners₀ i₀ owners i = (i ≤ n) × ((length owners ≡ mostLaws) × ((d : Domain) → Lawful d held n → Knowing d table w crews agents → (k : ℕ) → k < i → getD owners k 0 ≡ ownerOf d (lawNumber d k)))
 
 abbrev μ-loop : tie.MeasureT-loop
-μ-loop store laws n table w crews agents owners₀ i₀ owners i = n - i
+μ-loop held n table w crews agents owners₀ i₀ owners i = n - i
 
 loop-holds : tie.Need-loop-holds Inv-loop μ-loop
 loop-holds c = (search needs, (search needs, λ d lawful knowing k h. absurd (omega arith)))
 
-law-at-requires : tie.Need-law-at-requires Inv-loop μ-loop
-law-at-requires c κs = search needs
+mul-owner-of : tie.Need-mul-owner-of Inv-loop μ-loop
+mul-owner-of c = search needs
 
 owner-of-requires : tie.Need-owner-of-requires Inv-loop μ-loop
 owner-of-requires c κs = search needs
@@ -37,13 +36,13 @@ loop-less : tie.Need-loop-less Inv-loop μ-loop
 loop-less c = search needs
 
 loop-again : tie.Need-loop-again Inv-loop μ-loop
-loop-again c = let i = c .before .before .before .loop .i in (
+loop-again c = let i = c .before .before .loop .i in (
   omega arith,
   (
-    simp length-set (c .before .before .before .loop .inv .1 .0),
+    simp length-set (c .before .before .loop .inv .1 .0),
     λ d lawful knowing.
-        filled-more 0 (λ k. ownerOf d (lawNumber d k)) (c .before .before .before .loop .owners) i (omega arith) (c .before .before .before .loop .inv .1 .1 d lawful knowing)
-        (c .owner-of .ensures d (lawNumber d i) (said d (lawNumber d i) (c .before .law-at .ensures) (lawful .law i (c .before .before .loop-test .taken))) knowing),
+        filled-more 0 (λ k. ownerOf d (lawNumber d k)) (c .before .before .loop .owners) i (omega arith) (c .before .before .loop .inv .1 .1 d lawful knowing)
+        (c .owner-of .ensures d (lawNumber d i) ((lawful .law i (c .before .loop-test .taken))) knowing),
   ),
 )
 
@@ -57,7 +56,7 @@ all-owners-spec =
     Inv-loop
     μ-loop
     loop-holds
-    law-at-requires
+    mul-owner-of
     owner-of-requires
     array-write-owners
     add-i

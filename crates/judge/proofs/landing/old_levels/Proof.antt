@@ -29,8 +29,8 @@ add-old c = search needs
 mul-old-2 : tie.Need-mul-old-2 Inv-loop μ-loop
 mul-old-2 c = search needs
 
-shared-slice-copy-out-old : tie.Need-shared-slice-copy-out-old Inv-loop μ-loop
-shared-slice-copy-out-old c = search needs
+element-copy-out-old : tie.Need-element-copy-out-old Inv-loop μ-loop
+element-copy-out-old c = search needs
 
 cast-old : tie.Need-cast-old Inv-loop μ-loop
 cast-old c = let s = c .before .before .before .args in widened (getD (s .levels .now) (mostFluents * s .j + c .before .before .loop .f) (pos 0)) (c .old .given)
@@ -70,7 +70,7 @@ old-levels-spec =
     mul-old
     add-old
     mul-old-2
-    shared-slice-copy-out-old
+    element-copy-out-old
     cast-old
     mul-old-3
     array-set-from-old

@@ -19,4 +19,10 @@ returns-2 : tie.Need-returns-2
 returns-2 c = let s = c .before in sym (set-out (s .args .new .now) (s .args .f) (s .args .v) (omega (arith, s .pre)))
 
 pub put-spec : {M : Type 1} → statement M
-put-spec = tie.close (tie.spec mul-v element-set-from-v returns returns-2)
+put-spec =
+    tie.close
+    (tie.spec
+    mul-v
+    element-set-from-v
+    returns
+    returns-2)

@@ -35,29 +35,26 @@ loop-holds c = let s = c .args in (search needs, (c .pre .1 .1 .1, (refl, λ d s
 mul-fitted : tie.Need-mul-fitted Inv-loop μ-loop
 mul-fitted c = search needs
 
-shared-slice-copy-out-fitted : tie.Need-shared-slice-copy-out-fitted Inv-loop μ-loop
-shared-slice-copy-out-fitted c = search needs
+element-copy-out-fitted : tie.Need-element-copy-out-fitted Inv-loop μ-loop
+element-copy-out-fitted c = search needs
 
 mul-fitted-2 : tie.Need-mul-fitted-2 Inv-loop μ-loop
 mul-fitted-2 c = search needs
 
-element-copy-out-fitted : tie.Need-element-copy-out-fitted Inv-loop μ-loop
-element-copy-out-fitted c = search needs
+element-copy-out-fitted-2 : tie.Need-element-copy-out-fitted-2 Inv-loop μ-loop
+element-copy-out-fitted-2 c = search needs
 
 mul-fitted-3 : tie.Need-mul-fitted-3 Inv-loop μ-loop
 mul-fitted-3 c = search needs
 
-shared-slice-copy-out-fitted-2 : tie.Need-shared-slice-copy-out-fitted-2 Inv-loop μ-loop
-shared-slice-copy-out-fitted-2 c = search needs
+element-copy-out-fitted-3 : tie.Need-element-copy-out-fitted-3 Inv-loop μ-loop
+element-copy-out-fitted-3 c = search needs
 
 fitted-requires : tie.Need-fitted-requires Inv-loop μ-loop
 fitted-requires c κs = search needs
 
 enum-told : tie.Need-enum-told Inv-loop μ-loop
 enum-told c = search needs
-
-same-length : tie.Need-same-length Inv-loop μ-loop
-same-length c = search needs
 
 returns : tie.Need-returns Inv-loop μ-loop
 returns c = let s = c .before .before .before .before .before .before .before .before .args in let f = c .before .before .before .before .before .before .before .loop .f in (
@@ -85,8 +82,8 @@ add-z-2 c = search needs
 mul-z-2 : tie.Need-mul-z-2 Inv-loop μ-loop
 mul-z-2 c = search needs
 
-slice-set-from-z : tie.Need-slice-set-from-z Inv-loop μ-loop
-slice-set-from-z c = search needs
+element-set-from-z : tie.Need-element-set-from-z Inv-loop μ-loop
+element-set-from-z c = search needs
 
 add-f : tie.Need-add-f Inv-loop μ-loop
 add-f c = search needs
@@ -111,9 +108,6 @@ loop-again c = let s = c .before .before .before .before .before .before .before
       ),
     )
 
-same-length-2 : tie.Need-same-length-2 Inv-loop μ-loop
-same-length-2 c = search needs
-
 returns-2 : tie.Need-returns-2 Inv-loop μ-loop
 returns-2 c = let s = c .before .before .args in (
   record { states = c .before .loop .inv .1 .1 .0; long = c .before .loop .inv .1 .0 },
@@ -132,23 +126,21 @@ put-state-spec =
     μ-loop
     loop-holds
     mul-fitted
-    shared-slice-copy-out-fitted
-    mul-fitted-2
     element-copy-out-fitted
+    mul-fitted-2
+    element-copy-out-fitted-2
     mul-fitted-3
-    shared-slice-copy-out-fitted-2
+    element-copy-out-fitted-3
     fitted-requires
     enum-told
-    same-length
     returns
     enum-known-z
     add-z
     mul-z
     add-z-2
     mul-z-2
-    slice-set-from-z
+    element-set-from-z
     add-f
     loop-less
     loop-again
-    same-length-2
     returns-2)

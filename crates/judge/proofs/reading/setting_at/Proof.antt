@@ -1,5 +1,5 @@
-use Prim.Native.Nat.{_-_}
 use mathlib.Core.Path.{_∙_}
+use native.Mathlib.Omega.{arith}
 use borrow.Author.Needs.{needs}
 use lib.ListN.{getD}
 use Rattle.judge.proofs.ReadingLaws.{no-value-past, setting-given, setting-malformed, setting-number, setting-blank}
@@ -7,10 +7,10 @@ use Rattle.judge.proofs.reading.setting_at.Statement.{statement}
 use Rattle.judge.proofs.reading.setting_at.Tie as tie
 
 returns : tie.Need-returns
-returns c = let s = c .before .before .before .args in no-value-past (s .frame .now) (s .at) (getD (s .frame .now) (s .at) 0) (s .levels .now) (s .occurred .now) (s .j) (c .if1 .taken)
+returns c = λ long. let s = c .before .args in no-value-past (s .held .now) (s .at) (getD (s .held .now) (s .at) 0) (s .levels .now) (s .occurred .now) (s .j) (omega arith)
 
-shared-slice-read-f : tie.Need-shared-slice-read-f
-shared-slice-read-f c = search needs
+element-copy-out-f : tie.Need-element-copy-out-f
+element-copy-out-f c = search needs
 
 add-expression-at : tie.Need-add-expression-at
 add-expression-at c = search needs
@@ -25,7 +25,7 @@ enum-told : tie.Need-enum-told
 enum-told c = search needs
 
 returns-2 : tie.Need-returns-2
-returns-2 c = let s = c .before .before .before .before .before .before .before .args in setting-malformed (getD (s .frame .now) (s .at) 0) (c .before .before .expression-at .ensures) (c .enum-told .given .1)
+returns-2 c = λ long. let s = c .before .before .before .before .before .before .before .before .args in setting-malformed (getD (s .held .now) (s .at) 0) (c .before .before .expression-at .ensures) (c .enum-told .given .1)
 
 enum-known-value-2 : tie.Need-enum-known-value-2
 enum-known-value-2 c = search needs
@@ -34,17 +34,17 @@ enum-told-2 : tie.Need-enum-told-2
 enum-told-2 c = search needs
 
 returns-3 : tie.Need-returns-3
-returns-3 c = let s = c .before .before .before .before .before .before .before .before .before .before .before .args in setting-number (getD (s .frame .now) (s .at) 0) (c .before .value2 .given .1) (c .known-told2 .given .0 .1) ∙ setting-given (getD (s .frame .now) (s .at) 0) (c .before .before .before .before .before .before .expression-at .ensures) (c .before .before .before .before .value .given .1)
+returns-3 c = λ long. let s = c .before .before .before .before .before .before .before .before .before .before .before .before .args in setting-number (getD (s .held .now) (s .at) 0) (c .before .value2 .given .1) (c .known-told2 .given .0 .1) ∙ setting-given (getD (s .held .now) (s .at) 0) (c .before .before .before .before .before .before .expression-at .ensures) (c .before .before .before .before .value .given .1)
 
 returns-4 : tie.Need-returns-4
-returns-4 c = let s = c .before .before .before .before .before .before .before .before .before .before .args in setting-blank (getD (s .frame .now) (s .at) 0) (c .enum-told2 .given .1) ∙ setting-given (getD (s .frame .now) (s .at) 0) (c .before .before .before .before .before .expression-at .ensures) (c .before .before .before .value .given .1)
+returns-4 c = λ long. let s = c .before .before .before .before .before .before .before .before .before .before .before .args in setting-blank (getD (s .held .now) (s .at) 0) (c .enum-told2 .given .1) ∙ setting-given (getD (s .held .now) (s .at) 0) (c .before .before .before .before .before .expression-at .ensures) (c .before .before .before .value .given .1)
 
 pub setting-at-spec : {M : Type 1} → statement M
 setting-at-spec =
     tie.close
     (tie.spec
     returns
-    shared-slice-read-f
+    element-copy-out-f
     add-expression-at
     expression-at-requires
     enum-known-value

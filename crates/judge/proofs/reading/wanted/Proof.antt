@@ -2,7 +2,7 @@ use Prim.Native.Nat.{ℕ, _+_, _-_}
 use mathlib.Core.Path.{sym, ap, _∙_}
 use mathlib.Core.Bool.{Bool}
 use borrow.Author.Needs.{needs}
-use lib.ListN.{getD}
+use lib.ListN.{getD, drop}
 use borrow.Author.Tests.{not-false, not-true}
 use Rattle.bmap.specs.Number.{Valued, value}
 use Rattle.bmap.specs.Judge.{setsIf}
@@ -11,31 +11,38 @@ use Rattle.judge.specs.Settings.{settingFrom}
 use Rattle.law.specs.Evaluate.{valueAt}
 use Rattle.bmap.specs.Limits.{mostDepth}
 use Rattle.bmap.specs.Meaning.{evalE}
+use Rattle.judge.proofs.CheckLaws.{front}
 use Rattle.judge.proofs.SettingLaws.{sets-none}
 use Rattle.judge.proofs.ReadingLaws.{effect-told, sets-if, effect-truth, effect-value, judged-given, judged-malformed}
 use Rattle.bmap.specs.Domain.{has}
 use Rattle.judge.proofs.reading.wanted.Statement.{statement}
 use Rattle.judge.proofs.reading.wanted.Tie as tie
 
-byte-requires : tie.Need-byte-requires
-byte-requires c κs = search needs
+element-copy-out-if1 : tie.Need-element-copy-out-if1
+element-copy-out-if1 c = search needs
 
 returns : tie.Need-returns
-returns c = λ d h l names says occurring seen. let s = c .before .before .before .before .args in sym (sets-none d h (s .j) names (s .frame .now) l says (λ e. c .if1 .taken (c .before .byte .ensures ∙ e)))
+returns c = λ d h l names long says occurring seen. let s = c .before .before .args in sym (sets-none d h (s .j) names (drop (s .at) (s .held .now)) l says (λ e. c .if1 .taken (sym (front (s .held .now) (s .at)) ∙ e)))
 
-byte-requires-2 : tie.Need-byte-requires-2
-byte-requires-2 c κs = search needs
+add-wide : tie.Need-add-wide
+add-wide c = search needs
 
-cast-has-entry : tie.Need-cast-has-entry
-cast-has-entry c = search needs
+element-copy-out-wide : tie.Need-element-copy-out-wide
+element-copy-out-wide c = search needs
+
+wide-requires : tie.Need-wide-requires
+wide-requires c κs = search needs
 
 has-entry-requires : tie.Need-has-entry-requires
 has-entry-requires c κs = search needs
 
 returns-2 : tie.Need-returns-2
-returns-2 c = λ d h l names says occurring seen. let s = c .before .before .before .before .before .before .before .args in
-    let e = effect-told d (s .frame .now) l says (sym (c .before .before .before .before .byte .ensures) ∙ c .before .before .before .if1 .left) in
-    sym (sets-if d (s .frame .now) l h (s .j) names (s .entries) e occurring (ap (has (s .entries)) (sym (c .before .before .byte2 .ensures)) ∙ (sym (c .before .has-entry .ensures) ∙ not-true (c .before .has-entry .result) (c .if2 .taken))))
+returns-2 c = λ d h l names long says occurring seen. let s = c .before .before .before .before .before .before .args in
+    let e = effect-told d (drop (s .at) (s .held .now)) l says (front (s .held .now) (s .at) ∙ c .before .before .before .before .if1 .left) in
+    sym (sets-if d (s .held .now) (s .at) l h (s .j) names (s .entries) e occurring (ap (has (s .entries)) (sym (c .before .before .wide .ensures)) ∙ (sym (c .before .has-entry .ensures) ∙ not-true (c .before .has-entry .result) (c .if2 .taken))))
+
+add-constraint-at : tie.Need-add-constraint-at
+add-constraint-at c = search needs
 
 constraint-at-requires : tie.Need-constraint-at-requires
 constraint-at-requires c κs = search needs
@@ -47,9 +54,9 @@ enum-told : tie.Need-enum-told
 enum-told c = search needs
 
 returns-3 : tie.Need-returns-3
-returns-3 c = λ d h l names says occurring seen. let s = c .before .before .before .before .before .before .before .before .before .before .args in
-    let e = effect-told d (s .frame .now) l says (sym (c .before .before .before .before .before .before .before .byte .ensures) ∙ c .before .before .before .before .before .before .if1 .left) in
-    absurd (judged-malformed (c .before .before .constraint-at .ensures) (c .enum-told .given .1) (effect-truth d (s .frame .now) l h (s .j) names (s .entries) e occurring (s .levels .now) (s .occurred .now) seen))
+returns-3 c = λ d h l names long says occurring seen. let s = c .before .before .before .before .before .before .before .before .before .before .before .before .args in
+    let e = effect-told d (drop (s .at) (s .held .now)) l says (front (s .held .now) (s .at) ∙ c .before .before .before .before .before .before .before .before .before .before .if1 .left) in
+    absurd (judged-malformed (c .before .before .constraint-at .ensures) (c .enum-told .given .1) (effect-truth d (s .held .now) (s .at) l h (s .j) names (s .entries) e occurring (s .levels .now) (s .occurred .now) seen))
 
 enum-known-truth-2 : tie.Need-enum-known-truth-2
 enum-known-truth-2 c = search needs
@@ -58,41 +65,43 @@ enum-told-2 : tie.Need-enum-told-2
 enum-told-2 c = search needs
 
 returns-4 : tie.Need-returns-4
-returns-4 c = λ d h l names says occurring seen. let s = c .before .before .before .before .before .before .before .before .before .before .before .before .before .args in
-    let e = effect-told d (s .frame .now) l says (sym (c .before .before .before .before .before .before .before .before .before .before .byte .ensures) ∙ c .before .before .before .before .before .before .before .before .before .if1 .left) in
-    let t = judged-given (c .before .before .before .before .before .constraint-at .ensures) (c .before .before .before .truth .given .1) (effect-truth d (s .frame .now) l h (s .j) names (s .entries) e occurring (s .levels .now) (s .occurred .now) seen) in
-    sym (sets-if d (s .frame .now) l h (s .j) names (s .entries) e occurring (ap (has (s .entries)) (sym (c .before .before .before .before .before .before .before .before .byte2 .ensures)) ∙ (sym (c .before .before .before .before .before .before .before .has-entry .ensures) ∙ not-false (c .before .before .before .before .before .before .before .has-entry .result) (c .before .before .before .before .before .before .if2 .left)))
+returns-4 c = λ d h l names long says occurring seen. let s = c .before .before .before .before .before .before .before .before .before .before .before .before .before .before .before .args in
+    let e = effect-told d (drop (s .at) (s .held .now)) l says (front (s .held .now) (s .at) ∙ c .before .before .before .before .before .before .before .before .before .before .before .before .before .if1 .left) in
+    let t = judged-given (c .before .before .before .before .before .constraint-at .ensures) (c .before .before .before .truth .given .1) (effect-truth d (s .held .now) (s .at) l h (s .j) names (s .entries) e occurring (s .levels .now) (s .occurred .now) seen) in
+    sym (sets-if d (s .held .now) (s .at) l h (s .j) names (s .entries) e occurring (ap (has (s .entries)) (sym (c .before .before .before .before .before .before .before .before .before .before .before .wide .ensures)) ∙ (sym (c .before .before .before .before .before .before .before .before .before .before .has-entry .ensures) ∙ not-false (c .before .before .before .before .before .before .before .before .before .before .has-entry .result) (c .before .before .before .before .before .before .before .before .before .if2 .left)))
     ∙ ap (λ (v : Valued Bool). setsIf (e .fluent) (evalE (e .expr) h (s .j)) v) (sym (t .0) ∙ ap truthOf (c .enum-told2 .given .1)))
 
 setting-at-requires : tie.Need-setting-at-requires
 setting-at-requires c κs = search needs
 
 returns-5 : tie.Need-returns-5
-returns-5 c = λ d h l names says occurring seen. let s = c .before .before .before .before .before .before .before .before .before .before .before .before .before .before .before .before .args in
-    let e = effect-told d (s .frame .now) l says (sym (c .before .before .before .before .before .before .before .before .before .before .before .before .before .byte .ensures) ∙ c .before .before .before .before .before .before .before .before .before .before .before .before .if1 .left) in
-    let t = judged-given (c .before .before .before .before .before .before .before .before .constraint-at .ensures) (c .before .before .before .before .before .before .truth .given .1) (effect-truth d (s .frame .now) l h (s .j) names (s .entries) e occurring (s .levels .now) (s .occurred .now) seen) in
-    c .setting-at .ensures ∙ (ap (λ (k : ℕ). settingFrom (getD (s .frame .now) k 0) (valueAt mostDepth (s .frame .now) (k + 1) (s .levels .now) (s .occurred .now) (s .j))) (t .1)
-    ∙ (effect-value d (s .frame .now) l h (s .j) names (s .entries) e occurring (s .levels .now) (s .occurred .now) seen
-    ∙ sym (sets-if d (s .frame .now) l h (s .j) names (s .entries) e occurring (ap (has (s .entries)) (sym (c .before .before .before .before .before .before .before .before .before .before .before .byte2 .ensures)) ∙ (sym (c .before .before .before .before .before .before .before .before .before .before .has-entry .ensures) ∙ not-false (c .before .before .before .before .before .before .before .before .before .before .has-entry .result) (c .before .before .before .before .before .before .before .before .before .if2 .left)))
+returns-5 c = λ d h l names long says occurring seen. let s = c .before .before .before .before .before .before .before .before .before .before .before .before .before .before .before .before .before .before .args in
+    let e = effect-told d (drop (s .at) (s .held .now)) l says (front (s .held .now) (s .at) ∙ c .before .before .before .before .before .before .before .before .before .before .before .before .before .before .before .before .if1 .left) in
+    let t = judged-given (c .before .before .before .before .before .before .before .before .constraint-at .ensures) (c .before .before .before .before .before .before .truth .given .1) (effect-truth d (s .held .now) (s .at) l h (s .j) names (s .entries) e occurring (s .levels .now) (s .occurred .now) seen) in
+    c .setting-at .ensures long ∙ (ap (λ (k : ℕ). settingFrom (getD (s .held .now) k 0) (valueAt mostDepth (s .held .now) (k + 1) (s .levels .now) (s .occurred .now) (s .j))) (t .1)
+    ∙ (effect-value d (s .held .now) (s .at) l h (s .j) names (s .entries) e occurring (s .levels .now) (s .occurred .now) seen
+    ∙ sym (sets-if d (s .held .now) (s .at) l h (s .j) names (s .entries) e occurring (ap (has (s .entries)) (sym (c .before .before .before .before .before .before .before .before .before .before .before .before .before .before .wide .ensures)) ∙ (sym (c .before .before .before .before .before .before .before .before .before .before .before .before .before .has-entry .ensures) ∙ not-false (c .before .before .before .before .before .before .before .before .before .before .before .before .before .has-entry .result) (c .before .before .before .before .before .before .before .before .before .before .before .before .if2 .left)))
     ∙ ap (λ (v : Valued Bool). setsIf (e .fluent) (evalE (e .expr) h (s .j)) v) (sym (t .0) ∙ (ap truthOf (c .before .before .before .truth2 .given .1) ∙ ap value (c .before .if3 .taken))))))
 
 returns-6 : tie.Need-returns-6
-returns-6 c = λ d h l names says occurring seen. let s = c .before .before .before .before .before .before .before .before .before .before .before .before .before .before .before .args in
-    let e = effect-told d (s .frame .now) l says (sym (c .before .before .before .before .before .before .before .before .before .before .before .before .byte .ensures) ∙ c .before .before .before .before .before .before .before .before .before .before .before .if1 .left) in
-    let t = judged-given (c .before .before .before .before .before .before .before .constraint-at .ensures) (c .before .before .before .before .before .truth .given .1) (effect-truth d (s .frame .now) l h (s .j) names (s .entries) e occurring (s .levels .now) (s .occurred .now) seen) in
-    sym (sets-if d (s .frame .now) l h (s .j) names (s .entries) e occurring (ap (has (s .entries)) (sym (c .before .before .before .before .before .before .before .before .before .before .byte2 .ensures)) ∙ (sym (c .before .before .before .before .before .before .before .before .before .has-entry .ensures) ∙ not-false (c .before .before .before .before .before .before .before .before .before .has-entry .result) (c .before .before .before .before .before .before .before .before .if2 .left)))
+returns-6 c = λ d h l names long says occurring seen. let s = c .before .before .before .before .before .before .before .before .before .before .before .before .before .before .before .before .before .args in
+    let e = effect-told d (drop (s .at) (s .held .now)) l says (front (s .held .now) (s .at) ∙ c .before .before .before .before .before .before .before .before .before .before .before .before .before .before .before .if1 .left) in
+    let t = judged-given (c .before .before .before .before .before .before .before .constraint-at .ensures) (c .before .before .before .before .before .truth .given .1) (effect-truth d (s .held .now) (s .at) l h (s .j) names (s .entries) e occurring (s .levels .now) (s .occurred .now) seen) in
+    sym (sets-if d (s .held .now) (s .at) l h (s .j) names (s .entries) e occurring (ap (has (s .entries)) (sym (c .before .before .before .before .before .before .before .before .before .before .before .before .before .wide .ensures)) ∙ (sym (c .before .before .before .before .before .before .before .before .before .before .before .before .has-entry .ensures) ∙ not-false (c .before .before .before .before .before .before .before .before .before .before .before .before .has-entry .result) (c .before .before .before .before .before .before .before .before .before .before .before .if2 .left)))
     ∙ ap (λ (v : Valued Bool). setsIf (e .fluent) (evalE (e .expr) h (s .j)) v) (sym (t .0) ∙ (ap truthOf (c .before .before .truth2 .given .1) ∙ ap value (c .if3 .left))))
 
 pub wanted-spec : {M : Type 1} → statement M
 wanted-spec =
     tie.close
     (tie.spec
-    byte-requires
+    element-copy-out-if1
     returns
-    byte-requires-2
-    cast-has-entry
+    add-wide
+    element-copy-out-wide
+    wide-requires
     has-entry-requires
     returns-2
+    add-constraint-at
     constraint-at-requires
     enum-known-truth
     enum-told

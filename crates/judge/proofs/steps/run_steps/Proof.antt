@@ -23,30 +23,30 @@ use Rattle.judge.proofs.steps.run_steps.Statement.{statement}
 use Rattle.judge.proofs.steps.run_steps.Tie as tie
 
 abbrev Inv-loop : tie.InvT-loop
-Inv-loop store laws owners runs lowest highest w actions crews count agents sheet n levels₀ occurred₀ rest₀ j₀ levels occurred rest j =
-    ((j ≤ n) × (length rest ≡ (n - j) * agents)) × (((length levels ≡ levelsSize) × (length occurred ≡ mostSteps + 1)) × ((d : Domain) (l : ℕ) → Prepared d store laws owners l runs lowest highest w count → Entered d actions crews count → d .agents ≡ agents
+Inv-loop held owners runs lowest highest w actions crews count agents sheet n levels₀ occurred₀ rest₀ j₀ levels occurred rest j =
+    ((j ≤ n) × (length rest ≡ (n - j) * agents)) × (((length levels ≡ levelsSize) × (length occurred ≡ mostSteps + 1)) × ((d : Domain) (l : ℕ) → Prepared d held owners l runs lowest highest w count → Entered d actions crews count → d .agents ≡ agents
     → Acted d (rows agents n sheet) occurred j × ((drop j (rows agents n sheet) ≡ rows agents (n - j) rest)
     × (carried d (rows agents n sheet) 0 (statesOf w 1 levels₀) (rows agents n sheet) ≡ carried d (rows agents n sheet) j (statesOf w (j + 1) levels) (rows agents (n - j) rest)))))
 
 abbrev μ-loop : tie.MeasureT-loop
-μ-loop store laws owners runs lowest highest w actions crews count agents sheet n levels₀ occurred₀ rest₀ j₀ levels occurred rest j =
+μ-loop held owners runs lowest highest w actions crews count agents sheet n levels₀ occurred₀ rest₀ j₀ levels occurred rest j =
     n - j
 
 loop-holds : tie.Need-loop-holds Inv-loop μ-loop
-loop-holds c = let s = c .before .before .before .before .before .before .before .args in (
-  (search needs, left-start (s .agents) (s .n) _ (c .before .before .before .before .before .before .before .pre .0 .1 .1)),
+loop-holds c = let s = c .before .args in (
+  (search needs, left-start (s .agents) (s .n) _ (c .before .pre .0 .1 .1)),
   (
-    c .before .before .before .before .before .before .before .pre .1 .1 .1 .1,
+    c .before .pre .1 .1 .1 .1,
     λ d l p entered agents.
         (λ k e h i. absurd (omega arith), (rows-start (s .agents) (s .n) (s .sheet .now), ap (λ (r : List Names). carried d (rows (s .agents) (s .n) (s .sheet .now)) 0 (statesOf (s .w) 1 (s .levels .now)) r) (rows-start (s .agents) (s .n) (s .sheet .now)))),
   ),
 )
 
 slice-aggregate-names : tie.Need-slice-aggregate-names Inv-loop μ-loop
-slice-aggregate-names c = sym (length-take-le (c .before .before .before .before .before .before .before .before .before .before .args .agents) (c .before .before .loop .rest .now) (row-there (c .before .before .before .before .before .before .before .before .before .before .args .agents) (c .before .before .before .before .before .before .before .before .before .before .args .n) (c .before .before .loop .j) (c .before .before .loop .rest .now) (c .before .loop-test .taken) (c .before .before .loop .inv .0 .1)))
+slice-aggregate-names c = sym (length-take-le (c .before .before .before .before .args .agents) (c .before .before .loop .rest .now) (row-there (c .before .before .before .before .args .agents) (c .before .before .before .before .args .n) (c .before .before .loop .j) (c .before .before .loop .rest .now) (c .before .loop-test .taken) (c .before .before .loop .inv .0 .1)))
 
 who-acts-requires : tie.Need-who-acts-requires Inv-loop μ-loop
-who-acts-requires c κs = (omega (arith, length-take (c .before .before .before .before .before .before .before .before .before .before .args .agents) (c .before .before .loop .rest .now), c .before .before .before .before .before .before .before .before .before .before .pre .1 .0 .0), c .before .before .before .before .before .before .before .before .before .before .pre .1 .0 .1)
+who-acts-requires c κs = (omega (arith, length-take (c .before .before .before .before .args .agents) (c .before .before .loop .rest .now), c .before .before .before .before .pre .1 .0 .0), c .before .before .before .before .pre .1 .0 .1)
 
 add-occurred : tie.Need-add-occurred Inv-loop μ-loop
 add-occurred c = search needs
@@ -54,49 +54,43 @@ add-occurred c = search needs
 mul-occurred : tie.Need-mul-occurred Inv-loop μ-loop
 mul-occurred c = search needs
 
-slice-write-occurred : tie.Need-slice-write-occurred Inv-loop μ-loop
-slice-write-occurred c = search needs
+element-write-occurred : tie.Need-element-write-occurred Inv-loop μ-loop
+element-write-occurred c = search needs
 
 take-step-requires : tie.Need-take-step-requires Inv-loop μ-loop
-take-step-requires c κs = ((omega (arith, c .before .before .before .before .loop-test .taken, c .before .before .before .before .before .before .before .before .before .before .before .before .before .pre .0 .0), c .before .before .before .before .before .before .before .before .before .before .before .before .before .pre .0 .1 .0), ((omega (arith, length-take (c .before .before .before .before .before .before .before .before .before .before .before .before .before .args .agents) (c .before .before .before .before .before .loop .rest .now), c .before .before .before .before .before .before .before .before .before .before .before .before .before .pre .1 .0 .0), c .before .before .before .before .before .before .before .before .before .before .before .before .before .pre .1 .0 .1 .0), (c .before .before .before .before .before .before .before .before .before .before .before .before .before .pre .1 .1 .0, (c .before .before .before .before .before .before .before .before .before .before .before .before .before .pre .1 .1 .1 .0, c .before .before .before .before .before .loop .inv .1 .0 .0))))
+take-step-requires c κs = ((omega (arith, c .before .before .before .before .loop-test .taken, c .before .before .before .before .before .before .before .pre .0 .0), c .before .before .before .before .before .before .before .pre .0 .1 .0), ((omega (arith, length-take (c .before .before .before .before .before .before .before .args .agents) (c .before .before .before .before .before .loop .rest .now), c .before .before .before .before .before .before .before .pre .1 .0 .0), c .before .before .before .before .before .before .before .pre .1 .0 .1 .0), (c .before .before .before .before .before .before .before .pre .1 .1 .0, (c .before .before .before .before .before .before .before .pre .1 .1 .1 .0, c .before .before .before .before .before .loop .inv .1 .0 .0))))
 
 enum-known-fault : tie.Need-enum-known-fault Inv-loop μ-loop
 enum-known-fault c = search needs
 
+add-t30 : tie.Need-add-t30 Inv-loop μ-loop
+add-t30 c = omega (arith, c .before .before .before .before .before .before .before .before .loop-test .taken, c .before .before .before .before .before .before .before .before .before .before .before .pre .0 .0)
+
 add-t32 : tie.Need-add-t32 Inv-loop μ-loop
-add-t32 c = omega (arith, c .before .before .before .before .before .before .before .before .before .loop-test .taken, c .before .before .before .before .before .before .before .before .before .before .before .before .before .before .before .before .before .before .pre .0 .0)
-
-add-t34 : tie.Need-add-t34 Inv-loop μ-loop
-add-t34 c = omega (arith, c .before .before .before .before .before .before .before .before .before .loop-test .taken, c .before .before .before .before .before .before .before .before .before .before .before .before .before .before .before .before .before .before .pre .0 .0)
-
-same-length : tie.Need-same-length Inv-loop μ-loop
-same-length c = c .before .before .before .before .take-step .ensures .0 .long ∙ sym (c .before .before .before .before .before .before .before .before .before .before .before .before .before .before .before .before .before .before .pre .1 .1 .1 .1 .0)
-
-same-length-2 : tie.Need-same-length-2 Inv-loop μ-loop
-same-length-2 c = simp length-set (c .before .before .before .before .before .before .before .before .before .before .loop .inv .1 .0 .1 ∙ sym (c .before .before .before .before .before .before .before .before .before .before .before .before .before .before .before .before .before .before .pre .1 .1 .1 .1 .1))
+add-t32 c = omega (arith, c .before .before .before .before .before .before .before .before .loop-test .taken, c .before .before .before .before .before .before .before .before .before .before .before .pre .0 .0)
 
 returns : tie.Need-returns Inv-loop μ-loop
-returns c = let s = c .before .before .before .before .before .before .before .before .before .before .before .before .before .before .before .before .before .before .args in let j = c .before .before .before .before .before .before .before .before .before .before .loop .j in let rest = c .before .before .before .before .before .before .before .before .before .before .loop .rest .now in let levels = c .before .before .before .before .take-step .last .1 .1 .1 .1 .1 .1 .1 .1 .1 .1 .1 .0 in (
-  (omega (arith, c .before .before .before .before .before .before .before .before .before .loop-test .taken), (λ e. absurd (let z : _≡_ {A = ℕ} 0 1 = cc in omega arith), c .before .before .before .before .take-step .ensures .0 .long)),
+returns c = let s = c .before .before .before .before .before .before .before .before .before .before .before .args in let j = c .before .before .before .before .before .before .before .before .before .loop .j in let rest = c .before .before .before .before .before .before .before .before .before .loop .rest .now in let levels = c .before .before .before .take-step .last .1 .1 .1 .1 .1 .1 .1 .1 .1 .1 .0 in (
+  (omega (arith, c .before .before .before .before .before .before .before .before .loop-test .taken), (λ e. absurd (let z : _≡_ {A = ℕ} 0 1 = cc in omega arith), c .before .before .before .take-step .ensures .0 .long)),
   λ d l p entered agents.
-      let sheet = rows (s .agents) (s .n) (s .sheet .now) in let names = take (s .agents) rest in let going = c .before .before .before .before .before .before .before .before .before .before .loop .inv .1 .1 d l p entered agents in
-      let there = row-there (s .agents) (s .n) j rest (c .before .before .before .before .before .before .before .before .before .loop-test .taken) (c .before .before .before .before .before .before .before .before .before .before .loop .inv .0 .1) in
+      let sheet = rows (s .agents) (s .n) (s .sheet .now) in let names = take (s .agents) rest in let going = c .before .before .before .before .before .before .before .before .before .loop .inv .1 .1 d l p entered agents in
+      let there = row-there (s .agents) (s .n) j rest (c .before .before .before .before .before .before .before .before .loop-test .taken) (c .before .before .before .before .before .before .before .before .before .loop .inv .0 .1) in
       let long = length-take-le (s .agents) rest there ∙ sym agents in
-      let occurring = occurring-is d names (s .actions .now) (s .crews .now) (s .count) entered long (ap (λ (a : Acting). a .entries) (c .before .before .before .before .before .before .before .who-acts .ensures)) in
-      let belonging = belonging-is d names (s .actions .now) (s .crews .now) (s .count) entered long (ap (λ (a : Acting). a .agents) (c .before .before .before .before .before .before .before .who-acts .ensures)) in
-      let acted = acted-more d sheet (c .before .before .before .before .before .before .before .before .before .before .loop .occurred) j names (c .before .before .before .before .before .before .before .who-acts .result .entries) (omega (arith, c .before .before .before .before .before .before .before .before .before .before .loop .inv .1 .0 .1, c .before .before .before .before .before .before .before .before .before .loop-test .taken, c .before .before .before .before .before .before .before .before .before .before .before .before .before .before .before .before .before .before .pre .0 .0)) (row-names (s .agents) (s .n) j rest (c .before .before .before .before .before .before .before .before .before .loop-test .taken) sheet (going .1 .0)) occurring (going .0) in
-      sym (going .1 .1 ∙ carried-stop (s .agents) d sheet (s .n) j (statesOf (s .w) (j + 1) (c .before .before .before .before .before .before .before .before .before .before .loop .levels)) rest (c .before .before .before .before .before .before .before .before .before .loop-test .taken) (c .before .before .before .before .take-step .result) (stateAt (s .w) levels (j + 1)) (c .before .before .before .before .take-step .ensures .1 d l sheet p occurring belonging acted) (c .before .fault .given .1)
-      (states-kept (s .w) (32 * (j + 1)) (j + 1) (c .before .before .before .before .before .before .before .before .before .before .loop .levels) levels (c .before .before .before .before .take-step .ensures .0 .states) (c .before .before .before .before .before .before .before .before .before .before .before .before .before .before .before .before .before .before .pre .1 .1 .0) (omega arith))),
+      let occurring = occurring-is d names (s .actions .now) (s .crews .now) (s .count) entered long (ap (λ (a : Acting). a .entries) (c .before .before .before .before .before .before .who-acts .ensures)) in
+      let belonging = belonging-is d names (s .actions .now) (s .crews .now) (s .count) entered long (ap (λ (a : Acting). a .agents) (c .before .before .before .before .before .before .who-acts .ensures)) in
+      let acted = acted-more d sheet (c .before .before .before .before .before .before .before .before .before .loop .occurred) j names (c .before .before .before .before .before .before .who-acts .result .entries) (omega (arith, c .before .before .before .before .before .before .before .before .before .loop .inv .1 .0 .1, c .before .before .before .before .before .before .before .before .loop-test .taken, c .before .before .before .before .before .before .before .before .before .before .before .pre .0 .0)) (row-names (s .agents) (s .n) j rest (c .before .before .before .before .before .before .before .before .loop-test .taken) sheet (going .1 .0)) occurring (going .0) in
+      sym (going .1 .1 ∙ carried-stop (s .agents) d sheet (s .n) j (statesOf (s .w) (j + 1) (c .before .before .before .before .before .before .before .before .before .loop .levels)) rest (c .before .before .before .before .before .before .before .before .loop-test .taken) (c .before .before .before .take-step .result) (stateAt (s .w) levels (j + 1)) (c .before .before .before .take-step .ensures .1 d l sheet p occurring belonging acted) (c .before .fault .given .1)
+      (states-kept (s .w) (32 * (j + 1)) (j + 1) (c .before .before .before .before .before .before .before .before .before .loop .levels) levels (c .before .before .before .take-step .ensures .0 .states) (c .before .before .before .before .before .before .before .before .before .before .before .pre .1 .1 .0) (omega arith))),
 )
 
 enum-told : tie.Need-enum-told Inv-loop μ-loop
 enum-told c = search needs
 
 sub-rest : tie.Need-sub-rest Inv-loop μ-loop
-sub-rest c = omega (arith, row-there (c .before .before .before .before .before .before .before .before .before .before .before .before .before .before .before .before .before .args .agents) (c .before .before .before .before .before .before .before .before .before .before .before .before .before .before .before .before .before .args .n) (c .before .before .before .before .before .before .before .before .before .loop .j) (c .before .before .before .before .before .before .before .before .before .loop .rest .now) (c .before .before .before .before .before .before .before .before .loop-test .taken) (c .before .before .before .before .before .before .before .before .before .loop .inv .0 .1))
+sub-rest c = omega (arith, row-there (c .before .before .before .before .before .before .before .before .before .before .args .agents) (c .before .before .before .before .before .before .before .before .before .before .args .n) (c .before .before .before .before .before .before .before .before .loop .j) (c .before .before .before .before .before .before .before .before .loop .rest .now) (c .before .before .before .before .before .before .before .loop-test .taken) (c .before .before .before .before .before .before .before .before .loop .inv .0 .1))
 
 part-rest-start : tie.Need-part-rest-start Inv-loop μ-loop
-part-rest-start c = omega (arith, row-there (c .before .before .before .before .before .before .before .before .before .before .before .before .before .before .before .before .before .args .agents) (c .before .before .before .before .before .before .before .before .before .before .before .before .before .before .before .before .before .args .n) (c .before .before .before .before .before .before .before .before .before .loop .j) (c .before .before .before .before .before .before .before .before .before .loop .rest .now) (c .before .before .before .before .before .before .before .before .loop-test .taken) (c .before .before .before .before .before .before .before .before .before .loop .inv .0 .1))
+part-rest-start c = omega (arith, row-there (c .before .before .before .before .before .before .before .before .before .before .args .agents) (c .before .before .before .before .before .before .before .before .before .before .args .n) (c .before .before .before .before .before .before .before .before .loop .j) (c .before .before .before .before .before .before .before .before .loop .rest .now) (c .before .before .before .before .before .before .before .loop-test .taken) (c .before .before .before .before .before .before .before .before .loop .inv .0 .1))
 
 part-rest-end : tie.Need-part-rest-end Inv-loop μ-loop
 part-rest-end c = search needs
@@ -108,40 +102,34 @@ loop-less : tie.Need-loop-less Inv-loop μ-loop
 loop-less c = search needs
 
 loop-again : tie.Need-loop-again Inv-loop μ-loop
-loop-again c = let s = c .before .before .before .before .before .before .before .before .before .before .before .before .before .before .before .before .before .before .args in let j = c .before .before .before .before .before .before .before .before .before .before .loop .j in let rest = c .before .before .before .before .before .before .before .before .before .before .loop .rest .now in let levels = c .before .before .before .before .take-step .last .1 .1 .1 .1 .1 .1 .1 .1 .1 .1 .1 .0 in
+loop-again c = let s = c .before .before .before .before .before .before .before .before .before .before .before .args in let j = c .before .before .before .before .before .before .before .before .before .loop .j in let rest = c .before .before .before .before .before .before .before .before .before .loop .rest .now in let levels = c .before .before .before .take-step .last .1 .1 .1 .1 .1 .1 .1 .1 .1 .1 .0 in
     let part : take (length rest - s .agents) (drop (s .agents) rest) ≡ drop (s .agents) rest = rest-is (s .agents) rest in (
-      (omega (arith, c .before .before .before .before .before .before .before .before .before .loop-test .taken), ap length part ∙ row-left (s .agents) (s .n) j rest (c .before .before .before .before .before .before .before .before .before .loop-test .taken) (c .before .before .before .before .before .before .before .before .before .before .loop .inv .0 .1)),
+      (omega (arith, c .before .before .before .before .before .before .before .before .loop-test .taken), ap length part ∙ row-left (s .agents) (s .n) j rest (c .before .before .before .before .before .before .before .before .loop-test .taken) (c .before .before .before .before .before .before .before .before .before .loop .inv .0 .1)),
       (
-        (c .before .before .before .before .take-step .ensures .0 .long, simp length-set (c .before .before .before .before .before .before .before .before .before .before .loop .inv .1 .0 .1)),
+        (c .before .before .before .take-step .ensures .0 .long, simp length-set (c .before .before .before .before .before .before .before .before .before .loop .inv .1 .0 .1)),
         λ d l p entered agents.
-            let sheet = rows (s .agents) (s .n) (s .sheet .now) in let names = take (s .agents) rest in let going = c .before .before .before .before .before .before .before .before .before .before .loop .inv .1 .1 d l p entered agents in
-            let there = row-there (s .agents) (s .n) j rest (c .before .before .before .before .before .before .before .before .before .loop-test .taken) (c .before .before .before .before .before .before .before .before .before .before .loop .inv .0 .1) in
+            let sheet = rows (s .agents) (s .n) (s .sheet .now) in let names = take (s .agents) rest in let going = c .before .before .before .before .before .before .before .before .before .loop .inv .1 .1 d l p entered agents in
+            let there = row-there (s .agents) (s .n) j rest (c .before .before .before .before .before .before .before .before .loop-test .taken) (c .before .before .before .before .before .before .before .before .before .loop .inv .0 .1) in
             let long = length-take-le (s .agents) rest there ∙ sym agents in
-            let occurring = occurring-is d names (s .actions .now) (s .crews .now) (s .count) entered long (ap (λ (a : Acting). a .entries) (c .before .before .before .before .before .before .before .who-acts .ensures)) in
-            let belonging = belonging-is d names (s .actions .now) (s .crews .now) (s .count) entered long (ap (λ (a : Acting). a .agents) (c .before .before .before .before .before .before .before .who-acts .ensures)) in
-            let acted = acted-more d sheet (c .before .before .before .before .before .before .before .before .before .before .loop .occurred) j names (c .before .before .before .before .before .before .before .who-acts .result .entries) (omega (arith, c .before .before .before .before .before .before .before .before .before .before .loop .inv .1 .0 .1, c .before .before .before .before .before .before .before .before .before .loop-test .taken, c .before .before .before .before .before .before .before .before .before .before .before .before .before .before .before .before .before .before .pre .0 .0)) (row-names (s .agents) (s .n) j rest (c .before .before .before .before .before .before .before .before .before .loop-test .taken) sheet (going .1 .0)) occurring (going .0) in (
+            let occurring = occurring-is d names (s .actions .now) (s .crews .now) (s .count) entered long (ap (λ (a : Acting). a .entries) (c .before .before .before .before .before .before .who-acts .ensures)) in
+            let belonging = belonging-is d names (s .actions .now) (s .crews .now) (s .count) entered long (ap (λ (a : Acting). a .agents) (c .before .before .before .before .before .before .who-acts .ensures)) in
+            let acted = acted-more d sheet (c .before .before .before .before .before .before .before .before .before .loop .occurred) j names (c .before .before .before .before .before .before .who-acts .result .entries) (omega (arith, c .before .before .before .before .before .before .before .before .before .loop .inv .1 .0 .1, c .before .before .before .before .before .before .before .before .loop-test .taken, c .before .before .before .before .before .before .before .before .before .before .before .pre .0 .0)) (row-names (s .agents) (s .n) j rest (c .before .before .before .before .before .before .before .before .loop-test .taken) sheet (going .1 .0)) occurring (going .0) in (
               acted,
               (
-                row-on (s .agents) (s .n) j rest (c .before .before .before .before .before .before .before .before .before .loop-test .taken) sheet (going .1 .0) ∙ ap (rows (s .agents) (s .n - (j + 1))) (sym part),
-                going .1 .1 ∙ (carried-on (s .agents) d sheet (s .n) j (statesOf (s .w) (j + 1) (c .before .before .before .before .before .before .before .before .before .before .loop .levels)) rest (c .before .before .before .before .before .before .before .before .before .loop-test .taken) (c .before .before .before .before .take-step .result) (stateAt (s .w) levels (j + 1)) (c .before .before .before .before .take-step .ensures .1 d l sheet p occurring belonging acted) (c .before .enum-told .given .1)
-                    (states-more (s .w) j (c .before .before .before .before .before .before .before .before .before .before .loop .levels) levels (c .before .before .before .before .take-step .ensures .0 .states) (c .before .before .before .before .before .before .before .before .before .before .before .before .before .before .before .before .before .before .pre .1 .1 .0))
+                row-on (s .agents) (s .n) j rest (c .before .before .before .before .before .before .before .before .loop-test .taken) sheet (going .1 .0) ∙ ap (rows (s .agents) (s .n - (j + 1))) (sym part),
+                going .1 .1 ∙ (carried-on (s .agents) d sheet (s .n) j (statesOf (s .w) (j + 1) (c .before .before .before .before .before .before .before .before .before .loop .levels)) rest (c .before .before .before .before .before .before .before .before .loop-test .taken) (c .before .before .before .take-step .result) (stateAt (s .w) levels (j + 1)) (c .before .before .before .take-step .ensures .1 d l sheet p occurring belonging acted) (c .before .enum-told .given .1)
+                    (states-more (s .w) j (c .before .before .before .before .before .before .before .before .before .loop .levels) levels (c .before .before .before .take-step .ensures .0 .states) (c .before .before .before .before .before .before .before .before .before .before .before .pre .1 .1 .0))
                     ∙ ap (λ (r : List ℕ). carried d sheet (j + 1) (statesOf (s .w) (j + 1 + 1) levels) (rows (s .agents) (s .n - (j + 1)) r)) (sym part)),
               ),
             ),
       ),
     )
 
-add-t38 : tie.Need-add-t38 Inv-loop μ-loop
-add-t38 c = search needs
-
-same-length-3 : tie.Need-same-length-3 Inv-loop μ-loop
-same-length-3 c = search needs
-
-same-length-4 : tie.Need-same-length-4 Inv-loop μ-loop
-same-length-4 c = search needs
+add-t36 : tie.Need-add-t36 Inv-loop μ-loop
+add-t36 c = search needs
 
 returns-2 : tie.Need-returns-2 Inv-loop μ-loop
-returns-2 c = let s = c .before .before .before .before .before .before .before .before .before .args in let z : c .before .loop .j ≡ s .n = omega arith in (
+returns-2 c = let s = c .before .before .before .args in let z : c .before .loop .j ≡ s .n = omega arith in (
   (search needs, (λ e. refl, c .before .loop .inv .1 .0 .0)),
   λ d l p entered agents.
       let going = c .before .loop .inv .1 .1 d l p entered agents in
@@ -160,13 +148,11 @@ run-steps-spec =
     who-acts-requires
     add-occurred
     mul-occurred
-    slice-write-occurred
+    element-write-occurred
     take-step-requires
     enum-known-fault
+    add-t30
     add-t32
-    add-t34
-    same-length
-    same-length-2
     returns
     enum-told
     sub-rest
@@ -175,7 +161,5 @@ run-steps-spec =
     add-j
     loop-less
     loop-again
-    add-t38
-    same-length-3
-    same-length-4
+    add-t36
     returns-2)

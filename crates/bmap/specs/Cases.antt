@@ -15,12 +15,12 @@ use Rattle.bmap.specs.Line.{linesOf, digit, bytes, framed, decode, digit
 use Rattle.bmap.specs.Domain.{Names, occursIn, knownTo, readable}
 use Rattle.bmap.specs.Payload.{maskFits, agentsFit, fluentFits, knowledgeFits, entryFits, executableIn, effectIn, mustIn, lawIn, itemIn}
 use Rattle.bmap.specs.Accept.{Reading, read, refusedAt, inOrder, room, fresh, checked, accept, complete, takenFrom}
-use Rattle.bmap.specs.Sheet.{stepOf, stepsFrom, stepsIn, readSheet, rows, sheetOf as sheetOfBytes}
+use Rattle.bmap.specs.Sheet.{stepOf, stepsFrom, stepsIn, readSheet, rows, sheetOf}
 use Rattle.bmap.specs.Buffer.{Filled, Written}
-use Rattle.bmap.specs.Store.{readDomain, standsAt, frameAt, framesFrom, domainIn, Place, Next, next, writeDomain}
+use Rattle.bmap.specs.Store.{readDomain, standsAt, frameAt, framesFrom, domainIn, Place, Next, nextFrame, writeDomain}
 use Rattle.bmap.specs.Verdict.{Judgement, judgeSheet}
 use Rattle.bmap.specs.Judge.{Judged, accepted, broken, eachFrom, history, holds, carries, placed, permits, permitted, mayOccur, sets, settled, levelAfter, stateAfter, inRange, step, carried, ran, judge}
-use Rattle.bmap.specs.Session.{enter, strike, amend, edited, replayed, sheetOf, edit, undo, redo, verdict, Call, editing, undoing, redoing, Reply, done, turn, after, replies}
+use Rattle.bmap.specs.Session.{enter, strike, amend, edited, replayed, standingSheet, edit, undo, redo, verdict, Call, editing, undoing, redoing, Reply, done, turn, after, replies}
 use Rattle.bmap.specs.Refusal.{got, refused}
 use Rattle.bmap.specs.Program.{digitsOf, spaced, stateLines, split, output}
 use Rattle.bmap.specs.River.{p, judgedUnder, gives}
@@ -213,7 +213,7 @@ edges =
 
 -- the session: the sheet after some calls, with two agents
 abbrev sheetAfter : List Call → List Names → Case
-sheetAfter calls sheet = record { Of = List Names; left = sheetOf (after calls (record { agents = 2; standing = []; undone = [] })); right = sheet }
+sheetAfter calls sheet = record { Of = List Names; left = standingSheet (after calls (record { agents = 2; standing = []; undone = [] })); right = sheet }
 
 abbrev replied : List Call → List Reply → Case
 replied calls r = record { Of = List Reply; left = replies calls (record { agents = 2; standing = []; undone = [] }); right = r }
@@ -248,8 +248,8 @@ calls =
     ∷ record { Of = Filled; left = readSheet 0 [] (replicate 1_024 7); right = record { answer = refusedAt 4 0; buffer = replicate 1_024 0 } }
     ∷ record { Of = Written; left = writeDomain store (replicate 170 7); right = record { answer = got 168; buffer = p ++ (7 ∷ 7 ∷ []) } }
     ∷ record { Of = Written; left = writeDomain (store ++ (1 ∷ [])) []; right = record { answer = refused 15; buffer = [] } }
-    ∷ record { Of = Next; left = next (record { store = store; at = 0 }); right = record { part = 161 ∷ 1 ∷ 2 ∷ []; at = 3 } }
-    ∷ record { Of = Next; left = next (record { store = 161 ∷ 121 ∷ replicate 121 0; at = 0 }); right = record { part = []; at = 0 } }
+    ∷ record { Of = Next; left = nextFrame (record { store = store; at = 0 }); right = record { part = 161 ∷ 1 ∷ 2 ∷ []; at = 3 } }
+    ∷ record { Of = Next; left = nextFrame (record { store = 161 ∷ 121 ∷ replicate 121 0; at = 0 }); right = record { part = []; at = 0 } }
     ∷ record { Of = Judgement; left = judgeSheet store first (replicate 2_080 (pos 7)); right = record { answer = got accepted; levels = pos 300 ∷ pos 286 ∷ replicate 2_078 (pos 7) } }
     ∷ record { Of = Judgement; left = judgeSheet store (replicate 131 0) (replicate 2_080 (pos 7)); right = record { answer = refused 8; levels = replicate 2_080 (pos 7) } }
     ∷ record { Of = Judgement; left = verdict (record { agents = 3; standing = []; undone = [] }) store (replicate 2_080 (pos 7)); right = record { answer = refused 16; levels = replicate 2_080 (pos 7) } }
@@ -260,5 +260,5 @@ AllHold [] = Unit {0}
 AllHold (c ∷ l) = (c .left ≡ c .right) × AllHold l
 
 pub shown : AllHold starred × AllHold others × AllHold edges × AllHold sessions × AllHold calls
-unfolding p judgedUnder text any all flat numbers bounded signedWord namedE namedC allowedE allowedC evalE evalC codeOf parseE parseC linesOf digit bytes framed decode occursIn knownTo readable maskFits agentsFit fluentFits knowledgeFits entryFits executableIn effectIn mustIn lawIn itemIn inOrder room fresh checked accept complete takenFrom stepOf stepsFrom eachFrom history holds carries placed permits permitted mayOccur sets settled levelAfter stateAfter inRange step carried ran judge digitsOf spaced stateLines split output edited replayed sheetOf edit undo redo turn after replies readDomain standsAt frameAt framesFrom domainIn next writeDomain stepsIn readSheet rows judgeSheet sheetOfBytes verdict digitFor hex lineFor
+unfolding p judgedUnder text any all flat numbers bounded signedWord namedE namedC allowedE allowedC evalE evalC codeOf parseE parseC linesOf digit bytes framed decode occursIn knownTo readable maskFits agentsFit fluentFits knowledgeFits entryFits executableIn effectIn mustIn lawIn itemIn inOrder room fresh checked accept complete takenFrom stepOf stepsFrom eachFrom history holds carries placed permits permitted mayOccur sets settled levelAfter stateAfter inRange step carried ran judge digitsOf spaced stateLines split output edited replayed standingSheet edit undo redo turn after replies readDomain standsAt frameAt framesFrom domainIn nextFrame writeDomain stepsIn readSheet rows judgeSheet sheetOf verdict digitFor hex lineFor
 shown = ((refl, (refl, (refl, (refl, (refl, (refl, (refl, (refl, (refl, (refl, (refl, (refl, (refl, (refl, (refl, (refl, tt)))))))))))))))), (refl, (refl, (refl, (refl, (refl, (refl, tt)))))), (refl, (refl, (refl, (refl, (refl, (refl, (refl, (refl, (refl, (refl, (refl, (refl, (refl, (refl, (refl, (refl, (refl, (refl, (refl, (refl, (refl, (refl, (refl, (refl, (refl, (refl, (refl, (refl, (refl, (refl, (refl, (refl, (refl, (refl, (refl, (refl, (refl, (refl, (refl, (refl, (refl, (refl, (refl, (refl, (refl, (refl, (refl, (refl, (refl, (refl, (refl, (refl, (refl, (refl, (refl, (refl, (refl, (refl, (refl, tt))))))))))))))))))))))))))))))))))))))))))))))))))))))))))), (refl, (refl, (refl, (refl, (refl, (refl, (refl, (refl, (refl, tt))))))))), (refl, (refl, (refl, (refl, (refl, (refl, (refl, (refl, (refl, (refl, tt)))))))))))

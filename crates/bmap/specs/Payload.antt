@@ -71,9 +71,9 @@ entryFits n p = both (eqb (length p) 3) (both (ltb 0 (byte p 0)) (maskFits n (wo
 
 -- a tree that is allowed here, taken by a continuation with the bytes after it
 module _ {T L : Type 0} where
-  abbrev pub taken : (T → Bool) → List ℕ → Option (Parsed T) → (T → List ℕ → Option L) → Option L
-  taken allowed p none k = none
-  taken allowed p (some t) k = only (allowed (t .tree)) (k (t .tree) (drop (t .used) p))
+  abbrev pub treeIn : (T → Bool) → List ℕ → Option (Parsed T) → (T → List ℕ → Option L) → Option L
+  treeIn allowed p none k = none
+  treeIn allowed p (some t) k = only (allowed (t .tree)) (k (t .tree) (drop (t .used) p))
 
 -- nothing may come after
 abbrev pub last : {L : Type 0} → L → List ℕ → Option L
@@ -84,10 +84,10 @@ abbrev pub context : Counts → Bool → Context
 context n occurrences = record { fluents = n .fluents; entries = n .entries; occurrences = occurrences }
 
 abbrev pub conIn : {L : Type 0} → Context → List ℕ → (Con → List ℕ → Option L) → Option L
-conIn x p k = taken (allowedC x) p (parseC mostDepth p) k
+conIn x p k = treeIn (allowedC x) p (parseC mostDepth p) k
 
 abbrev pub exprIn : {L : Type 0} → Context → List ℕ → (Expr → List ℕ → Option L) → Option L
-exprIn x p k = taken (allowedE x) p (parseE mostDepth p) k
+exprIn x p k = treeIn (allowedE x) p (parseE mostDepth p) k
 
 -- a number below a limit, and what comes after it
 abbrev pub below : {L : Type 0} → ℕ → List ℕ → (ℕ → List ℕ → Option L) → Option L

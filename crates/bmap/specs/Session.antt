@@ -54,8 +54,8 @@ orElse a (refused n) = a
 orElse a (got b) = b
 
 -- what an empty sheet becomes when the standing edits are done in order
-unfoldable pub sheetOf : Model → List Names
-sheetOf m = orElse [] (replayed (m .agents) (m .standing) [])
+unfoldable pub standingSheet : Model → List Names
+standingSheet m = orElse [] (replayed (m .agents) (m .standing) [])
 
 -- "Opening takes the number from a domain and empties sheet and log"
 abbrev pub opened : Domain → Model
@@ -66,7 +66,7 @@ opened d = record { agents = d .agents; standing = []; undone = [] }
 unfoldable pub edit : Edit → Model → Answer Model
 edit e m =
     need (ltb (length (m .standing)) mostEdits) 14
-    (then (edited (m .agents) e (sheetOf m)) (λ _.
+    (then (edited (m .agents) e (standingSheet m)) (λ _.
     got (record { agents = m .agents; standing = m .standing ++ (e ∷ []); undone = [] })))
 
 -- the same edits, of which the first k stand
@@ -87,7 +87,7 @@ verdict m store levels =
     judgement levels
     (need (leb levelsSize (length levels)) 10
     (then (domainIn store) (λ d.
-    need (eqb (d .agents) (m .agents)) 16 (got (judge d (sheetOf m))))))
+    need (eqb (d .agents) (m .agents)) 16 (got (judge d (standingSheet m))))))
 
 -- ---- series of calls
 
@@ -142,7 +142,7 @@ loggedAll (e ∷ edits) = logged e ++ loggedAll edits
 unfoldable pub layout : Model → Session
 layout m = record {
   agents = m .agents;
-  sheet = record { steps = length (sheetOf m); names = padded sheetSize (flat (sheetOf m)) };
+  sheet = record { steps = length (standingSheet m); names = padded sheetSize (flat (standingSheet m)) };
   standing = length (m .standing);
   total = length (m .standing) + length (m .undone);
   log = padded (mostEdits * editSize) (loggedAll (m .standing ++ m .undone));

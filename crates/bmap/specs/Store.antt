@@ -93,8 +93,8 @@ pub record Next : Type 0 where
   pub part : List ℕ
   pub at : ℕ
 
-unfoldable pub next : Place → Next
-next p =
+unfoldable pub nextFrame : Place → Next
+nextFrame p =
     maybe (frameAt (p .store) (p .at)) (record { part = []; at = p .at }) (λ f.
     record { part = take (length (stored f)) (drop (p .at) (p .store)); at = p .at + length (stored f) })
 

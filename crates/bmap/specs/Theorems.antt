@@ -17,7 +17,7 @@ use Rattle.bmap.specs.Store.{reading, readDomain, writeDomain, domainIn}
 use Rattle.bmap.specs.Sheet.{stepsIn, readSheet, writeSheet}
 use Rattle.bmap.specs.Judge.{judge}
 use Rattle.bmap.specs.Verdict.{judgement}
-use Rattle.bmap.specs.Session.{isOpen, CouldBeLeft, Call, opened, after, replies, sheetOf, replayed, layout, openSession, verdictOf}
+use Rattle.bmap.specs.Session.{isOpen, CouldBeLeft, Call, opened, after, replies, standingSheet, replayed, layout, openSession, verdictOf}
 use Rattle.bmap.specs.Series.{sessionAfter, repliesOf}
 use Rattle.bmap.specs.declared.session.Session.{Session}
 
@@ -64,10 +64,10 @@ pub record SheetStands (store : List ℕ) (d : Domain) (calls : List Call) : Typ
   pub opens : openSession store .answer ≡ got tt
   pub leaves : sessionAfter calls (openSession store .session) ≡ layout (after calls (opened d))
   pub answers : repliesOf calls (openSession store .session) ≡ replies calls (opened d)
-  pub sheet : replayed (d .agents) (after calls (opened d) .standing) [] ≡ got (sheetOf (after calls (opened d)))
+  pub sheet : replayed (d .agents) (after calls (opened d) .standing) [] ≡ got (standingSheet (after calls (opened d)))
   -- every verdict of it
   pub verdicts : (other : List ℕ) (e : Domain) (levels : List ℤ) → domainIn other ≡ got e → e .agents ≡ d .agents → levelsSize ≤ length levels
-      → verdictOf (sessionAfter calls (openSession store .session)) other levels ≡ judgement levels (got (judge e (sheetOf (after calls (opened d)))))
+      → verdictOf (sessionAfter calls (openSession store .session)) other levels ≡ judgement levels (got (judge e (standingSheet (after calls (opened d)))))
 
 abbrev pub SheetsStand : Type 0
 SheetsStand = (store : List ℕ) (d : Domain) (calls : List Call) → domainIn store ≡ got d → SheetStands store d calls

@@ -11,7 +11,7 @@ use Rattle.bmap.specs.Plain.{maybe}
 use Rattle.bmap.specs.Line.{Frame, stored}
 use Rattle.bmap.specs.Domain.{Domain}
 use Rattle.bmap.specs.Session.{isGot}
-use Rattle.bmap.specs.Store.{frameAt, domainIn, start, Next, next}
+use Rattle.bmap.specs.Store.{frameAt, domainIn, start, Next, nextFrame}
 use Rattle.domain.specs.Frames.{refusalIn, standingOn, partAt, placeAfter}
 use Rattle.domain.proofs.Held.{Framed}
 use Rattle.domain.proofs.Accepted.{refused-15}
@@ -58,8 +58,8 @@ module _ (s : List ℕ) where
 
   module _ (at : ℕ) where
     next-is : {o : Option Frame} → frameAt s at ≡ o
-        → next (record { store = s; at = at }) ≡ maybe o (record { part = []; at = at }) (λ f. record { part = take (length (stored f)) (drop at s); at = at + length (stored f) })
-    unfolding next
+        → nextFrame (record { store = s; at = at }) ≡ maybe o (record { part = []; at = at }) (λ f. record { part = take (length (stored f)) (drop at s); at = at + length (stored f) })
+    unfolding nextFrame
     next-is e = ap (λ o. maybe o (record { part = []; at = at }) (λ f. record { part = take (length (stored f)) (drop at s); at = at + length (stored f) })) e
 
     pub no-part : frameAt s at ≡ none → [] ≡ partAt s at

@@ -14,7 +14,7 @@ use Rattle.bmap.specs.Plain.{if-else}
 use Rattle.bmap.specs.Tree.{Con, allowedE, allowedC}
 use Rattle.bmap.specs.Code.{Parsed, parseE, parseC}
 use Rattle.bmap.specs.Domain.{Law, executable, effect, must, Scope, static, concurrency, goal}
-use Rattle.bmap.specs.Payload.{byte, only, taken, last, below, conIn, exprIn, context, asks, executableIn, effectIn, mustIn, lawIn}
+use Rattle.bmap.specs.Payload.{byte, only, treeIn, last, below, conIn, exprIn, context, asks, executableIn, effectIn, mustIn, lawIn}
 use Rattle.bmap.specs.declared.limits.Counts.{Counts}
 use Rattle.law.specs.Check.{checked}
 use Rattle.law.specs.declared.checks.Checked.{Checked}
@@ -33,7 +33,7 @@ last-is l [] = refl
 last-is l (x ∷ r) = sym (lt-leb (suc (length r)) 0 (omega arith))
 
 module _ {T : Type 0} (allowed : T → Bool) (p : List ℕ) where
-  pub taken-last : {L : Type 0} (o : Option (Parsed T)) (make : T → L) → isSome (taken allowed p o last) ≡ isSome (taken allowed p o (λ t. last (make t)))
+  pub taken-last : {L : Type 0} (o : Option (Parsed T)) (make : T → L) → isSome (treeIn allowed p o last) ≡ isSome (treeIn allowed p o (λ t. last (make t)))
   taken-last none make = refl
   taken-last (some t) make = go (allowed (t .tree))
     where
@@ -43,7 +43,7 @@ module _ {T : Type 0} (allowed : T → Bool) (p : List ℕ) where
 
 -- by the checker's answer
 module _ {T : Type 0} (allowed : T → Bool) (p : List ℕ) (at : ℕ) (o : Option (Parsed T)) (r : Checked) (e : r ≡ checked allowed at o) where
-  pub end-next : (n : ℕ) → r ≡ Next n → leb (length p) n ≡ isSome (taken allowed (drop at p) o last)
+  pub end-next : (n : ℕ) → r ≡ Next n → leb (length p) n ≡ isSome (treeIn allowed (drop at p) o last)
   end-next n k = go o refl
     where
       by : (t : Parsed T) (b : Bool) → allowed (t .tree) ≡ b → if-else b (Next (at + t .used)) Refused ≡ Next n → leb (length p) n ≡ isSome (only b (last (t .tree) (drop (t .used) (drop at p))))
@@ -59,30 +59,30 @@ module _ {T : Type 0} (allowed : T → Bool) (p : List ℕ) (at : ℕ) (o : Opti
               go true h = le-leb (length (drop n p)) 0 (omega (arith, length-drop n p, leb-true (length p) n h))
               go false h = lt-leb (length (drop n p)) 0 (omega (arith, length-drop n p, leb-false (length p) n h))
 
-      go : (q : Option (Parsed T)) → o ≡ q → leb (length p) n ≡ isSome (taken allowed (drop at p) q last)
+      go : (q : Option (Parsed T)) → o ≡ q → leb (length p) n ≡ isSome (treeIn allowed (drop at p) q last)
       go none q = absurd (let z : _≡_ {A = ℕ} 0 1 = cc in omega arith)
       go (some t) q = by t (allowed (t .tree)) refl (sym (ap (checked allowed at) q) ∙ sym e ∙ k)
 
   -- the tree, and what comes after
-  pub next-is : {L : Type 0} (n : ℕ) (k : T → List ℕ → Option L) → r ≡ Next n → (t : T) × (taken allowed (drop at p) o k ≡ k t (drop n p))
+  pub next-is : {L : Type 0} (n : ℕ) (k : T → List ℕ → Option L) → r ≡ Next n → (t : T) × (treeIn allowed (drop at p) o k ≡ k t (drop n p))
   next-is n k h = go o refl
     where
       by : (t : Parsed T) (b : Bool) → allowed (t .tree) ≡ b → if-else b (Next (at + t .used)) Refused ≡ Next n → (x : T) × (only b (k (t .tree) (drop (t .used) (drop at p))) ≡ k x (drop n p))
       by t false a q = absurd (let z : _≡_ {A = ℕ} 0 1 = cc in omega arith)
       by t true a q = let m : at + t .used ≡ n = cc in (t .tree, ap (k (t .tree)) (drop-drop (t .used) at p ∙ ap (λ i. drop i p) m))
 
-      go : (q : Option (Parsed T)) → o ≡ q → (x : T) × (taken allowed (drop at p) q k ≡ k x (drop n p))
+      go : (q : Option (Parsed T)) → o ≡ q → (x : T) × (treeIn allowed (drop at p) q k ≡ k x (drop n p))
       go none q = absurd (let z : _≡_ {A = ℕ} 0 1 = cc in omega arith)
       go (some t) q = by t (allowed (t .tree)) refl (sym (ap (checked allowed at) q) ∙ sym e ∙ h)
 
-  pub refused-is : {L : Type 0} (k : T → List ℕ → Option L) → r ≡ Refused → none ≡ taken allowed (drop at p) o k
+  pub refused-is : {L : Type 0} (k : T → List ℕ → Option L) → r ≡ Refused → none ≡ treeIn allowed (drop at p) o k
   refused-is k h = go o refl
     where
       by : (t : Parsed T) (b : Bool) → allowed (t .tree) ≡ b → if-else b (Next (at + t .used)) Refused ≡ Refused → none ≡ only b (k (t .tree) (drop (t .used) (drop at p)))
       by t false a q = refl
       by t true a q = absurd (let z : _≡_ {A = ℕ} 0 1 = cc in omega arith)
 
-      go : (q : Option (Parsed T)) → o ≡ q → none ≡ taken allowed (drop at p) q k
+      go : (q : Option (Parsed T)) → o ≡ q → none ≡ treeIn allowed (drop at p) q k
       go none q = refl
       go (some t) q = by t (allowed (t .tree)) refl (sym (ap (checked allowed at) q) ∙ sym e ∙ h)
 

@@ -13,7 +13,7 @@ use Rattle.bmap.specs.Refusal.{Answer, got, need, known, then}
 use Rattle.bmap.specs.Line.{Frame}
 use Rattle.bmap.specs.Code.{Parsed, parseE, parseC}
 use Rattle.bmap.specs.Domain.{Entry, Law, executable, effect, must, Scope, static, concurrency, goal}
-use Rattle.bmap.specs.Payload.{Item, agents, fluent, knowledge, entry, law, byte, only, agentsFit, fluentFits, knowledgeFits, entryFits, fluentIn, knowledgeIn, entryIn, taken, last, below, conIn, exprIn, context, executableIn, effectIn, mustIn, lawIn, lawItem, itemIn}
+use Rattle.bmap.specs.Payload.{Item, agents, fluent, knowledge, entry, law, byte, only, agentsFit, fluentFits, knowledgeFits, entryFits, fluentIn, knowledgeIn, entryIn, treeIn, last, below, conIn, exprIn, context, executableIn, effectIn, mustIn, lawIn, lawItem, itemIn}
 use Rattle.bmap.specs.Accept.{inOrder, room, fresh, executes}
 use Rattle.bmap.specs.declared.limits.Counts.{Counts}
 use Rattle.domain.specs.Check.{checkedOn, refusedIn}
@@ -116,7 +116,7 @@ last-is : {L : Type 0} (l m : L) (r : List ℕ) → last l r ≡ some m → m �
 last-is l m [] e = cc
 last-is l m (x ∷ r) e = absurd (let z : _≡_ {A = ℕ} 0 1 = cc in omega arith)
 
-taken-is : {T L : Type 0} (allowed : T → Bool) (p : List ℕ) (o : Option (Parsed T)) (k : T → List ℕ → Option L) (l : L) → taken allowed p o k ≡ some l
+taken-is : {T L : Type 0} (allowed : T → Bool) (p : List ℕ) (o : Option (Parsed T)) (k : T → List ℕ → Option L) (l : L) → treeIn allowed p o k ≡ some l
     → (t : T) × ((r : List ℕ) × (k t r ≡ some l))
 taken-is allowed p none k l e = absurd (let z : _≡_ {A = ℕ} 0 1 = cc in omega arith)
 taken-is allowed p (some t) k l e = (t .tree, (drop (t .used) p, only-then (allowed (t .tree)) (k (t .tree) (drop (t .used) p)) l e .1))

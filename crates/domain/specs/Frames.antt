@@ -5,7 +5,7 @@ use lib.Dec.{eqb}
 use denote.Ref.{now}
 use Rattle.bmap.specs.Plain.{if-else}
 use Rattle.bmap.specs.Refusal.{Answer, got, refused}
-use Rattle.bmap.specs.Store.{Place, start, next}
+use Rattle.bmap.specs.Store.{Place, start, nextFrame}
 use Rattle.domain.specs.declared.frames.FrameReader.{FrameReader}
 
 -- the refusal's number, 0 where there is none
@@ -26,11 +26,11 @@ abbrev pub placeOf : FrameReader → Place
 placeOf r = record { store = now (r .store); at = r .at }
 
 abbrev pub partAt : List ℕ → ℕ → List ℕ
-partAt s at = next (record { store = s; at = at }) .part
+partAt s at = nextFrame (record { store = s; at = at }) .part
 
 abbrev pub placeAfter : List ℕ → ℕ → ℕ
-placeAfter s at = next (record { store = s; at = at }) .at
+placeAfter s at = nextFrame (record { store = s; at = at }) .at
 
 -- the reader after its next frame
 abbrev pub advanced : FrameReader → FrameReader
-advanced r = record { store = r .store; at = next (placeOf r) .at; refusal = r .refusal }
+advanced r = record { store = r .store; at = nextFrame (placeOf r) .at; refusal = r .refusal }

@@ -3,7 +3,7 @@ use crate::found::is_accepted;
 use line::FrameAt;
 use line::frame_at;
 ghost use mathlib.Core.Path.{_≡_};
-ghost use Rattle.bmap.specs.Store.{start, next};
+ghost use Rattle.bmap.specs.Store.{start, nextFrame};
 ghost use Rattle.domain.specs.Frames.{refusalIn, standingOn, placeOf, partAt, placeAfter, advanced};
 
 // "stands over the store and hands out frame after frame". The refusal is 0 where it stands over an accepted domain, else 15.
@@ -28,7 +28,7 @@ pub fn start<'a>(store: &'a [u8]) -> FrameReader<'a>
 
 // The stored bytes of the next frame themselves; at the end an empty part, and the reader stays, every time.
 pub fn next<'a>(r: &mut FrameReader<'a>) -> &'a [u8]
-    ensures { λ p. ⌜ (now p ≡ next (placeOf (now (r .entry))) .part) × (now (r .exit) ≡ advanced (now (r .entry))) ⌝ }
+    ensures { λ p. ⌜ (now p ≡ nextFrame (placeOf (now (r .entry))) .part) × (now (r .exit) ≡ advanced (now (r .entry))) ⌝ }
 {
     let store = r.store;
     let at = r.at;

@@ -15,7 +15,7 @@ use Rattle.bmap.specs.Limits.{mostDepth}
 use Rattle.bmap.specs.Tree.{Expr, Con, allowedE, allowedC}
 use Rattle.bmap.specs.Code.{Parsed, parseE, parseC}
 use Rattle.bmap.specs.Domain.{Law, executable, effect, must, Scope, static, concurrency, goal}
-use Rattle.bmap.specs.Payload.{only, taken, last, context, conIn, exprIn, below, executableIn, effectIn, asks, mustIn, lawIn}
+use Rattle.bmap.specs.Payload.{only, treeIn, last, context, conIn, exprIn, below, executableIn, effectIn, asks, mustIn, lawIn}
 use Rattle.bmap.specs.declared.limits.Counts.{Counts}
 use Rattle.law.proofs.Used.{used-c}
 use Rattle.judge.specs.Told.{scopeKind}
@@ -59,7 +59,7 @@ pub record Taken {T L : Type 0} (allowed : T → Bool) (p : List ℕ) (r : Optio
   pub fit : allowed tree ≡ true
   pub rest : k tree (drop used p) ≡ some l
 
-taken-some : {T L : Type 0} (allowed : T → Bool) (p : List ℕ) (r : Option (Parsed T)) (k : T → List ℕ → Option L) {l : L} → taken allowed p r k ≡ some l → Taken allowed p r k l
+taken-some : {T L : Type 0} (allowed : T → Bool) (p : List ℕ) (r : Option (Parsed T)) (k : T → List ℕ → Option L) {l : L} → treeIn allowed p r k ≡ some l → Taken allowed p r k l
 taken-some allowed p none k e = let z : _≡_ {A = ℕ} 0 1 = cc in absurd (omega arith)
 taken-some allowed p (some t) k e =
     let both′ = only-some (allowed (t .tree)) (k (t .tree) (drop (t .used) p)) e in

@@ -13,7 +13,7 @@ use Rattle.bmap.specs.Refusal.{Answer, got, refused, need, numberOf}
 use Rattle.bmap.specs.declared.refusal.Refusal.{Refusal}
 use Rattle.bmap.specs.Domain.{Names}
 use Rattle.bmap.specs.Buffer.{padded}
-use Rattle.bmap.specs.Session.{Edit, enter, strike, amend, Model, orElse, sheetOf, edited, edit, moved, undo, redo, replayed, logged, loggedAll, editsFrom, modelOf, layout, changed, isOpen, editSession, undoSession, redoSession}
+use Rattle.bmap.specs.Session.{Edit, enter, strike, amend, Model, orElse, standingSheet, edited, edit, moved, undo, redo, replayed, logged, loggedAll, editsFrom, modelOf, layout, changed, isOpen, editSession, undoSession, redoSession}
 use Rattle.bmap.specs.declared.session.Session.{Session}
 use Rattle.session.specs.Log.{laid, Sound, Reached}
 use Rattle.session.specs.Calls.{answerOf, mayEdit, done, standingAt, withEdit}
@@ -56,7 +56,7 @@ module _ (s : Session) (h : isOpen s ≡ true) where
   pub sound-upto : (k : ℕ) → k ≤ s .total → Sound (s .agents) k (s .log)
   sound-upto k l = sound-prefix (s .agents) (s .log) (open-is .few) k (s .total) l (kept-is .sound)
 
-  pub sheet-is : sheetOf (modelOf s) ≡ standing-sheet
+  pub sheet-is : standingSheet (modelOf s) ≡ standing-sheet
   unfolding standing-sheet
   sheet-is = sheet-standing s (kept-is .stands .sound)
 
@@ -73,8 +73,8 @@ module _ (s : Session) (h : isOpen s ≡ true) where
     count-is : length (take k E) ≡ k
     count-is = ap length take-is ∙ length-edits (s .agents) k (s .log)
 
-    moved-sheet : sheetOf (moved (modelOf s) k) ≡ a .sound .sheet
-    unfolding sheetOf
+    moved-sheet : standingSheet (moved (modelOf s) k) ≡ a .sound .sheet
+    unfolding standingSheet
     moved-sheet = ap (λ (n : ℕ). orElse [] (replayed n (take k E) [])) (agents-kept s) ∙ ap (λ (es : List Edit). orElse [] (replayed (s .agents) es [])) take-is ∙ ap (orElse []) (a .sound .leaves)
 
     moved-log : padded 3600 (loggedAll (take k E ++ drop k E)) ≡ s .log
@@ -123,8 +123,8 @@ module _ (s : Session) (h : isOpen s ≡ true) where
   edited-14 e z = sym (rw (h, count-standing s, le-ltb (s .standing) 200 z))
 
   module _ (e : Edit) (few : s .standing < 200) where
-    tried : (a : Answer (List Names)) → edited (s .agents) e standing-sheet ≡ a → edited (modelOf s .agents) e (sheetOf (modelOf s)) ≡ a
-    tried a f = ap (λ (n : ℕ). edited n e (sheetOf (modelOf s))) (agents-kept s) ∙ ap (edited (s .agents) e) sheet-is ∙ f
+    tried : (a : Answer (List Names)) → edited (s .agents) e standing-sheet ≡ a → edited (modelOf s .agents) e (standingSheet (modelOf s)) ≡ a
+    tried a f = ap (λ (n : ℕ). edited n e (standingSheet (modelOf s))) (agents-kept s) ∙ ap (edited (s .agents) e) sheet-is ∙ f
 
     pub edited-refused : (k : ℕ) → edited (s .agents) e standing-sheet ≡ refused k → changed s (refused k) ≡ editSession e s
     unfolding editSession edit
@@ -147,8 +147,8 @@ module _ (s : Session) (h : isOpen s ≡ true) where
       unfolding modelOf
       standing-are = refl
 
-      after-sheet : sheetOf after ≡ t
-      unfolding sheetOf standing-sheet
+      after-sheet : standingSheet after ≡ t
+      unfolding standingSheet standing-sheet
       after-sheet =
           ap (λ (n : ℕ). orElse [] (replayed n (modelOf s .standing ++ (e ∷ [])) [])) (agents-kept s)
           ∙ ap (λ (es : List Edit). orElse [] (replayed (s .agents) (es ++ (e ∷ [])) [])) standing-are

@@ -12,7 +12,7 @@ use borrow.Author.Tests.{ltb-true, lt-ltb}
 use Rattle.bmap.specs.Refusal.{Answer, got, refused, then}
 use Rattle.bmap.specs.Domain.{Names}
 use Rattle.bmap.specs.Buffer.{padded}
-use Rattle.bmap.specs.Session.{Edit, enter, strike, amend, Model, orElse, sheetOf, edited, edit, moved, undo, redo, replayed, Call, editing, undoing, redoing, judging, turned, turn, after, logged, loggedAll, editsFrom, modelOf, layout, isGot, replays, isOpen}
+use Rattle.bmap.specs.Session.{Edit, enter, strike, amend, Model, orElse, standingSheet, edited, edit, moved, undo, redo, replayed, Call, editing, undoing, redoing, judging, turned, turn, after, logged, loggedAll, editsFrom, modelOf, layout, isGot, replays, isOpen}
 use Rattle.bmap.specs.declared.session.Session.{Session}
 use Rattle.session.proofs.SheetLaws.{need-got, got-inj, enter-asks, amend-asks, one-more, prefix-got}
 use Rattle.session.proofs.LogLaws.{editAt, Short, AllShort, length-logged, length-all, logged-append}
@@ -27,8 +27,8 @@ pub record Reachable (m : Model) : Type 0 where
   pub leaves : replayed (m .agents) (every m) [] ≡ got sheet
 
 -- ---- the sheet of a reachable model is the replay of its standing edits
-pub stands : (m : Model) → Reachable m → replayed (m .agents) (m .standing) [] ≡ got (sheetOf m)
-unfolding sheetOf
+pub stands : (m : Model) → Reachable m → replayed (m .agents) (m .standing) [] ≡ got (standingSheet m)
+unfolding standingSheet
 stands m r =
     let p = prefix-got (m .agents) (m .standing) (m .undone) [] (r .sheet) (r .leaves) in
     p .1 ∙ ap got (sym (ap (orElse []) (p .1)))
@@ -37,7 +37,7 @@ stands m r =
 abbrev pub added : Edit → Model → Model
 added e m = record { agents = m .agents; standing = m .standing ++ (e ∷ []); undone = [] }
 
-pub edit-got : (e : Edit) (m : Model) (t : List Names) → length (m .standing) < 200 → edited (m .agents) e (sheetOf m) ≡ got t → edit e m ≡ got (added e m)
+pub edit-got : (e : Edit) (m : Model) (t : List Names) → length (m .standing) < 200 → edited (m .agents) e (standingSheet m) ≡ got t → edit e m ≡ got (added e m)
 unfolding edit
 edit-got e m t h f = rw (lt-ltb (length (m .standing)) 200 h, f)
 
@@ -46,15 +46,15 @@ unfolding edit
 edit-keeps e m m′ r h =
     let p = need-got (ltb (length (m .standing)) 200) 14 _ m′ h in
     let l : length (m .standing) < 200 = ltb-true (length (m .standing)) 200 (p .0) in
-    by-sheet l (edited (m .agents) e (sheetOf m)) refl (p .1)
+    by-sheet l (edited (m .agents) e (standingSheet m)) refl (p .1)
   where
-    by-sheet : length (m .standing) < 200 → (a : Answer (List Names)) → edited (m .agents) e (sheetOf m) ≡ a → then a (λ _. got (added e m)) ≡ got m′ → Reachable m′
+    by-sheet : length (m .standing) < 200 → (a : Answer (List Names)) → edited (m .agents) e (standingSheet m) ≡ a → then a (λ _. got (added e m)) ≡ got m′ → Reachable m′
     by-sheet l (got t) q g = subst Reachable (got-inj (added e m) m′ g) (record {
       some = r .some;
       few = r .few;
       short = omega (arith, length-append (m .standing) (e ∷ []));
       sheet = t;
-      leaves = ap (λ (es : List Edit). replayed (m .agents) es []) (append-nil (m .standing ++ (e ∷ []))) ∙ one-more (m .agents) (m .standing) e [] (sheetOf m) (stands m r) ∙ q;
+      leaves = ap (λ (es : List Edit). replayed (m .agents) es []) (append-nil (m .standing ++ (e ∷ []))) ∙ one-more (m .agents) (m .standing) e [] (standingSheet m) (stands m r) ∙ q;
     })
     by-sheet l (refused n) q g = absurd (let z : _≡_ {A = ℕ} 0 1 = cc in omega arith)
 

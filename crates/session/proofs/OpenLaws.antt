@@ -13,7 +13,7 @@ use Rattle.bmap.specs.Plain.{both}
 use Rattle.bmap.specs.Refusal.{Answer, got, refused}
 use Rattle.bmap.specs.Buffer.{padded}
 use Rattle.bmap.specs.Store.{zeros}
-use Rattle.bmap.specs.Session.{Edit, Model, orElse, sheetOf, replayed, loggedAll, editsFrom, modelOf, layout, sameBytes, sameSession, isGot, replays, isOpen}
+use Rattle.bmap.specs.Session.{Edit, Model, orElse, standingSheet, replayed, loggedAll, editsFrom, modelOf, layout, sameBytes, sameSession, isGot, replays, isOpen}
 use Rattle.bmap.specs.declared.session.Session.{Session}
 use Rattle.session.specs.Log.{Sound, Holds, Reached}
 use Rattle.session.proofs.ListLaws.{both-true, is-false, same-refl, same-eq, zeros-are, zeros-replicate}
@@ -68,8 +68,8 @@ pub agents-kept : (s : Session) → modelOf s .agents ≡ s .agents
 unfolding modelOf
 agents-kept s = refl
 
-pub sheet-standing : (s : Session) (a : Sound (s .agents) (s .standing) (s .log)) → sheetOf (modelOf s) ≡ a .sheet
-unfolding sheetOf modelOf
+pub sheet-standing : (s : Session) (a : Sound (s .agents) (s .standing) (s .log)) → standingSheet (modelOf s) ≡ a .sheet
+unfolding standingSheet modelOf
 sheet-standing s a = ap (orElse []) (a .leaves)
 
 -- ---- the bytes, one by one
@@ -102,7 +102,7 @@ module _ (s : Session) (few : s .agents ≤ 16) (below : s .standing ≤ s .tota
   pub kept-layout : length (s .log) ≡ 3600 → Kept s → s ≡ layout (modelOf s)
   unfolding layout
   kept-layout len k =
-      let sh : sheetOf (modelOf s) ≡ k .stands .sound .sheet = sheet-standing s (k .stands .sound) in
+      let sh : standingSheet (modelOf s) ≡ k .stands .sound .sheet = sheet-standing s (k .stands .sound) in
       let t : length (modelOf s .standing) + length (modelOf s .undone) ≡ s .total = omega (arith, count-standing s, count-undone s) in
       let lg : s .log ≡ padded 3600 (loggedAll (every (modelOf s))) = log-is len k ∙ ap (λ (x : List Edit). padded 3600 (loggedAll x)) (sym (every-edit s below)) in
       λ i. record {
@@ -146,7 +146,7 @@ module _ (s : Session) (few : s .agents ≤ 16) (below : s .standing ≤ s .tota
     held : (a : Sound n (s .standing) (s .log)) → Holds (a .sheet) (s .sheet .steps) (s .sheet .names)
     unfolding layout
     held a =
-        let sh : sheetOf (modelOf s) ≡ a .sheet = sheet-standing s a in
+        let sh : standingSheet (modelOf s) ≡ a .sheet = sheet-standing s a in
         record {
           count = ap (λ (x : Session). x .sheet .steps) layout-is ∙ ap length sh;
           bytes = ap (λ (x : Session). x .sheet .names) layout-is ∙ ap page sh;

@@ -8,7 +8,7 @@ use Rattle.bmap.specs.Plain.{flat}
 use Rattle.bmap.specs.Refusal.{got, refused}
 use Rattle.bmap.specs.Domain.{Domain}
 use Rattle.bmap.specs.Store.{domainIn}
-use Rattle.bmap.specs.Session.{opened, replayed, sheetOf, loggedAll, layout, closed, openedOn, openSession}
+use Rattle.bmap.specs.Session.{opened, replayed, standingSheet, loggedAll, layout, closed, openedOn, openSession}
 use Rattle.domain.specs.declared.found.Found.{Found}
 use Rattle.domain.specs.Found.{foundIn}
 use Rattle.domain.proofs.Accepted.{found-ok, found-none}
@@ -17,7 +17,7 @@ use Rattle.session.specs.Calls.{done, emptied}
 
 -- a session of no edit is the layout of a model of no edit
 pub emptied-layout : (d : Domain) → emptied (d .agents) ≡ layout (opened d)
-unfolding layout sheetOf replayed loggedAll flat
+unfolding layout standingSheet replayed loggedAll flat
 emptied-layout d = refl
 
 pub emptied-closed : emptied 0 ≡ closed

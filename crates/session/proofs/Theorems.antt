@@ -18,7 +18,7 @@ use Rattle.bmap.specs.Domain.{Domain, Names}
 use Rattle.bmap.specs.Store.{domainIn}
 use Rattle.bmap.specs.Judge.{judge}
 use Rattle.bmap.specs.Verdict.{judgement}
-use Rattle.bmap.specs.Session.{Edit, Model, sheetOf, edited, edit, undo, redo, replayed, opened, verdict, Call, editing, undoing, redoing, judging, Reply, judged, turned, turn, after, replies, modelOf, layout, isOpen, CouldBeLeft, Changed, changed, onModel, editSession, undoSession, redoSession, openedOn, openSession, verdictOf}
+use Rattle.bmap.specs.Session.{Edit, Model, standingSheet, edited, edit, undo, redo, replayed, opened, verdict, Call, editing, undoing, redoing, judging, Reply, judged, turned, turn, after, replies, modelOf, layout, isOpen, CouldBeLeft, Changed, changed, onModel, editSession, undoSession, redoSession, openedOn, openSession, verdictOf}
 use Rattle.bmap.specs.Theorems.{OpenExactly, SheetsStand}
 use Rattle.bmap.proofs.RefusalLaws.{same-refusal}
 use Rattle.bmap.specs.declared.session.Session.{Session}
@@ -65,7 +65,7 @@ module _ (n : ℕ) (some : 1 ≤ n) (few : n ≤ 16) where
       let p = prefix-got n xs (e ∷ ys) [] t h in
       let q = prefix-got n (xs ++ (e ∷ [])) ys [] t (ap (λ (x : List Edit). replayed n x []) (append-snoc xs e ys) ∙ h) in
       let r = built-reachable xs (p .0) (omega (arith, length-append xs (e ∷ ys))) (p .1) in
-      let f : edited n e (sheetOf (built n xs)) ≡ got (q .0) = sym (one-more n xs e [] (sheetOf (built n xs)) (stands (built n xs) r)) ∙ q .1 in
+      let f : edited n e (standingSheet (built n xs)) ≡ got (q .0) = sym (one-more n xs e [] (standingSheet (built n xs)) (stands (built n xs) r)) ∙ q .1 in
       rw (edit-got e (built n xs) (q .0) (omega (arith, length-append xs (e ∷ ys))) f)
 
   edits-done : (ys xs : List Edit) (t : List Names) → length (xs ++ ys) ≤ 200 → replayed n (xs ++ ys) [] ≡ got t → after (map editing ys) (built n xs) ≡ built n (xs ++ ys)
@@ -169,7 +169,7 @@ series (c ∷ calls) m r =
 
 -- a verdict for a domain with the session's number of agents is the judge's for its sheet
 pub judged-sheet : (m : Model) (store : List ℕ) (d : Domain) (levels : List ℤ) → domainIn store ≡ got d → d .agents ≡ m .agents → levelsSize ≤ length levels
-    → verdict m store levels ≡ judgement levels (got (judge d (sheetOf m)))
+    → verdict m store levels ≡ judgement levels (got (judge d (standingSheet m)))
 unfolding verdict
 judged-sheet m store d levels a e l = rw (le-leb 2080 (length levels) l, a, eq-eqb (d .agents) (m .agents) e)
 
@@ -179,7 +179,7 @@ turned-agents m (refused n) f = refl
 
 edit-agents : (e : Edit) (m m′ : Model) → edit e m ≡ got m′ → m′ .agents ≡ m .agents
 unfolding edit
-edit-agents e m m′ h = by-sheet (edited (m .agents) e (sheetOf m)) (need-got (ltb (length (m .standing)) 200) 14 _ m′ h .1)
+edit-agents e m m′ h = by-sheet (edited (m .agents) e (standingSheet m)) (need-got (ltb (length (m .standing)) 200) 14 _ m′ h .1)
   where
     by-sheet : (a : Answer (List Names)) → then a (λ _. got (added e m)) ≡ got m′ → m′ .agents ≡ m .agents
     by-sheet (got t) g = ap (λ (x : Model). x .agents) (sym (got-inj (added e m) m′ g))

@@ -25,7 +25,7 @@ enum-told : tie.Need-enum-told
 enum-told c = search needs
 
 returns-2 : tie.Need-returns-2
-returns-2 c = λ long. let s = c .before .before .before .before .before .before .before .before .args in setting-malformed (getD (s .held .now) (s .at) 0) (c .before .before .expression-at .ensures) (c .enum-told .given .1)
+returns-2 c = λ long. let s = c .before .before .before .before .before .args in setting-malformed (getD (s .held .now) (s .at) 0) (c .before .before .expression-at .ensures) (c .enum-told .given .1)
 
 enum-known-value-2 : tie.Need-enum-known-value-2
 enum-known-value-2 c = search needs
@@ -34,10 +34,10 @@ enum-told-2 : tie.Need-enum-told-2
 enum-told-2 c = search needs
 
 returns-3 : tie.Need-returns-3
-returns-3 c = λ long. let s = c .before .before .before .before .before .before .before .before .before .before .before .before .args in setting-number (getD (s .held .now) (s .at) 0) (c .before .value2 .given .1) (c .known-told2 .given .0 .1) ∙ setting-given (getD (s .held .now) (s .at) 0) (c .before .before .before .before .before .before .expression-at .ensures) (c .before .before .before .before .value .given .1)
+returns-3 c = λ long. let s = c .before .before .before .before .before .before .before .before .before .args in setting-number (getD (s .held .now) (s .at) 0) (c .before .value2 .given .1) (c .known-told2 .given .0 .1) ∙ setting-given (getD (s .held .now) (s .at) 0) (c .before .before .before .before .before .before .expression-at .ensures) (c .before .before .before .before .value .given .1)
 
 returns-4 : tie.Need-returns-4
-returns-4 c = λ long. let s = c .before .before .before .before .before .before .before .before .before .before .before .args in setting-blank (getD (s .held .now) (s .at) 0) (c .enum-told2 .given .1) ∙ setting-given (getD (s .held .now) (s .at) 0) (c .before .before .before .before .before .expression-at .ensures) (c .before .before .before .value .given .1)
+returns-4 c = λ long. let s = c .before .before .before .before .before .before .before .before .args in setting-blank (getD (s .held .now) (s .at) 0) (c .enum-told2 .given .1) ∙ setting-given (getD (s .held .now) (s .at) 0) (c .before .before .before .before .before .expression-at .ensures) (c .before .before .before .value .given .1)
 
 pub setting-at-spec : {M : Type 1} → statement M
 setting-at-spec =

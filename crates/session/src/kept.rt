@@ -1,12 +1,11 @@
 // Refusal 17: whether a session is one that an accepted opening and calls after it could leave.
 use crate::log::Run;
-use crate::log::is_zero_from;
 use crate::log::replay;
 use bmap::Counts;
 use bmap::Session;
 use bmap::Sheet;
+use line::is_zero_from;
 ghost use mathlib.Core.Path.{_≡_};
-ghost use lib.ListN.{length};
 ghost use Prim.Native.Nat.{_≤_, _*_};
 ghost use lib.Dec.{leb};
 ghost use Rattle.bmap.specs.Plain.{both};

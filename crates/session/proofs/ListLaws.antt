@@ -3,14 +3,15 @@
 use mathlib.Core.Path.{_≡_, refl, sym, ap, _∙_}
 use mathlib.Core.Bool.{Bool, true, false}
 use mathlib.Core.List.{List, [], _∷_, _++_, append-assoc}
-use Prim.Native.Nat.{ℕ, zero, suc, _+_, _-_, _≤_}
+use Prim.Native.Nat.{ℕ, zero, suc, _+_, _-_, _<_, _≤_}
 use native.Mathlib.Nat.{not-suc-le-zero, le-of-suc-le-suc, sub-zero}
 use native.Mathlib.Numerals.{add-one}
 use native.Mathlib.Omega.{arith}
 use lib.Dec.{eqb}
-use lib.ListN.{length, take, drop, set, replicate, length-append, length-replicate, replicate-append-replicate, length-set}
-use lib.Seq.{take-length, take-at, drop-at, drop-drop, length-take-le, paste, take-suc-set, length-paste, take-paste}
-use borrow.Author.Tests.{eq-eqb, eqb-true}
+use lib.Bits.{bitOr, or-add-and, bitXor, xor-self, xor-add-and, and-le-l, and-le-r}
+use lib.ListN.{length, getD, take, drop, set, replicate, length-append, length-replicate, replicate-append-replicate, length-set, drop-of-length-le}
+use lib.Seq.{take-length, take-at, drop-at, drop-drop, drop-cons, length-take-le, paste, take-suc-set, length-paste, take-paste}
+use borrow.Author.Tests.{eq-eqb, ne-eqb, eqb-true, eqb-false}
 use Rattle.bmap.specs.Plain.{both, all}
 use Rattle.bmap.specs.Buffer.{padded}
 use Rattle.bmap.specs.Store.{zeros}
@@ -105,6 +106,54 @@ same-eq (x ∷ xs) (y ∷ ys) h =
     let p = both-true (eqb x y) (sameBytes xs ys) h in
     let a : x ≡ y = eqb-true x y (p .0) in
     let q = same-eq xs ys (p .1) in cc
+
+--TMP
+or-zero : (a b : ℕ) → eqb (bitOr a b) 0 ≡ both (eqb a 0) (eqb b 0)
+or-zero a b = go (eqb a 0) (eqb b 0) refl refl
+  where
+    sum : bitOr a b ≤ a + b
+    sum = omega (arith, or-add-and a b)
+
+    low : a ≤ bitOr a b
+    low = omega (arith, or-add-and a b, and-le-r a b)
+
+    high : b ≤ bitOr a b
+    high = omega (arith, or-add-and a b, and-le-l a b)
+
+    go : (p q : Bool) → eqb a 0 ≡ p → eqb b 0 ≡ q → eqb (bitOr a b) 0 ≡ both p q
+    go true true e f = let x : a ≡ 0 = eqb-true a 0 e in let y : b ≡ 0 = eqb-true b 0 f in eq-eqb (bitOr a b) 0 (omega (arith, sum))
+    go true false e f = let y : b ≡ 0 → ⊥ = eqb-false b 0 f in ne-eqb (bitOr a b) 0 (λ z. y (omega (arith, high)))
+    go false q e f = let x : a ≡ 0 → ⊥ = eqb-false a 0 e in ne-eqb (bitOr a b) 0 (λ z. x (omega (arith, low)))
+
+both-assoc : (a b c : Bool) → both a (both b c) ≡ both (both a b) c
+both-assoc true b c = refl
+both-assoc false b c = refl
+
+both-true-r : (a : Bool) → both a true ≡ a
+both-true-r true = refl
+both-true-r false = refl
+
+--TMPEND
+-- asked for by joining where they differ: the bytes so far, and those from i on
+differ-zero : (a b c : ℕ) → eqb (bitOr a (bitXor b c)) 0 ≡ both (eqb a 0) (eqb b c)
+differ-zero a b c = or-zero a (bitXor b c) ∙ ap (both (eqb a 0)) (by-test (eqb b c) refl)
+  where
+    by-test : (t : Bool) → eqb b c ≡ t → eqb (bitXor b c) 0 ≡ eqb b c
+    by-test true e = let f : b ≡ c = eqb-true b c e in rw (f, xor-self c, eq-eqb c c refl)
+    by-test false e = let f : b ≡ c → ⊥ = eqb-false b c e in
+        ne-eqb (bitXor b c) 0 (λ z. f (omega (arith, xor-add-and b c, and-le-l b c, and-le-r b c))) ∙ sym e
+
+abbrev pub comparing : List ℕ → List ℕ → ℕ → ℕ → Bool
+comparing xs ys joined i = both (eqb joined 0) (sameBytes (drop i xs) (drop i ys))
+
+module _ (xs ys : List ℕ) (joined i : ℕ) where
+  pub compare-more : i < length xs → i < length ys → comparing xs ys joined i ≡ comparing xs ys (bitOr joined (bitXor (getD xs i 0) (getD ys i 0))) (i + 1)
+  unfolding sameBytes
+  compare-more h k = rw (differ-zero joined (getD xs i 0) (getD ys i 0), add-one i, drop-cons xs i 0 h, drop-cons ys i 0 k) (both-assoc (eqb joined 0) (eqb (getD xs i 0) (getD ys i 0)) (sameBytes (drop (suc i) xs) (drop (suc i) ys)))
+
+  pub compare-end : length xs ≤ i → length ys ≤ i → comparing xs ys joined i ≡ eqb joined 0
+  unfolding sameBytes
+  compare-end h k = rw (drop-of-length-le xs h, drop-of-length-le ys k) (both-true-r (eqb joined 0))
 
 pub same-of : (xs ys : List ℕ) → xs ≡ ys → sameBytes xs ys ≡ true
 same-of xs ys e = rw e (same-refl ys)

@@ -9,7 +9,7 @@ ghost use Prim.Native.Nat.{_+_, _≤_, _*_};
 ghost use lib.ListN.{length, take};
 ghost use Rattle.bmap.specs.Limits.{mostAgents};
 ghost use Rattle.bmap.specs.Buffer.{padded};
-ghost use Rattle.bmap.specs.Session.{editSize};
+ghost use Rattle.bmap.specs.Session.{editSize, sameBytes};
 ghost use Rattle.session.specs.Log.{laid, placeOf, namesEnd, targetOf, Reached, RunTo};
 
 // An entry's first byte, and where its names begin, after its step's number.
@@ -31,6 +31,22 @@ pub(crate) enum Place {
 pub(crate) enum Run {
     Stuck,
     Steps(usize),
+}
+
+// Whether a and b hold the same bytes: joined where they differ, and tested once, as in `line::is_zero_from`.
+pub(crate) fn is_same(a: &[u8], b: &[u8]) -> bool
+    ensures { λ r. ⌜ r ≡ sameBytes (now (a .entry)) (now (b .entry)) ⌝ }
+{
+    if a.len() != b.len() {
+        return false;
+    }
+    let mut joined: u8 = 0;
+    let mut i: usize = 0;
+    while i < a.len() {
+        joined = joined | (a[i] ^ b[i]);
+        i += 1;
+    }
+    joined == 0
 }
 
 // Lays src over dst from a place on.

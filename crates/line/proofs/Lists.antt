@@ -77,7 +77,7 @@ zero-end b at i h k e =
 
 -- ---- zeros from a place, asked for by joining the bytes
 
-or-zero : (a b : ℕ) → eqb (bitOr a b) 0 ≡ both (eqb a 0) (eqb b 0)
+pub or-zero : (a b : ℕ) → eqb (bitOr a b) 0 ≡ both (eqb a 0) (eqb b 0)
 or-zero a b = go (eqb a 0) (eqb b 0) refl refl
   where
     sum : bitOr a b ≤ a + b
@@ -94,13 +94,13 @@ or-zero a b = go (eqb a 0) (eqb b 0) refl refl
     go true false e f = let y : b ≡ 0 → ⊥ = eqb-false b 0 f in ne-eqb (bitOr a b) 0 (λ z. y (omega (arith, high)))
     go false q e f = let x : a ≡ 0 → ⊥ = eqb-false a 0 e in ne-eqb (bitOr a b) 0 (λ z. x (omega (arith, low)))
 
-both-assoc : (a b c : Bool) → both a (both b c) ≡ both (both a b) c
+pub both-assoc : (a b c : Bool) → both a (both b c) ≡ both (both a b) c
 both-assoc true b c = refl
 both-assoc false b c = refl
 
-both-true : (a : Bool) → both a true ≡ a
-both-true true = refl
-both-true false = refl
+pub both-end : (a : Bool) → both a true ≡ a
+both-end true = refl
+both-end false = refl
 
 -- the bytes so far are joined, those from i on are still to be asked
 abbrev pub joining : List ℕ → ℕ → ℕ → Bool
@@ -113,4 +113,4 @@ module _ (s : List ℕ) (joined i : ℕ) where
 
   pub join-end : length s ≤ i → joining s joined i ≡ eqb joined 0
   unfolding all
-  join-end h = rw (drop-of-length-le s h) (both-true (eqb joined 0))
+  join-end h = rw (drop-of-length-le s h) (both-end (eqb joined 0))

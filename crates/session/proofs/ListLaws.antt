@@ -8,7 +8,7 @@ use native.Mathlib.Nat.{not-suc-le-zero, le-of-suc-le-suc, sub-zero}
 use native.Mathlib.Numerals.{add-one}
 use native.Mathlib.Omega.{arith}
 use lib.Dec.{eqb}
-use lib.Bits.{bitOr, or-add-and, bitXor, xor-self, xor-add-and, and-le-l, and-le-r}
+use lib.Bits.{bitOr, bitXor, xor-self, xor-add-and, and-le-l, and-le-r}
 use lib.ListN.{length, getD, take, drop, set, replicate, length-append, length-replicate, replicate-append-replicate, length-set, drop-of-length-le}
 use lib.Seq.{take-length, take-at, drop-at, drop-drop, drop-cons, length-take-le, paste, take-suc-set, length-paste, take-paste}
 use borrow.Author.Tests.{eq-eqb, ne-eqb, eqb-true, eqb-false}
@@ -16,6 +16,7 @@ use Rattle.bmap.specs.Plain.{both, all}
 use Rattle.bmap.specs.Buffer.{padded}
 use Rattle.bmap.specs.Store.{zeros}
 use Rattle.bmap.specs.Session.{sameBytes}
+use Rattle.line.proofs.Lists.{or-zero, both-assoc, both-end}
 
 -- ---- tests
 pub both-true : (a b : Bool) → both a b ≡ true → (a ≡ true) × (b ≡ true)
@@ -107,33 +108,6 @@ same-eq (x ∷ xs) (y ∷ ys) h =
     let a : x ≡ y = eqb-true x y (p .0) in
     let q = same-eq xs ys (p .1) in cc
 
---TMP
-or-zero : (a b : ℕ) → eqb (bitOr a b) 0 ≡ both (eqb a 0) (eqb b 0)
-or-zero a b = go (eqb a 0) (eqb b 0) refl refl
-  where
-    sum : bitOr a b ≤ a + b
-    sum = omega (arith, or-add-and a b)
-
-    low : a ≤ bitOr a b
-    low = omega (arith, or-add-and a b, and-le-r a b)
-
-    high : b ≤ bitOr a b
-    high = omega (arith, or-add-and a b, and-le-l a b)
-
-    go : (p q : Bool) → eqb a 0 ≡ p → eqb b 0 ≡ q → eqb (bitOr a b) 0 ≡ both p q
-    go true true e f = let x : a ≡ 0 = eqb-true a 0 e in let y : b ≡ 0 = eqb-true b 0 f in eq-eqb (bitOr a b) 0 (omega (arith, sum))
-    go true false e f = let y : b ≡ 0 → ⊥ = eqb-false b 0 f in ne-eqb (bitOr a b) 0 (λ z. y (omega (arith, high)))
-    go false q e f = let x : a ≡ 0 → ⊥ = eqb-false a 0 e in ne-eqb (bitOr a b) 0 (λ z. x (omega (arith, low)))
-
-both-assoc : (a b c : Bool) → both a (both b c) ≡ both (both a b) c
-both-assoc true b c = refl
-both-assoc false b c = refl
-
-both-true-r : (a : Bool) → both a true ≡ a
-both-true-r true = refl
-both-true-r false = refl
-
---TMPEND
 -- asked for by joining where they differ: the bytes so far, and those from i on
 differ-zero : (a b c : ℕ) → eqb (bitOr a (bitXor b c)) 0 ≡ both (eqb a 0) (eqb b c)
 differ-zero a b c = or-zero a (bitXor b c) ∙ ap (both (eqb a 0)) (by-test (eqb b c) refl)
@@ -153,7 +127,7 @@ module _ (xs ys : List ℕ) (joined i : ℕ) where
 
   pub compare-end : length xs ≤ i → length ys ≤ i → comparing xs ys joined i ≡ eqb joined 0
   unfolding sameBytes
-  compare-end h k = rw (drop-of-length-le xs h, drop-of-length-le ys k) (both-true-r (eqb joined 0))
+  compare-end h k = rw (drop-of-length-le xs h, drop-of-length-le ys k) (both-end (eqb joined 0))
 
 pub same-of : (xs ys : List ℕ) → xs ≡ ys → sameBytes xs ys ≡ true
 same-of xs ys e = rw e (same-refl ys)

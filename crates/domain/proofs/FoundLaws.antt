@@ -1,15 +1,13 @@
 -- Acceptance of a store and its index, frame by frame. Assumes nothing.
-use Prim.Native.Nat.{ℕ, zero, suc, _+_, _-_, _≤_, _<_}
-use native.Mathlib.Numerals.{add-one}
+use Prim.Native.Nat.{ℕ, zero, suc, _+_, _-_}
 use native.Mathlib.Omega.{arith}
 use mathlib.Core.Path.{_≡_, refl, sym, ap, _∙_}
 use mathlib.Core.Bool.{Bool, true, false}
 use mathlib.Core.List.{List, [], _∷_, _++_, append-assoc, append-nil, map}
 use mathlib.Core.Option.{Option, none, some}
 use lib.Dec.{eqb, leb}
-use lib.ListN.{length, getD, drop, drop-of-length-le}
-use lib.Seq.{drop-cons}
-use borrow.Author.Tests.{lt-ltb, eq-eqb, ne-eqb}
+use lib.ListN.{length, getD, drop}
+use borrow.Author.Tests.{lt-ltb}
 use Rattle.bmap.specs.Plain.{if-else, maybe, all, numbers}
 use Rattle.bmap.specs.Refusal.{Answer, got, refused, need, known}
 use Rattle.bmap.specs.Line.{Frame, stored}
@@ -20,21 +18,6 @@ use Rattle.bmap.specs.declared.limits.Counts.{Counts}
 use Rattle.domain.specs.declared.found.Found.{Found}
 use Rattle.domain.specs.Found.{completeOn, lawPlaces, indexWith, nothingFound, foundOf, foundIn}
 use Rattle.domain.proofs.Stands.{placesWith}
-
--- ---- zeros to the end
-
-module _ (s : List ℕ) (i : ℕ) where
-  pub zeros-more : i < length s → getD s i 0 ≡ 0 → zeros (drop i s) ≡ zeros (drop (i + 1) s)
-  unfolding all
-  zeros-more h e = rw (add-one, drop-cons s i 0 h) (simp (eq-eqb _ _ e))
-
-  pub zeros-stop : i < length s → (getD s i 0 ≡ 0 → ⊥) → zeros (drop i s) ≡ false
-  unfolding all
-  zeros-stop h e = rw (drop-cons s i 0 h) (simp (ne-eqb _ _ e))
-
-  pub zeros-end : length s ≤ i → zeros (drop i s) ≡ true
-  unfolding all
-  zeros-end h = rw (drop-of-length-le s h)
 
 -- ---- nothing is missing at the end
 

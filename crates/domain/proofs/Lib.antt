@@ -21,3 +21,5 @@ pub mod FramesLaws
 -- THERE AND BACK: lines to a store to lines, a store to lines to a store.
 pub mod RoundTrip
 pub mod Returns
+-- One answer for each promise.
+pub mod Theorems

@@ -12,12 +12,12 @@ use bmap::Counts;
 use index::Index;
 use line::FrameAt;
 use line::frame_at;
+use line::is_zero_from;
 ghost use mathlib.Core.Path.{_≡_};
 ghost use Prim.Native.Nat.{_≤_};
-ghost use lib.ListN.{drop};
 ghost use Rattle.bmap.specs.Limits.{mostEntries};
 ghost use Rattle.bmap.specs.Session.{isGot};
-ghost use Rattle.bmap.specs.Store.{zeros, domainIn};
+ghost use Rattle.bmap.specs.Store.{domainIn};
 ghost use Rattle.domain.specs.Found.{completeOn, nothingFound, foundIn};
 
 pub struct Found {
@@ -50,20 +50,6 @@ fn nothing_found() -> Found
             laws: [0; Counts::LAWS],
         },
     }
-}
-
-// Zeros from a place to the end.
-fn zeros_from(store: &[u8], at: usize) -> bool
-    ensures { λ r. ⌜ r ≡ zeros (drop at (now (store .entry))) ⌝ }
-{
-    let mut i = at;
-    while i < store.len() {
-        if store[i] != 0 {
-            return false;
-        }
-        i += 1;
-    }
-    true
 }
 
 // "no A1, A2 or A4, or an entry without A5": none of it.
@@ -109,7 +95,7 @@ pub fn index_of(store: &[u8]) -> Found
     let mut at: usize = 0;
     loop {
         let FrameAt::Frame(size) = frame_at(store, at) else {
-            if !zeros_from(store, at) {
+            if !is_zero_from(store, at) {
                 return nothing_found();
             }
             if !is_complete(n, &ready) {

@@ -5,12 +5,14 @@ use native.Mathlib.Omega.{arith}
 use mathlib.Core.Path.{_≡_, refl, sym, ap, _∙_}
 use mathlib.Core.Bool.{Bool, true, false}
 use mathlib.Core.List.{List, [], _∷_, _++_, append-nil, append-assoc}
-use lib.Dec.{T, ltb}
+use lib.Dec.{T, eqb, ltb}
+use lib.Bits.{bitOr, or-add-and, and-le-l, and-le-r}
 use lib.ListN.{length, getD, take, drop, set, replicate, drop-of-length-le, length-drop, length-append, length-take, length-replicate, take-append-drop, replicate-append-replicate}
 use lib.Seq.{drop-cons, take-all, length-take-le, set-at, getD-drop}
-use borrow.Author.Tests.{ltb-true}
+use borrow.Author.Tests.{ltb-true, eqb-true, eqb-false, eq-eqb, ne-eqb}
 use Rattle.bmap.specs.Plain.{both, all}
 use Rattle.bmap.specs.Buffer.{padded}
+use Rattle.bmap.specs.Store.{zeros}
 use Rattle.bmap.specs.Theorems.{AreBytes}
 
 -- a part to the end
@@ -72,3 +74,43 @@ pub zero-end : (b : List ℕ) (at i : ℕ) → at ≤ i → i - at ≤ length b 
 zero-end b at i h k e =
     let n : i - at ≡ length b - min at (length b) = omega arith in
     rw (drop-of-length-le b e, append-nil, length-take at b, n)
+
+-- ---- zeros from a place, asked for by joining the bytes
+
+pub or-zero : (a b : ℕ) → eqb (bitOr a b) 0 ≡ both (eqb a 0) (eqb b 0)
+or-zero a b = go (eqb a 0) (eqb b 0) refl refl
+  where
+    sum : bitOr a b ≤ a + b
+    sum = omega (arith, or-add-and a b)
+
+    low : a ≤ bitOr a b
+    low = omega (arith, or-add-and a b, and-le-r a b)
+
+    high : b ≤ bitOr a b
+    high = omega (arith, or-add-and a b, and-le-l a b)
+
+    go : (p q : Bool) → eqb a 0 ≡ p → eqb b 0 ≡ q → eqb (bitOr a b) 0 ≡ both p q
+    go true true e f = let x : a ≡ 0 = eqb-true a 0 e in let y : b ≡ 0 = eqb-true b 0 f in eq-eqb (bitOr a b) 0 (omega (arith, sum))
+    go true false e f = let y : b ≡ 0 → ⊥ = eqb-false b 0 f in ne-eqb (bitOr a b) 0 (λ z. y (omega (arith, high)))
+    go false q e f = let x : a ≡ 0 → ⊥ = eqb-false a 0 e in ne-eqb (bitOr a b) 0 (λ z. x (omega (arith, low)))
+
+pub both-assoc : (a b c : Bool) → both a (both b c) ≡ both (both a b) c
+both-assoc true b c = refl
+both-assoc false b c = refl
+
+pub both-end : (a : Bool) → both a true ≡ a
+both-end true = refl
+both-end false = refl
+
+-- the bytes so far are joined, those from i on are still to be asked
+abbrev pub joining : List ℕ → ℕ → ℕ → Bool
+joining s joined i = both (eqb joined 0) (zeros (drop i s))
+
+module _ (s : List ℕ) (joined i : ℕ) where
+  pub join-more : i < length s → joining s joined i ≡ joining s (bitOr joined (getD s i 0)) (i + 1)
+  unfolding all
+  join-more h = rw (or-zero joined (getD s i 0), add-one i, drop-cons s i 0 h) (both-assoc (eqb joined 0) (eqb (getD s i 0) 0) (zeros (drop (suc i) s)))
+
+  pub join-end : length s ≤ i → joining s joined i ≡ eqb joined 0
+  unfolding all
+  join-end h = rw (drop-of-length-le s h) (both-end (eqb joined 0))

@@ -6,6 +6,7 @@ mod frame;
 mod read;
 mod write;
 
+pub use buffer::is_zero_from;
 pub use buffer::zero_from;
 pub use frame::FrameAt;
 pub use frame::frame_at;

@@ -2,19 +2,21 @@
 -- Assumes nothing.
 use mathlib.Core.Path.{_≡_, refl, sym, ap, _∙_}
 use mathlib.Core.Bool.{Bool, true, false}
-use mathlib.Core.List.{List, [], _∷_, _++_, append-assoc, append-nil}
+use mathlib.Core.List.{List, [], _∷_, _++_, append-assoc}
 use Prim.Native.Nat.{ℕ, zero, suc, _+_, _-_, _<_, _≤_}
 use native.Mathlib.Nat.{not-suc-le-zero, le-of-suc-le-suc, sub-zero}
 use native.Mathlib.Numerals.{add-one}
 use native.Mathlib.Omega.{arith}
 use lib.Dec.{eqb}
-use lib.ListN.{length, getD, take, drop, set, replicate, length-append, length-replicate, getD-replicate, replicate-append-replicate, drop-of-length-le, length-set}
-use lib.Seq.{take-length, drop-length, take-all, take-at, drop-at, drop-drop, drop-cons, length-take-le, paste, paste-suc, take-suc-set, length-paste, take-paste}
-use borrow.Author.Tests.{eq-eqb, ne-eqb, eqb-true}
+use lib.Bits.{bitOr, bitXor, xor-self, xor-add-and, and-le-l, and-le-r}
+use lib.ListN.{length, getD, take, drop, set, replicate, length-append, length-replicate, replicate-append-replicate, length-set, drop-of-length-le}
+use lib.Seq.{take-length, take-at, drop-at, drop-drop, drop-cons, length-take-le, paste, take-suc-set, length-paste, take-paste}
+use borrow.Author.Tests.{eq-eqb, ne-eqb, eqb-true, eqb-false}
 use Rattle.bmap.specs.Plain.{both, all}
 use Rattle.bmap.specs.Buffer.{padded}
 use Rattle.bmap.specs.Store.{zeros}
 use Rattle.bmap.specs.Session.{sameBytes}
+use Rattle.line.proofs.Lists.{or-zero, both-assoc, both-end}
 
 -- ---- tests
 pub both-true : (a b : Bool) → both a b ≡ true → (a ≡ true) × (b ≡ true)
@@ -53,19 +55,6 @@ zeros-are (x ∷ l) h =
     let b = zeros-are l (p .1) in
     rw a (ap (λ (r : List ℕ). 0 ∷ r) b)
 
--- a turn of the search for a byte that is not 0
-pub zero-here : (l : List ℕ) (i : ℕ) → i < length l → getD l i 0 ≡ 0 → zeros (drop i l) ≡ zeros (drop (i + 1) l)
-unfolding all
-zero-here l i h z = rw (drop-cons l i 0 h, eq-eqb (getD l i 0) 0 z, add-one i)
-
-pub not-zero-here : (l : List ℕ) (i : ℕ) → i < length l → (getD l i 0 ≡ 0 → ⊥) → false ≡ zeros (drop i l)
-unfolding all
-not-zero-here l i h z = rw (drop-cons l i 0 h, ne-eqb (getD l i 0) 0 z)
-
-pub zeros-past : (l : List ℕ) (i : ℕ) → length l ≤ i → true ≡ zeros (drop i l)
-unfolding all
-zeros-past l i h = rw (drop-of-length-le l h)
-
 -- ---- zeros after a list
 pub length-padded : (n : ℕ) (l : List ℕ) → length l ≤ n → length (padded n l) ≡ n
 length-padded n l h = omega (arith, length-append l (replicate (n - length l) 0), length-replicate {A = ℕ} (n - length l) 0)
@@ -76,26 +65,6 @@ padded-zeros n k l h =
     let a : length (l ++ replicate k 0) ≡ length l + k = omega (arith, length-append l (replicate k 0), length-replicate {A = ℕ} k 0) in
     let b : k + (n - (length l + k)) ≡ n - length l = omega arith in
     rw (a, append-assoc l (replicate k 0) (replicate (n - (length l + k)) 0), replicate-append-replicate {A = ℕ} k (n - (length l + k)) 0, b)
-
--- ---- a store of zeros from a place on
-abbrev pub cleared : List ℕ → ℕ → ℕ → List ℕ
-cleared d from j = paste d from (replicate (length d - from) 0) j
-
-pub clear-more : (d : List ℕ) (from i : ℕ) (l : List ℕ) → from ≤ i → i < length d → l ≡ cleared d from (i - from) → set l i 0 ≡ cleared d from (i + 1 - from)
-clear-more d from i l h k e =
-    let j : ℕ = i - from in
-    let a : from + j ≡ i = omega arith in
-    let b : i + 1 - from ≡ suc j = omega arith in
-    let z : getD (replicate {A = ℕ} (length d - from) 0) j 0 ≡ 0 = getD-replicate (length d - from) j 0 0 (omega arith) in
-    rw (e, b, ← paste-suc d from (replicate (length d - from) 0) j 0 (omega arith) (omega (arith, length-replicate {A = ℕ} (length d - from) 0)), z, a)
-
-pub clear-all : (d : List ℕ) (from i : ℕ) (l : List ℕ) → from ≤ i → i ≤ length d → length d ≤ i → l ≡ cleared d from (i - from) → l ≡ padded (length d) (take from d)
-clear-all d from i l h k m e =
-    let a : i ≡ length d = omega arith in
-    let b : from + (length d - from) ≡ length d = omega arith in
-    let c : take (length d - from) (replicate {A = ℕ} (length d - from) 0) ≡ replicate (length d - from) 0 = take-all (length d - from) (replicate (length d - from) 0) (omega (arith, length-replicate {A = ℕ} (length d - from) 0)) in
-    let f : length (take from d) ≡ from = length-take-le from d (omega arith) in
-    e ∙ rw (a, b, c, f, drop-length d) (append-nil (take from d ++ replicate (length d - from) 0))
 
 -- ---- a new entry after the first bytes of a list, zeros after it
 module _ (d : List ℕ) (at k m : ℕ) (names l : List ℕ) (h : at + 2 + length names ≤ length d) (e : l ≡ paste (set (set d at k) (at + 1) m) (at + 2) names (length names)) where
@@ -138,6 +107,27 @@ same-eq (x ∷ xs) (y ∷ ys) h =
     let p = both-true (eqb x y) (sameBytes xs ys) h in
     let a : x ≡ y = eqb-true x y (p .0) in
     let q = same-eq xs ys (p .1) in cc
+
+-- asked for by joining where they differ: the bytes so far, and those from i on
+differ-zero : (a b c : ℕ) → eqb (bitOr a (bitXor b c)) 0 ≡ both (eqb a 0) (eqb b c)
+differ-zero a b c = or-zero a (bitXor b c) ∙ ap (both (eqb a 0)) (by-test (eqb b c) refl)
+  where
+    by-test : (t : Bool) → eqb b c ≡ t → eqb (bitXor b c) 0 ≡ eqb b c
+    by-test true e = let f : b ≡ c = eqb-true b c e in rw (f, xor-self c, eq-eqb c c refl)
+    by-test false e = let f : b ≡ c → ⊥ = eqb-false b c e in
+        ne-eqb (bitXor b c) 0 (λ z. f (omega (arith, xor-add-and b c, and-le-l b c, and-le-r b c))) ∙ sym e
+
+abbrev pub comparing : List ℕ → List ℕ → ℕ → ℕ → Bool
+comparing xs ys joined i = both (eqb joined 0) (sameBytes (drop i xs) (drop i ys))
+
+module _ (xs ys : List ℕ) (joined i : ℕ) where
+  pub compare-more : i < length xs → i < length ys → comparing xs ys joined i ≡ comparing xs ys (bitOr joined (bitXor (getD xs i 0) (getD ys i 0))) (i + 1)
+  unfolding sameBytes
+  compare-more h k = rw (differ-zero joined (getD xs i 0) (getD ys i 0), add-one i, drop-cons xs i 0 h, drop-cons ys i 0 k) (both-assoc (eqb joined 0) (eqb (getD xs i 0) (getD ys i 0)) (sameBytes (drop (suc i) xs) (drop (suc i) ys)))
+
+  pub compare-end : length xs ≤ i → length ys ≤ i → comparing xs ys joined i ≡ eqb joined 0
+  unfolding sameBytes
+  compare-end h k = rw (drop-of-length-le xs h, drop-of-length-le ys k) (both-end (eqb joined 0))
 
 pub same-of : (xs ys : List ℕ) → xs ≡ ys → sameBytes xs ys ≡ true
 same-of xs ys e = rw e (same-refl ys)

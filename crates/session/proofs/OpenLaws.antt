@@ -240,3 +240,9 @@ unfolding isOpen
 inside s h t e =
     let a = both-true (both (leb 1 (s .agents)) (leb (s .agents) 16)) _ h in
     rw (a .0, a .1) e
+
+-- a walk that is stuck before the standing edits are done
+pub stuck-open : (s : Session) → limits s ≡ true → (k : ℕ) → k ≤ s .standing → (Sound (s .agents) k (s .log) → ⊥) → isOpen s ≡ false
+stuck-open s h k l f =
+    let w = within s h in
+    sym (inside s h false (not-standing s (w .few) (w .below) (w .short) (λ a. f (sound-prefix (s .agents) (s .log) (w .few) k (s .standing) l a))))

@@ -1,5 +1,7 @@
 -- The calls' answers as document 01 has them.
 use Prim.Native.Nat.{ℕ, _+_, _*_}
+use mathlib.Core.Path.{_≡_}
+use mathlib.Core.Bool.{true, false}
 use mathlib.Core.List.{List, [], _∷_, _++_}
 use lib.Dec.{ltb}
 use lib.ListN.{take}
@@ -9,7 +11,9 @@ use Rattle.bmap.specs.Buffer.{padded}
 use Rattle.bmap.specs.Session.{Changed, editSize, isOpen}
 use Rattle.bmap.specs.declared.limits.Sheet.{Sheet}
 use Rattle.bmap.specs.declared.session.Session.{Session}
-use Rattle.session.specs.Log.{laid}
+use Rattle.session.specs.Log.{laid, Reached}
+use Rattle.session.specs.declared.log.Run.{Run}
+use Rattle.session.specs.declared.log.Run.the-variants.{Stuck, Steps}
 use Rattle.session.specs.declared.Outcome.{Outcome}
 use Rattle.session.specs.declared.Outcome.the-variants.{Done, Refused}
 use Rattle.session.specs.declared.Change.{Change}
@@ -29,6 +33,11 @@ leaves outcome s = record { answer = answerOf outcome; session = s }
 
 abbrev pub done : Session → Changed
 done s = record { answer = got tt; session = s }
+
+-- one walk over a session's log: it is not open, or this is the sheet of its first k edits
+abbrev pub OpenAt : Session → ℕ → Run → List ℕ → Type 0
+OpenAt s k Stuck names = isOpen s ≡ false
+OpenAt s k (Steps n) names = (isOpen s ≡ true) × Reached (s .agents) k (s .log) n names
 
 -- what every edit asks first: "17, 14"
 abbrev pub mayEdit : Session → Answer (Unit {0})

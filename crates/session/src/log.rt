@@ -1,14 +1,15 @@
 // The log's bytes: an entry's place in the sheet, the entries done in turn on a sheet's bytes, a new entry.
 use bmap::Session;
 use bmap::Sheet;
+use line::is_zero_from;
+use line::zero_from;
 ghost use mathlib.Core.Path.{_≡_};
 ghost use mathlib.Core.List.{_∷_, _++_};
 ghost use Prim.Native.Nat.{_+_, _≤_, _*_};
-ghost use lib.ListN.{length, take, drop};
-ghost use Rattle.bmap.specs.Limits.{mostAgents, mostEdits, mostSteps, sheetSize};
-ghost use Rattle.bmap.specs.Store.{zeros};
+ghost use lib.ListN.{length, take};
+ghost use Rattle.bmap.specs.Limits.{mostAgents};
 ghost use Rattle.bmap.specs.Buffer.{padded};
-ghost use Rattle.bmap.specs.Session.{editSize};
+ghost use Rattle.bmap.specs.Session.{editSize, sameBytes};
 ghost use Rattle.session.specs.Log.{laid, placeOf, namesEnd, targetOf, Reached, RunTo};
 
 // An entry's first byte, and where its names begin, after its step's number.
@@ -32,18 +33,20 @@ pub(crate) enum Run {
     Steps(usize),
 }
 
-// Whether only zeros stand in s from a place on.
-pub(crate) fn is_zero_from(s: &[u8], from: usize) -> bool
-    ensures { λ r. ⌜ r ≡ zeros (drop from (now (s .entry))) ⌝ }
+// Whether a and b hold the same bytes: joined where they differ, and tested once, as in `line::is_zero_from`.
+pub(crate) fn is_same(a: &[u8], b: &[u8]) -> bool
+    ensures { λ r. ⌜ r ≡ sameBytes (now (a .entry)) (now (b .entry)) ⌝ }
 {
-    let mut i = from;
-    while i < s.len() {
-        if s[i] != 0 {
-            return false;
-        }
+    if a.len() != b.len() {
+        return false;
+    }
+    let mut joined: u8 = 0;
+    let mut i: usize = 0;
+    while i < a.len() {
+        joined = joined | (a[i] ^ b[i]);
         i += 1;
     }
-    true
+    joined == 0
 }
 
 // Lays src over dst from a place on.
@@ -58,18 +61,6 @@ pub(crate) fn lay(dst: &mut [u8], at: usize, src: &[u8])
     }
 }
 
-// Zeros from a place on.
-pub(crate) fn clear(dst: &mut [u8], from: usize)
-    requires { ⌜ from ≤ length (now dst) ⌝ }
-    ensures { λ _. ⌜ now (dst .exit) ≡ padded (length (now (dst .entry))) (take from (now (dst .entry))) ⌝ }
-{
-    let mut i = from;
-    while i < dst.len() {
-        dst[i] = 0;
-        i += 1;
-    }
-}
-
 // The first bytes of a log, a new entry after them, and zeros after it.
 pub(crate) fn write_entry(log: &mut [u8], at: usize, kind: u8, number: u8, names: &[u8])
     requires { ⌜ at + 2 + length (now names) ≤ length (now log) ⌝ }
@@ -78,7 +69,7 @@ pub(crate) fn write_entry(log: &mut [u8], at: usize, kind: u8, number: u8, names
     log[at] = kind;
     log[at + 1] = number;
     lay(log, at + NAMES, names);
-    clear(log, at + NAMES + names.len());
+    zero_from(log, at + NAMES + names.len());
 }
 
 // The place of an edit in a sheet of so many steps.

@@ -2,6 +2,7 @@
 use crate::Change;
 use crate::Outcome;
 use crate::kept::is_open;
+use crate::kept::open_at;
 use crate::log::AMEND;
 use crate::log::ENTER;
 use crate::log::Run;
@@ -14,7 +15,7 @@ use bmap::Refusal;
 use bmap::Session;
 use bmap::Sheet;
 ghost use mathlib.Core.Path.{_≡_};
-ghost use Prim.Native.Nat.{_+_, _≤_, _<_, _*_};
+ghost use Prim.Native.Nat.{_+_, _-_, _≤_, _<_, _*_};
 ghost use lib.ListN.{length};
 ghost use Rattle.bmap.specs.Limits.{mostAgents, mostEdits, sheetSize};
 ghost use Rattle.bmap.specs.Refusal.{refused, numberOf};
@@ -90,6 +91,16 @@ fn add(s: Session, kind: u8, number: u8, names: &[u8], step: usize, steps: usize
     accept(session)
 }
 
+// One less, but not below 0.
+fn before(n: usize) -> usize
+    ensures { λ r. ⌜ r ≡ n - 1 ⌝ }
+{
+    if n == 0 {
+        return 0;
+    }
+    n - 1
+}
+
 // "Enter: 17, 14, 8, 9".
 pub fn entered(s: Session, step: &[u8]) -> Change
     ensures { λ r. ⌜ changedOf r ≡ editSession (enter (now (step .entry))) s ⌝ }
@@ -153,24 +164,22 @@ pub fn amended(s: Session, number: usize, step: &[u8]) -> Change
     add(s, AMEND, number as u8, step, number - 1, steps)
 }
 
-// "Undo: 17, 12".
+// "Undo: 17, 12": the sheet before the newest standing edit is met on the walk that asks for 17.
 pub fn undone(s: Session) -> Change
     ensures { λ r. ⌜ changedOf r ≡ undoSession s ⌝ }
 {
-    if !is_open(s) {
-        return refuse(s, Refusal::NotSession);
-    }
     let standing = s.standing;
-    if standing == 0 {
-        return refuse(s, Refusal::NothingStands);
-    }
+    let left = before(standing);
     let mut names = [0u8; Sheet::BYTES];
-    let run = replay(s.agents, &s.log, 0, standing - 1, 0, &mut names);
-    match run {
+    let walked = open_at(s, left, &mut names);
+    match walked {
         Run::Stuck => refuse(s, Refusal::NotSession),
         Run::Steps(steps) => {
+            if standing == 0 {
+                return refuse(s, Refusal::NothingStands);
+            }
             let sheet = Sheet { steps, names };
-            stand(s, standing - 1, sheet)
+            stand(s, left, sheet)
         }
     }
 }

@@ -57,8 +57,8 @@ enum-known-size c = search needs
 enum-told : tie.Need-enum-told Inv-loop μ-loop
 enum-told c = search needs
 
-zeros-from-requires : tie.Need-zeros-from-requires Inv-loop μ-loop
-zeros-from-requires c κs = search needs
+is-zero-from-requires : tie.Need-is-zero-from-requires Inv-loop μ-loop
+is-zero-from-requires c κs = search needs
 
 nothing-found-requires : tie.Need-nothing-found-requires Inv-loop μ-loop
 nothing-found-requires c κs = search needs
@@ -69,7 +69,7 @@ returns c =
     let l = t .before .before .before in
     c .nothing-found .ensures
     ∙ held-junk (l .loop .inv) (no-frame _ _ (sym (ap sizeOf (t .enum-told .given .1)) ∙ t .before .before .frame-at .ensures))
-    (sym (not-true _ (c .before .if1 .taken)) ∙ c .before .before .zeros-from .ensures)
+    (sym (not-true _ (c .before .if1 .taken)) ∙ c .before .before .is-zero-from .ensures)
 
 is-complete-requires : tie.Need-is-complete-requires Inv-loop μ-loop
 is-complete-requires c κs = held-few (c .before .before .before .before .before .before .loop .inv)
@@ -83,7 +83,7 @@ returns-2 c =
     let l = t .before .before .before in
     c .nothing-found2 .ensures
     ∙ held-missing (l .loop .inv) (no-frame _ _ (sym (ap sizeOf (t .enum-told .given .1)) ∙ t .before .before .frame-at .ensures))
-    (sym (not-false _ (c .before .before .before .before .if1 .left)) ∙ c .before .before .before .before .before .zeros-from .ensures)
+    (sym (not-false _ (c .before .before .before .before .if1 .left)) ∙ c .before .before .before .before .before .is-zero-from .ensures)
     (sym (not-true _ (c .before .if2 .taken)) ∙ c .before .before .is-complete .ensures)
 
 returns-3 : tie.Need-returns-3 Inv-loop μ-loop
@@ -91,7 +91,7 @@ returns-3 c =
     let t = c .before .before .before .before .before in
     let l = t .before .before .before in
     held-done (l .loop .inv) (no-frame _ _ (sym (ap sizeOf (t .enum-told .given .1)) ∙ t .before .before .frame-at .ensures))
-    (sym (not-false _ (c .before .before .before .if1 .left)) ∙ c .before .before .before .before .zeros-from .ensures)
+    (sym (not-false _ (c .before .before .before .if1 .left)) ∙ c .before .before .before .before .is-zero-from .ensures)
     (sym (not-false _ (c .if2 .left)) ∙ c .before .is-complete .ensures)
 
 shared-slice-read-kind : tie.Need-shared-slice-read-kind Inv-loop μ-loop
@@ -189,7 +189,7 @@ index-of-spec =
     frame-at-requires
     enum-known-size
     enum-told
-    zeros-from-requires
+    is-zero-from-requires
     nothing-found-requires
     returns
     is-complete-requires

@@ -1,25 +1,32 @@
 -- `session::kept::is_open` meets its contract.
 -- Assumes nothing.
-use mathlib.Core.Path.{sym, _∙_}
-use borrow.Author.Tests.{not-true, not-false}
-use Rattle.session.proofs.OpenLaws.{outside, inside, within}
+use mathlib.Core.Path.{sym, subst}
+use Rattle.session.specs.declared.log.Run.{Run}
+use Rattle.session.specs.Calls.{OpenAt}
 use borrow.Author.Needs.{needs}
 use Rattle.session.proofs.kept.is_open.Statement.{statement}
 use Rattle.session.proofs.kept.is_open.Tie as tie
 
-in-limits-requires : tie.Need-in-limits-requires
-in-limits-requires c κs = search needs
+open-at-requires : tie.Need-open-at-requires
+open-at-requires c κs = search needs
+
+enum-told : tie.Need-enum-told
+enum-told c = search needs
 
 returns : tie.Need-returns
-returns c = outside (c .before .before .args .s) (sym (c .before .in-limits .ensures) ∙ not-true (c .before .in-limits .result) (c .if1 .taken))
+returns c =
+    let s = c .before .before .before .before .args .s in
+    let walk = c .before .before .open-at in
+    sym (subst (λ (r : Run). OpenAt s (s .standing) r (walk .last .1 .1 .0)) (c .enum-told .given .1) (walk .ensures))
 
-is-kept-requires : tie.Need-is-kept-requires
-is-kept-requires c κs =
-    let w = within (c .before .before .args .s) (sym (c .before .in-limits .ensures) ∙ not-false (c .before .in-limits .result) (c .if1 .left)) in
-    (w .few, w .below, w .short)
+enum-told-2 : tie.Need-enum-told-2
+enum-told-2 c = search needs
 
 returns-2 : tie.Need-returns-2
-returns-2 c = inside (c .before .before .before .args .s) (sym (c .before .before .in-limits .ensures) ∙ not-false (c .before .before .in-limits .result) (c .before .if1 .left)) (c .is-kept .result) (c .is-kept .ensures)
+returns-2 c =
+    let s = c .before .before .before .before .args .s in
+    let walk = c .before .before .open-at in
+    sym (subst (λ (r : Run). OpenAt s (s .standing) r (walk .last .1 .1 .0)) (c .enum-told2 .given .1) (walk .ensures) .0)
 
 pub is-open-spec : {M : Type 1} → statement M
-is-open-spec = tie.close (tie.spec in-limits-requires returns is-kept-requires returns-2)
+is-open-spec = tie.close (tie.spec open-at-requires enum-told returns enum-told-2 returns-2)

@@ -1,9 +1,8 @@
 -- `session::log::write_entry` meets its contract.
 -- Assumes nothing.
-use Prim.Native.Nat.{_+_, _≤_}
 use native.Mathlib.Omega.{arith}
-use lib.ListN.{length, length-set}
-use Rattle.session.proofs.ListLaws.{entry-laid, entry-kept, entry-written}
+use lib.ListN.{length-set}
+use Rattle.session.proofs.ListLaws.{entry-kept, entry-written}
 use borrow.Author.Needs.{needs}
 use Rattle.session.proofs.log.write_entry.Statement.{statement}
 use Rattle.session.proofs.log.write_entry.Tie as tie
@@ -23,30 +22,26 @@ add-lay c = search needs
 lay-requires : tie.Need-lay-requires
 lay-requires c κs = search needs
 
-add-clear : tie.Need-add-clear
-add-clear c = search needs
+add-zero-from : tie.Need-add-zero-from
+add-zero-from c = search needs
 
-add-clear-2 : tie.Need-add-clear-2
-add-clear-2 c = search needs
+add-zero-from-2 : tie.Need-add-zero-from-2
+add-zero-from-2 c = search needs
 
-clear-requires : tie.Need-clear-requires
-clear-requires c κs =
-    let x = c .before .before .before .before .before .before .before .args in
-    let l = c .before .before .before .lay .last .0 in
-    let h : x .at + 2 + length (x .names .now) ≤ length l = omega (arith, entry-laid (x .log .now) (x .at) (x .kind) (x .number) (x .names .now) l (omega arith) (c .before .before .before .lay .ensures)) in
-    h
+zero-from-requires : tie.Need-zero-from-requires
+zero-from-requires c κs = search needs
 
 same-length : tie.Need-same-length
 same-length c =
     let x = c .before .before .before .before .before .before .before .before .before .before .args in
     let lay = c .before .before .before .before .before .before .lay in
-    omega (arith, entry-kept (x .log .now) (x .at) (x .kind) (x .number) (x .names .now) (lay .last .0) (omega arith) (lay .ensures) (c .before .before .clear .last .0) (c .before .before .clear .ensures))
+    omega (arith, entry-kept (x .log .now) (x .at) (x .kind) (x .number) (x .names .now) (lay .last .0) (omega arith) (lay .ensures) (c .before .before .zero-from .last .0) (c .before .before .zero-from .ensures))
 
 returns : tie.Need-returns
 returns c =
     let x = c .before .before .before .before .before .before .before .before .before .before .args in
     let lay = c .before .before .before .before .before .before .lay in
-    entry-written (x .log .now) (x .at) (x .kind) (x .number) (x .names .now) (lay .last .0) (omega arith) (lay .ensures) (c .before .before .clear .last .0) (c .before .before .clear .ensures)
+    entry-written (x .log .now) (x .at) (x .kind) (x .number) (x .names .now) (lay .last .0) (omega arith) (lay .ensures) (c .before .before .zero-from .last .0) (c .before .before .zero-from .ensures)
 
 pub write-entry-spec : {M : Type 1} → statement M
 write-entry-spec =
@@ -57,8 +52,8 @@ write-entry-spec =
     slice-write-log-2
     add-lay
     lay-requires
-    add-clear
-    add-clear-2
-    clear-requires
+    add-zero-from
+    add-zero-from-2
+    zero-from-requires
     same-length
     returns)

@@ -1,22 +1,15 @@
 -- A `Numbered`, as what the walk of session's LentWalk returns.
 -- Assumes nothing.
-use mathlib.Core.Path.{_≡_, ap}
 use mir.Syntax.{w8, tyInt}
 use mir.Val.{vint}
 use denote.Plain.{uint-lawful}
 use denote.Shadow.{makes-shadow}
 use denote.Builtin.{u8}
 use denote.Struct.Laws as LL
-use Rattle.bmap.specs.Session.{Changed}
 use Rattle.session.proofs.LentWalk.{Returned}
-use Rattle.desk.specs.Numbers.{numberedOf, answers}
-use Rattle.desk.specs.declared.numbered.Numbered.{Numbered}
+use Rattle.desk.specs.Numbers.{answers}
 use Rattle.desk.proofs.numbered.Numbered as E
 use Rattle.desk.proofs.numbered.Numbered.Laws as E′
-
-both-told : (r : Numbered) (c : Changed) → r ≡ numberedOf c → answers (r .number) (r .session) c
-unfolding numberedOf
-both-told r c e = (ap (λ (x : Numbered). x .number) e, ap (λ (x : Numbered). x .session) e)
 
 abbrev pub numbered : Returned
 numbered = record {
@@ -26,9 +19,7 @@ numbered = record {
   mir = tyInt w8;
   answered = λ r. r .number;
   session = λ r. r .session;
-  leaves = λ r changed. r ≡ numberedOf changed;
   means = answers;
-  meant = both-told;
   value = vint w8;
   change-tells = LL.tells E.the-type E′.the-laws;
   change-typed = λ 𝓤 H A W. LL.lawful E.the-type E′.the-laws 𝓤 H A W .typed;

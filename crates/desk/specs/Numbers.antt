@@ -8,7 +8,6 @@ use Rattle.bmap.specs.Buffer.{bytesWritten}
 use Rattle.bmap.specs.Judge.{Verdict, accepted, broken}
 use Rattle.bmap.specs.Session.{Changed}
 use Rattle.bmap.specs.declared.session.Session.{Session}
-use Rattle.desk.specs.declared.numbered.Numbered.{Numbered}
 
 -- 64 bits: a refusal's number in the upper half, what goes with it in the lower
 abbrev pub halves : ℕ → ℕ → ℕ
@@ -47,7 +46,3 @@ doneNumber (refused number) = number
 -- a lent session's call answers that number and leaves that session
 abbrev pub answers : ℕ → Session → Changed → Type 0
 answers number s changed = (number ≡ doneNumber (changed .answer)) × (s ≡ changed .session)
-
--- a call by value returns both
-unfoldable pub numberedOf : Changed → Numbered
-numberedOf changed = record { number = doneNumber (changed .answer); session = changed .session }

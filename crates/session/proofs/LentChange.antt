@@ -3,7 +3,7 @@
 use mathlib.Core.Path.{_≡_}
 use denote.Struct.Laws as LL
 use denote.Enum.Laws as LE
-use Rattle.session.specs.Calls.{changedOf, leaves}
+use Rattle.session.specs.Calls.{leaves}
 use Rattle.session.proofs.Change as E
 use Rattle.session.proofs.Change.Laws as E′
 use Rattle.session.proofs.Outcome as O
@@ -18,9 +18,7 @@ change = record {
   mir = O′.mir;
   answered = λ r. r .outcome;
   session = λ r. r .session;
-  leaves = λ r changed. changedOf r ≡ changed;
   means = λ outcome s changed. leaves outcome s ≡ changed;
-  meant = λ r changed e. e;
   value = LE.val O.the-type O′.the-laws;
   change-tells = LL.tells E.the-type E′.the-laws;
   change-typed = λ 𝓤 H A W. LL.lawful E.the-type E′.the-laws 𝓤 H A W .typed;

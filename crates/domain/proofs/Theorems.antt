@@ -1,7 +1,7 @@
 -- An answer is the only one that keeps its promise.
 use mathlib.Core.Path.{_≡_}
 use Rattle.bmap.specs.Refusal.{numberOf}
-use Rattle.line.proofs.Theorems.{same-refusal}
+use Rattle.bmap.proofs.RefusalLaws.{same-refusal}
 use Rattle.domain.specs.Read.{readingOf}
 use Rattle.domain.specs.declared.reader.ReadDomain.{ReadDomain}
 use Rattle.domain.specs.declared.reader.ReadDomain.the-variants.{Read, Refused}

@@ -17,7 +17,7 @@ use Rattle.bmap.specs.Payload.{maskFits, agentsFit, fluentFits, knowledg
 use Rattle.bmap.specs.Accept.{Reading, read, refusedAt, inOrder, room, fresh, checked, accept, complete, takenFrom}
 use Rattle.bmap.specs.Sheet.{stepOf, stepsFrom, stepsIn, readSheet, rows, sheetOf}
 use Rattle.bmap.specs.Buffer.{Filled, Written}
-use Rattle.bmap.specs.Store.{readDomain, standsAt, frameAt, framesFrom, domainIn, Place, Next, nextFrame, writeDomain}
+use Rattle.bmap.specs.Store.{readDomain, standsAt, frameAt, framesFrom, domainIn, Next, nextFrame, writeDomain}
 use Rattle.bmap.specs.Verdict.{Judgement, judgeSheet}
 use Rattle.bmap.specs.Judge.{Judged, accepted, broken, eachFrom, history, holds, carries, placed, permits, permitted, mayOccur, sets, settled, levelAfter, stateAfter, inRange, step, carried, ran, judge}
 use Rattle.bmap.specs.Session.{enter, strike, amend, edited, replayed, standingSheet, edit, undo, redo, verdict, Call, editing, undoing, redoing, Reply, done, turn, after, replies}

@@ -1,5 +1,5 @@
 -- The numbers of refusals and of faults are small.
-use Prim.Native.Nat.{ℕ, _≤_}
+use Prim.Native.Nat.{_≤_}
 use native.Mathlib.Omega.{arith}
 use Rattle.bmap.specs.Refusal.{numberOf}
 use Rattle.bmap.specs.declared.refusal.Refusal.{Refusal}

@@ -1,19 +1,19 @@
 -- The round trips of domains, as the definitions state them. Assumes nothing.
-use Prim.Native.Nat.{ℕ, _≤_}
+use Prim.Native.Nat.{ℕ}
 use native.Mathlib.Omega.{arith}
-use mathlib.Core.Path.{_≡_, refl, sym, ap, subst, _∙_}
+use mathlib.Core.Path.{_≡_, refl, sym, ap, _∙_}
 use mathlib.Core.Bool.{Bool, true, false}
 use mathlib.Core.List.{List, map}
 use lib.Dec.{leb}
 use lib.ListN.{length, take}
 use lib.Seq.{length-take-le}
 use borrow.Author.Tests.{leb-true, le-leb}
-use Rattle.bmap.specs.Plain.{flat, if-else}
+use Rattle.bmap.specs.Plain.{flat}
 use Rattle.bmap.specs.Limits.{storeSize}
 use Rattle.bmap.specs.Refusal.{Answer, got, refused}
 use Rattle.bmap.specs.Domain.{Domain}
 use Rattle.bmap.specs.Accept.{read}
-use Rattle.bmap.specs.Buffer.{padded, over, Filled, Written}
+use Rattle.bmap.specs.Buffer.{padded}
 use Rattle.bmap.specs.Store.{framesOf, storedOf, domainIn, textOf, readDomain, writeDomain}
 use Rattle.bmap.specs.Theorems.{DomainLinesReturn, DomainReturns}
 use Rattle.line.proofs.Lists.{bytes-are}

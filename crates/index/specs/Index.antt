@@ -1,11 +1,10 @@
 -- The index of a store, and the domain that store and index make.
 use Prim.Native.Nat.{ℕ, _+_, _≤_, _<_}
 use mathlib.Core.Path.{_≡_}
-use mathlib.Core.Bool.{Bool, true}
-use mathlib.Core.List.{List, [], map}
-use mathlib.Core.Option.{Option, none, some}
-use lib.IntN.{ℤ, pos}
-use lib.ListN.{length, getD, take, drop}
+use mathlib.Core.List.{List, map}
+use mathlib.Core.Option.{Option, some}
+use lib.IntN.{pos}
+use lib.ListN.{getD, take, drop}
 use Rattle.bmap.specs.Plain.{numbers, maybe}
 use Rattle.bmap.specs.Limits.{mostAgents, mostFluents, mostKnowledge, mostEntries, mostLaws}
 use Rattle.bmap.specs.Tree.{always}

@@ -1,7 +1,7 @@
 // A step, the run over all steps, the goals.
 ghost use mathlib.Core.Path.{_≡_};
 ghost use mathlib.Core.List.{List};
-ghost use Prim.Native.Nat.{ℕ, _+_, _-_, _*_, _≤_, _<_};
+ghost use Prim.Native.Nat.{ℕ, _+_, _*_, _≤_, _<_};
 ghost use lib.ListN.{length, take};
 ghost use Rattle.bmap.specs.Limits.{mostAgents, mostFluents, mostEntries, mostSteps, levelsSize};
 ghost use Rattle.bmap.specs.Domain.{Domain, Names};

@@ -17,7 +17,7 @@ use Rattle.bmap.specs.declared.limits.Context.{Context}
 use Rattle.bmap.specs.Limits.{mostLag}
 use Rattle.bmap.specs.Number.{signedWord}
 use Rattle.bmap.specs.Tree.{Expr, Con, constant, fluent, two, one, reified, compared, joined, negated, occurs, always, allowedE, allowedC, namedE, namedC}
-use Rattle.bmap.specs.Code.{Code, Parsed, Parser, codeOf, made, second, operand, operands, twoBytes, parseE, parseC}
+use Rattle.bmap.specs.Code.{Code, Parsed, Parser, codeOf, made, second, operands, twoBytes, parseE, parseC}
 use Rattle.law.specs.declared.table.Shape.{Shape}
 use Rattle.law.specs.declared.table.Shape.the-variants as shape
 use Rattle.law.specs.declared.table.Node.the-variants.{Expression, Constraint}

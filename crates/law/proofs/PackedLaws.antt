@@ -11,9 +11,9 @@ use borrow.Author.Tests.{lt-ltb, le-ltb, eq-eqb, ne-eqb}
 use lib.Dec.{T}
 use lib.IntN.{ℤ, pos, negsuc, natAbs, _+ℤ_, _-ℤ_}
 use lib.Signed.{nonNeg}
-use Rattle.bmap.specs.Number.{Valued, value, no-value}
-use Rattle.law.specs.Evaluate.{Meant, malformed, gives}
-use Rattle.law.specs.Packed.{room, half, endIn, bitsIn, valueIn, placed}
+use Rattle.bmap.specs.Number.{value, no-value}
+use Rattle.law.specs.Evaluate.{malformed, gives}
+use Rattle.law.specs.Packed.{room, half, endIn, bitsIn, placed}
 
 -- no tree ends at 0
 module _ {A : Type 0} (v : A) where

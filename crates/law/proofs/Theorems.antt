@@ -18,7 +18,7 @@ use Rattle.law.specs.declared.eval.Evaluated.the-variants as value-as
 use Rattle.law.specs.declared.eval.Judged.{Judged}
 use Rattle.law.specs.declared.eval.Judged.the-variants as truth-as
 use Rattle.law.specs.Check.{checked}
-use Rattle.law.specs.Evaluate.{gives, meant, evaluated, judged}
+use Rattle.law.specs.Evaluate.{meant, evaluated, judged}
 
 -- the tree that was accepted
 pub record Accepted {T : Type 0} (ok : T → Bool) (at n : ℕ) (o : Option (Parsed T)) : Type 0 where

@@ -1,6 +1,5 @@
 -- An answer is the only one that keeps its promise.
-use mathlib.Core.Path.{_≡_, refl, sym, ap, _∙_}
-use mathlib.Core.List.{List, [], _∷_}
+use mathlib.Core.Path.{_≡_, refl, ap}
 use Rattle.bmap.specs.Refusal.{numberOf}
 use Rattle.bmap.proofs.RefusalLaws.{same-refusal}
 use Rattle.line.specs.Read.{Taken, said}

@@ -6,12 +6,11 @@ use mathlib.Core.List.{List, [], _∷_, _++_, map, append-nil}
 use Prim.Native.Nat.{ℕ, zero, suc, _+_, _-_, _≤_}
 use native.Mathlib.Nat.{add-suc, add-zero}
 use native.Mathlib.Omega.{arith}
-use lib.Dec.{eqb, ltb}
+use lib.Dec.{ltb}
 use lib.IntN.{ℤ}
 use lib.ListN.{length, take, drop, replicate, length-append, take-append-drop}
 use lib.Seq.{take-at, drop-at, take-length, drop-length, length-take-le, append-snoc}
 use borrow.Author.Tests.{lt-ltb, le-leb, eq-eqb}
-use Rattle.bmap.specs.Plain.{if-else}
 use Rattle.bmap.specs.Limits.{levelsSize}
 use Rattle.bmap.specs.Refusal.{Answer, got, refused, need, then, numberOf}
 use Rattle.bmap.specs.Domain.{Domain, Names}

@@ -1,5 +1,4 @@
 use borrow.Author.Needs.{needs}
-use mathlib.Core.Path.{sym}
 use native.Mathlib.Omega.{arith}
 use Rattle.answer.proofs.CutLaws.{too-short, not-b, is-b}
 use Rattle.answer.proofs.cut.starts_sheet.Statement.{statement}

@@ -1,4 +1,3 @@
-use Prim.Native.Nat.{_-_}
 use borrow.Author.Needs.{needs}
 use Rattle.judge.proofs.MaskLaws.{no-bit}
 use Rattle.judge.proofs.acting.has_entry.Statement.{statement}

@@ -1,4 +1,3 @@
-use Prim.Native.Nat.{_-_}
 use mir.Facts.{toZ-ofZ}
 use Rattle.judge.proofs.effects.same_level.Statement.{statement}
 use Rattle.judge.proofs.effects.same_level.Tie as tie

@@ -1,4 +1,3 @@
-use Prim.Native.Nat.{_-_}
 use borrow.Author.Needs.{needs}
 use Rattle.judge.proofs.ReadingLaws.{truth-told, judged-given, judged-malformed}
 use Rattle.judge.proofs.reading.constraint_of.Statement.{statement}

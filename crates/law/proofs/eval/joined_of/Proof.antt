@@ -1,4 +1,4 @@
-use mathlib.Core.Path.{ap, _∙_}
+use mathlib.Core.Path.{_∙_}
 use borrow.Author.Needs.{needs}
 use Rattle.bmap.specs.Number.{value, with2, join}
 use Rattle.bmap.specs.Code.{codeOf}

@@ -1,4 +1,4 @@
-use mathlib.Core.Path.{ap, _∙_}
+use mathlib.Core.Path.{_∙_}
 use borrow.Author.Needs.{needs}
 use Rattle.bmap.specs.Number.{with2, operate}
 use Rattle.bmap.specs.Code.{codeOf}

@@ -5,7 +5,7 @@ use native.Mathlib.Omega.{arith}
 use borrow.Author.Tests.{not-true, not-false}
 use Rattle.session.proofs.CallLaws.{open-is, sound-upto, reached, redone-17, redone-13, redone-got}
 use mathlib.Core.Path.{subst}
-use Prim.Native.Nat.{_+_, _-_}
+use Prim.Native.Nat.{_+_}
 use Rattle.session.specs.declared.log.Run.{Run}
 use Rattle.session.specs.Log.{RunTo}
 use borrow.Author.Needs.{needs}

@@ -16,7 +16,7 @@ use Rattle.bmap.specs.Meaning.{History, evalC}
 use Rattle.bmap.specs.Domain.{Domain, Names, Entry, Law, executable, effect, must, Scope, static, concurrency, goal, has, entryAt, occursIn, readable}
 use Rattle.bmap.specs.Accept.{countsOf}
 use Rattle.bmap.specs.Judge.{pass, fault, unless, next, reads, placed, carries, sameScope, holds, permits, permitted, mayOccur}
-use Rattle.judge.specs.Told.{Belonging, Says, Lawful, Within, ownerOf, lawNumber, frameOf, conOf, placeOf, asksOf, scopeKind}
+use Rattle.judge.specs.Told.{Belonging, Says, Lawful, Within, Owned, Own, ownerOf, lawNumber, frameOf, conOf, placeOf, asksOf, scopeKind}
 use Rattle.judge.proofs.LoopLaws.{starts, rests}
 use Rattle.judge.proofs.ByteLaws.{Spelt, spelt}
 
@@ -152,12 +152,6 @@ module _ (d : Domain) (h : History) (j i : ℕ) where
   permits-other (effect e c f x) w n = refl
   permits-other (must s c) w n = refl
 
-  pub permits-none : (frame : List ℕ) (l : Law) → Says d frame l → (getD frame 0 0 ≡ 0xA5 → ⊥) → permits d h j i l ≡ value false
-  unfolding permits
-  permits-none frame (executable e c) w n = absurd (n (says d frame (executable e c) w .0))
-  permits-none frame (effect e c f x) w n = refl
-  permits-none frame (must s c) w n = refl
-
   module _ (n : ℕ) (l : Law) (rest : List Law) where
     pub permitted-on : permits d h j i l ≡ value false → permitted d h j i n (l ∷ rest) ≡ permitted d h j i (suc n) rest
     unfolding permitted
@@ -174,6 +168,27 @@ module _ (d : Domain) (h : History) (j i : ℕ) where
   pub permitted-none : (n : ℕ) → permitted d h j i n [] ≡ fault 2 i
   unfolding permitted
   permitted-none n = refl
+
+-- the laws that entry i does not own are left out
+module _ (d : Domain) (h : History) (j i : ℕ) (held owners : List ℕ) (n from to : ℕ) (lawful : Lawful d held n) (owned : Owned d owners) (own : Own owners n i from to) where
+  not-own : (k : ℕ) → k < n → (getD owners k 0 ≡ i → ⊥) → permitted d h j i k (lawNumber d k ∷ drop (suc k) (d .laws)) ≡ permitted d h j i (suc k) (drop (suc k) (d .laws))
+  not-own k p q = permitted-on d h j i k (lawNumber d k) (drop (suc k) (d .laws)) (permits-other d h j i (lawNumber d k) (owned k (omega (arith, lawful .count))) q)
+
+  pub own-starts : permitted d h j i 0 (d .laws) ≡ permitted d h j i from (drop from (d .laws))
+  own-starts =
+      starts (λ k r. permitted d h j i k r) (d .laws) noLaw from (omega (arith, lawful .count, own .starts))
+      (λ k p q. not-own k (omega (arith, own .starts)) (own .before k q))
+
+  pub own-ends : (l : ℕ) → to ≤ l → permitted d h j i l (drop l (d .laws)) ≡ fault 2 i
+  own-ends l p =
+      rests (λ k r. permitted d h j i k r) (d .laws) noLaw l (permitted-none d h j i)
+      (λ k q r. let s : k < n = omega (arith, lawful .count) in not-own k s (own .after k (omega arith) s))
+
+  pub own-law : (l : ℕ) → l < to → l < length (d .laws)
+  own-law l p = omega (arith, lawful .count, own .ends)
+
+pub own-moved : {owners : List ℕ} {n i from from′ to to′ : ℕ} → from ≡ from′ → to ≡ to′ → Own owners n i from′ to′ → Own owners n i from to
+own-moved {owners} {n} {i} {from} {from′} {to} {to′} e q own = subst (λ (k : ℕ). Own owners n i k to) (sym e) (subst (λ (k : ℕ). Own owners n i from′ k) (sym q) own)
 
 -- an owned law is one of an entry, with its constraint after the entry
 pub owned-place : (d : Domain) (l : Law) {o i : ℕ} → o ≡ ownerOf d l → o ≡ i → i < 64 → (3 ≡ placeOf l) × (true ≡ asksOf l)

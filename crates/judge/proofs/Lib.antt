@@ -12,6 +12,7 @@ pub mod SettingLaws
 pub mod LandingLaws
 pub mod ReadingLaws
 pub mod KnowledgeLaws
+pub mod OwnLaws
 pub mod StepLaws
 pub mod RunLaws
 pub mod JudgeLaws

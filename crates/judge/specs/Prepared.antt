@@ -18,7 +18,7 @@ use Rattle.judge.specs.declared.steps.Ran.{Ran}
 pub record Prepared (d : Domain) (held owners : List ℕ) (n : ℕ) (runs : Runs) (lowest highest : List ℤ) (w count : ℕ) : Type 0 where
   pub lawful : Lawful d held n
   pub owned : Owned d owners
-  pub ordered : Ordered held n runs
+  pub ordered : Ordered held owners n runs
   pub ranged : Ranged d lowest highest w
   pub entries : length (d .entries) ≡ count
 

@@ -7,7 +7,7 @@ use mathlib.Core.Option.{some}
 use lib.IntN.{ℤ, pos}
 use lib.ListN.{length, getD, take, drop}
 use Rattle.bmap.specs.Plain.{any, if-else}
-use Rattle.bmap.specs.Limits.{mostFluents, mostLaws, storeSize}
+use Rattle.bmap.specs.Limits.{mostFluents, mostEntries, mostLaws, storeSize}
 use Rattle.bmap.specs.Tree.{Con, always}
 use Rattle.bmap.specs.Meaning.{History}
 use Rattle.bmap.specs.Domain.{Domain, Names, Law, executable, effect, must, Scope, static, concurrency, goal, entryAt, has, occursIn, knows, readable}
@@ -92,8 +92,27 @@ pub record Within (held : List ℕ) (n kind from to : ℕ) : Type 0 where
   pub before : (i : ℕ) → i < from → getD (frameOf held i) 0 0 ≡ kind → ⊥
   pub after : (i : ℕ) → to ≤ i → i < n → getD (frameOf held i) 0 0 ≡ kind → ⊥
 
-pub record Ordered (held : List ℕ) (n : ℕ) (runs : Runs) : Type 0 where
-  pub executable : Within held n 0xA5 (runs .executable .from) (runs .executable .to)
+-- the laws of an owner lie from one number to another
+pub record Own (owners : List ℕ) (n i from to : ℕ) : Type 0 where
+  pub starts : from ≤ n
+  pub ends : to ≤ n
+  pub before : (k : ℕ) → k < from → getD owners k 0 ≡ i → ⊥
+  pub after : (k : ℕ) → to ≤ k → k < n → getD owners k 0 ≡ i → ⊥
+
+-- a table has, for each entry, where its laws among those from k on start
+abbrev pub FromOwn : List ℕ → ℕ → ℕ → List ℕ → Type 0
+FromOwn owners n k first = (i : ℕ) → i < mostEntries → (getD first i 0 ≤ n) × ((m : ℕ) → k ≤ m → m < getD first i 0 → getD owners m 0 ≡ i → ⊥)
+
+-- and where its laws among the first k end
+abbrev pub ToOwn : List ℕ → ℕ → List ℕ → Type 0
+ToOwn owners k last = (i : ℕ) → i < mostEntries → (getD last i 0 ≤ k) × ((m : ℕ) → getD last i 0 ≤ m → m < k → getD owners m 0 ≡ i → ⊥)
+
+-- the laws of each entry
+abbrev pub Owns : List ℕ → ℕ → List ℕ → List ℕ → Type 0
+Owns owners n first last = (i : ℕ) → i < mostEntries → Own owners n i (getD first i 0) (getD last i 0)
+
+pub record Ordered (held owners : List ℕ) (n : ℕ) (runs : Runs) : Type 0 where
+  pub executable : Owns owners n (runs .first) (runs .last)
   pub effect : Within held n 0xA6 (runs .effect .from) (runs .effect .to)
   pub fixed : Within held n 0xA7 (runs .fixed .from) (runs .fixed .to)
   pub concurrency : Within held n 0xA8 (runs .concurrency .from) (runs .concurrency .to)
@@ -101,7 +120,7 @@ pub record Ordered (held : List ℕ) (n : ℕ) (runs : Runs) : Type 0 where
 
 -- the numbers of laws keep their limit
 abbrev pub Few : Runs → Type 0
-Few runs = ((runs .executable .to ≤ mostLaws) × (runs .effect .to ≤ mostLaws)) × ((runs .fixed .to ≤ mostLaws) × ((runs .concurrency .to ≤ mostLaws) × (runs .goal .to ≤ mostLaws)))
+Few runs = (((i : ℕ) → i < mostEntries → getD (runs .last) i 0 ≤ mostLaws) × (runs .effect .to ≤ mostLaws)) × ((runs .fixed .to ≤ mostLaws) × ((runs .concurrency .to ≤ mostLaws) × (runs .goal .to ≤ mostLaws)))
 
 -- the levels of the states 0 to j are those of a history, and the masks of the steps 1 to j + 1 its occurrences, if they are asked
 pub record Seen (asked : Bool) (d : Domain) (h : History) (levels : List ℤ) (occurred : List ℕ) (j : ℕ) : Type 0 where

@@ -2,7 +2,7 @@
 ghost use mathlib.Core.Path.{_≡_};
 ghost use mathlib.Core.Bool.{true};
 ghost use Prim.Native.Nat.{ℕ, _≤_, _<_};
-ghost use lib.ListN.{length, drop};
+ghost use lib.ListN.{length, getD, drop};
 ghost use Rattle.bmap.specs.Limits.{mostAgents, mostEntries, mostLaws, storeSize};
 ghost use Rattle.bmap.specs.Domain.{Domain, Names, Law, Scope};
 ghost use Rattle.bmap.specs.Meaning.{History};
@@ -10,7 +10,7 @@ ghost use Rattle.bmap.specs.Payload.{asks};
 ghost use Rattle.bmap.specs.Judge.{each, placed, permits, permitted, mayOccur, holds, allHold};
 ghost use Rattle.number.specs.Answer.{truthOf};
 ghost use Rattle.judge.specs.Answer.{passOf, kindOf};
-ghost use Rattle.judge.specs.Told.{Belonging, Occurring, Says, Lawful, Owned, Within, Seen, lawNumber, scopeKind};
+ghost use Rattle.judge.specs.Told.{Belonging, Occurring, Says, Lawful, Owned, Within, Own, Owns, Seen, lawNumber, scopeKind};
 use crate::acting::has_agent;
 use crate::acting::has_entry;
 use crate::acting::wide;
@@ -74,7 +74,7 @@ fn check_entry(
     i: usize,
 ) -> Check
     requires { ⌜ (i < mostEntries) × (to ≤ mostLaws) ⌝ }
-    ensures { λ r. ⌜ ((d : Domain) (h : History) (n : ℕ) → Lawful d (now (held .entry)) n → Within (now (held .entry)) n 0xA5 from to → Owned d (now (owners .entry))
+    ensures { λ r. ⌜ ((d : Domain) (h : History) (n : ℕ) → Lawful d (now (held .entry)) n → Own (now (owners .entry)) n i from to → Owned d (now (owners .entry))
         → Seen true d h (now (levels .entry)) (now (occurred .entry)) j → passOf r ≡ permitted d h j i 0 (d .laws)) ⌝ }
 {
     let mut l = from;
@@ -98,16 +98,16 @@ fn check_entry(
 pub(crate) fn check_entries(
     held: &[u8; STORE],
     owners: &[u8; Counts::LAWS],
-    from: usize,
-    to: usize,
+    first: &[u8; Counts::ENTRIES],
+    last: &[u8; Counts::ENTRIES],
     entries: u64,
     count: usize,
     levels: &[i16; LEVELS],
     occurred: &[u64; Sheet::STEPS + 1],
     j: usize,
 ) -> Check
-    requires { ⌜ (count ≤ mostEntries) × (to ≤ mostLaws) ⌝ }
-    ensures { λ r. ⌜ ((d : Domain) (h : History) (n : ℕ) (names : Names) → Lawful d (now (held .entry)) n → Within (now (held .entry)) n 0xA5 from to → Owned d (now (owners .entry))
+    requires { ⌜ (count ≤ mostEntries) × ((i : ℕ) → i < mostEntries → getD (now last) i 0 ≤ mostLaws) ⌝ }
+    ensures { λ r. ⌜ ((d : Domain) (h : History) (n : ℕ) (names : Names) → Lawful d (now (held .entry)) n → Owns (now (owners .entry)) n (now (first .entry)) (now (last .entry)) → Owned d (now (owners .entry))
         → Occurring d names entries → length (d .entries) ≡ count → Seen true d h (now (levels .entry)) (now (occurred .entry)) j → passOf r ≡ each (mayOccur d h j names) (d .entries)) ⌝ }
 {
     let mut i = 0;
@@ -116,8 +116,8 @@ pub(crate) fn check_entries(
             if let Check::Failed(fault, n) = check_entry(
                 held,
                 owners,
-                from,
-                to,
+                wide(first[i]),
+                wide(last[i]),
                 levels,
                 occurred,
                 j,

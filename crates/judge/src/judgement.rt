@@ -53,7 +53,7 @@ fn judge_steps(
         &crews,
         counts.agents,
     );
-    let runs = all_runs(&held, counts.laws);
+    let runs = all_runs(&held, &owners, counts.laws);
     let start = index.start;
     let lowest = index.lowest;
     let highest = index.highest;

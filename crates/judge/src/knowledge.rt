@@ -5,11 +5,11 @@ ghost use mathlib.Core.Bool.{not};
 ghost use Prim.Native.Nat.{ℕ, _+_, _%_, _^_, _≤_, _<_};
 ghost use lib.Bits.{bitAnd};
 ghost use lib.Dec.{eqb};
-ghost use lib.ListN.{length, getD, drop};
-ghost use Rattle.bmap.specs.Limits.{mostAgents, mostFluents, mostLaws, storeSize};
+ghost use lib.ListN.{length, getD, set, drop};
+ghost use Rattle.bmap.specs.Limits.{mostAgents, mostFluents, mostEntries, mostLaws, storeSize};
 ghost use Rattle.bmap.specs.Domain.{Domain, Law};
 ghost use Rattle.judge.specs.Masks.{unionFrom, maskFrom};
-ghost use Rattle.judge.specs.Told.{Says, Lawful, Owned, Knowing, ownerOf};
+ghost use Rattle.judge.specs.Told.{Says, Lawful, Owned, Knowing, ownerOf, FromOwn, ToOwn};
 use crate::acting::pushed;
 use crate::acting::share;
 use crate::acting::taken_in;
@@ -128,4 +128,42 @@ pub(crate) fn all_owners(
         i += 1;
     }
     owners
+}
+
+// A number for an entry; an owner that is none has no place.
+fn note(table: &mut [u8; Counts::ENTRIES], e: u8, k: u8)
+    requires { ⌜ length (now table) ≡ mostEntries ⌝ }
+    ensures { λ _. ⌜ now (table .exit) ≡ set (now (table .entry)) e k ⌝ }
+{
+    let e = e as usize;
+    if e < Counts::ENTRIES {
+        table[e] = k;
+    }
+}
+
+// For each entry the first of its laws, and the place after the last: the others are not asked about it.
+pub(crate) fn first_own(owners: &[u8; Counts::LAWS], n: usize) -> [u8; Counts::ENTRIES]
+    requires { ⌜ n ≤ mostLaws ⌝ }
+    ensures { λ r. ⌜ FromOwn (now (owners .entry)) n 0 r ⌝ }
+{
+    let mut first = [0u8; Counts::ENTRIES];
+    let mut k = n;
+    while 0 < k {
+        k -= 1;
+        note(&mut first, owners[k], k as u8);
+    }
+    first
+}
+
+pub(crate) fn end_own(owners: &[u8; Counts::LAWS], n: usize) -> [u8; Counts::ENTRIES]
+    requires { ⌜ n ≤ mostLaws ⌝ }
+    ensures { λ r. ⌜ ToOwn (now (owners .entry)) n r ⌝ }
+{
+    let mut last = [0u8; Counts::ENTRIES];
+    let mut k = 0;
+    while k < n {
+        note(&mut last, owners[k], (k + 1) as u8);
+        k += 1;
+    }
+    last
 }

@@ -15,6 +15,9 @@ ghost use Rattle.judge.specs.Answer.{wantsOf};
 use crate::acting::has_entry;
 use crate::acting::wide;
 use crate::held::FRAME;
+use crate::knowledge::end_own;
+use crate::knowledge::first_own;
+use bmap::Counts;
 use bmap::LEVELS;
 use bmap::STORE;
 use bmap::Sheet;
@@ -153,26 +156,29 @@ pub(crate) fn run_of(held: &[u8; STORE], n: usize, kind: u8) -> Run
     Run { from, to }
 }
 
-// Where the laws of each kind stand.
+// Where the laws of each entry and of each kind stand.
 pub struct Runs {
-    pub executable: Run,
+    pub first: [u8; Counts::ENTRIES],
+    pub last: [u8; Counts::ENTRIES],
     pub effect: Run,
     pub fixed: Run,
     pub concurrency: Run,
     pub goal: Run,
 }
 
-pub(crate) fn all_runs(held: &[u8; STORE], n: usize) -> Runs
+pub(crate) fn all_runs(held: &[u8; STORE], owners: &[u8; Counts::LAWS], n: usize) -> Runs
     requires { ⌜ n ≤ mostLaws ⌝ }
-    ensures { λ r. ⌜ Ordered (now (held .entry)) n r ⌝ }
+    ensures { λ r. ⌜ Ordered (now (held .entry)) (now (owners .entry)) n r ⌝ }
 {
-    let executable = run_of(held, n, EXECUTABLE);
+    let first = first_own(owners, n);
+    let last = end_own(owners, n);
     let effect = run_of(held, n, EFFECT);
     let fixed = run_of(held, n, STATIC);
     let concurrency = run_of(held, n, CONCURRENCY);
     let goal = run_of(held, n, GOAL);
     Runs {
-        executable,
+        first,
+        last,
         effect,
         fixed,
         concurrency,

@@ -112,12 +112,13 @@ fn take_step(
     if let Check::Failed(fault, n) = check_agents(names, acting.agents) {
         return Check::Failed(fault, n);
     }
-    let own = runs.executable;
+    let first = runs.first;
+    let last = runs.last;
     if let Check::Failed(fault, n) = check_entries(
         held,
         owners,
-        own.from,
-        own.to,
+        &first,
+        &last,
         acting.entries,
         count,
         levels,

@@ -364,10 +364,6 @@ store-again s out buffer d b e h r =
           ∙ read-again (textOf s) buffer fs d lines (m .read-as) r ∙ ap (λ l. record { answer = read (length bytes); buffer = padded (length buffer) l }) (sym front);
     }
 
--- into a buffer as long as the store, they are the same bytes
-pub same-store : (s out buffer : List ℕ) (a : Again s out buffer) → length buffer ≡ length s → readDomain (take (a .characters) (writeDomain s out .buffer)) buffer .buffer ≡ s
-same-store s out buffer a e = ap (λ (f : Filled). f .buffer) (a .reads) ∙ ap (λ (n : ℕ). padded n (take (a .used) s)) e ∙ sym (a .whole)
-
 -- ---- THE STORE THAT THE READER LEAVES HOLDS THE DOMAIN THAT IT READ
 
 pub record Kept (text store : List ℕ) : Type 0 where

@@ -1,5 +1,5 @@
 -- Lists that are read and written by number: a row with zeros after, the numbers from a place on, one element more. Assumes nothing.
-use Prim.Native.Nat.{ℕ, zero, suc, _+_, _-_, _≤_, _<_}
+use Prim.Native.Nat.{ℕ, zero, suc, _+_, _-_, _<_}
 use native.Mathlib.Numerals.{add-one}
 use native.Mathlib.Omega.{arith}
 use mathlib.Core.Path.{_≡_, refl, sym, ap, _∙_}
@@ -49,16 +49,6 @@ any-snoc P (b ∷ l) a = ap (either (P b)) (any-snoc P l a) ∙ go (P b) (any P 
 -- ---- rows
 
 module _ {A : Type 0} (size : ℕ) (z : A) (l : List A) where
-  pub row-length : length l ≤ size → length (row size z l) ≡ size
-  row-length h = length-append l _ ∙ go (size - length l) refl
-    where
-      zeros : (n : ℕ) → length (replicate n z) ≡ n
-      zeros zero = refl
-      zeros (suc n) = ap suc (zeros n)
-
-      go : (n : ℕ) → size - length l ≡ n → length l + length (replicate (size - length l) z) ≡ size
-      go n e = let k = zeros (size - length l) in omega (arith, zeros (size - length l))
-
   -- the next one
   pub row-push : (a : A) → length l < size → set (row size z l) (length l) a ≡ row size z (l ++ (a ∷ []))
   row-push a h =

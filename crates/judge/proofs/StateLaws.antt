@@ -46,10 +46,6 @@ level-of w k f h p = getD-take w (drop (mostFluents * k) h) f (pos 0) p ∙ getD
 pub level-in : (w n k f : ℕ) (h : List ℤ) → k < n → f < w → getD (getD (statesOf w n h) k []) f (pos 0) ≡ getD h (mostFluents * k + f) (pos 0)
 level-in w n k f h p q = ap (λ (s : State). getD s f (pos 0)) (states-at w n k h p) ∙ level-of w k f h q
 
--- a history that keeps its first n numbers keeps what is read of them
-pub read-kept : (n i : ℕ) (h h′ : List ℤ) → take n h′ ≡ take n h → i < n → getD h′ i (pos 0) ≡ getD h i (pos 0)
-read-kept n i h h′ e p = sym (getD-take n h′ i (pos 0) p) ∙ (ap (λ (l : List ℤ). getD l i (pos 0)) e ∙ getD-take n h i (pos 0) p)
-
 pub part-take : {A : Type 0} (p w n : ℕ) (h : List A) → p + w ≤ n → take w (drop p (take n h)) ≡ take w (drop p h)
 part-take zero w n h q = take-take w n h (omega arith)
 part-take (suc p) w zero h q = absurd (omega arith)

@@ -8,7 +8,7 @@ use Rattle.bmap.specs.Plain.{flat}
 use Rattle.bmap.specs.Refusal.{got, refused}
 use Rattle.bmap.specs.Domain.{Domain}
 use Rattle.bmap.specs.Store.{domainIn}
-use Rattle.bmap.specs.Session.{opened, replayed, standingSheet, loggedAll, layout, closed, openedOn, openSession}
+use Rattle.bmap.specs.Session.{opened, replayed, standingSheet, loggedAll, layout, openedOn, openSession}
 use Rattle.domain.specs.declared.found.Found.{Found}
 use Rattle.domain.specs.Found.{foundIn}
 use Rattle.domain.proofs.Accepted.{found-ok, found-none}
@@ -19,9 +19,6 @@ use Rattle.session.specs.Calls.{done, emptied}
 pub emptied-layout : (d : Domain) → emptied (d .agents) ≡ layout (opened d)
 unfolding layout standingSheet replayed loggedAll flat
 emptied-layout d = refl
-
-pub emptied-closed : emptied 0 ≡ closed
-emptied-closed = refl
 
 -- what `index_of` finds of a store
 module _ (s : List ℕ) (f : Found) (e : f ≡ foundIn s) where

@@ -23,7 +23,7 @@ use Rattle.law.specs.Names.{namesOnly}
 use Rattle.judge.specs.Masks.{unionFrom, maskFrom}
 use Rattle.judge.specs.Told.{Says, Knowing, ownerOf}
 use Rattle.judge.proofs.MaskLaws.{mask-bit, union-bit, any-same, any-map, shares, cut-bit}
-use Rattle.judge.proofs.MeaningLaws.{same-named}
+use Rattle.judge.proofs.NamedLaws.{same-named}
 use Rattle.judge.proofs.CheckLaws.{says, not-entry}
 use Rattle.judge.proofs.ReadingLaws.{stands}
 

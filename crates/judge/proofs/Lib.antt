@@ -4,7 +4,7 @@ pub mod NamingLaws
 pub mod LongerLaws
 pub mod ByteLaws
 pub mod HeldLaws
-pub mod MeaningLaws
+pub mod NamedLaws
 pub mod StateLaws
 pub mod CheckLaws
 pub mod SignedLaws

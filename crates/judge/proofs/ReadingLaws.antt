@@ -32,10 +32,10 @@ use mir.Syntax.{w32}
 use mir.Val.{toZ, ofZ}
 use lib.Signed.{mag}
 use Rattle.judge.proofs.SignedLaws.{back}
+use Rattle.law.proofs.Agree.{Agree, agree-e, agree-c}
 use Rattle.judge.specs.Told.{Says, Seen, Occurring, conOf, placeOf, asksOf}
 use Rattle.judge.specs.Settings.{setting, settingFrom}
 use Rattle.judge.proofs.ByteLaws.{Constrained}
-use Rattle.judge.proofs.MeaningLaws.{same-value, same-truth}
 use Rattle.judge.proofs.CheckLaws.{says, not-effect}
 
 -- the constraint of a law, where it stands in its frame
@@ -45,15 +45,15 @@ stands d frame (effect e c f x) w = subst (λ (b : List ℕ). Constrained (count
 stands d frame (must s c) w = says d frame (must s c) w .1
 
 module _ (d : Domain) (asked : Bool) (h : History) (levels : List ℤ) (occurred : List ℕ) (j : ℕ) (seen : Seen asked d h levels occurred j) where
-  acted : asked ≡ true → (k e : ℕ) → 1 ≤ k → k ≤ j + 1 → e < length (d .entries) → historyOf levels occurred .occurred e k ≡ h .occurred e k
+  agreed : Agree (context (countsOf d) asked) j (historyOf levels occurred) h
   unfolding bit
-  acted a k e p q r = sym (seen .acted a k e p q r)
+  agreed = record { levels = λ k f p q. sym (seen .level k f p q); steps = λ a e k r p q. sym (seen .acted a k e p q r) }
 
   pub con-seen : (c : Con) → allowedC (context (countsOf d) asked) c ≡ true → evalC c (historyOf levels occurred) j ≡ evalC c h j
-  con-seen c fit = same-truth (context (countsOf d) asked) (historyOf levels occurred) h j (λ k f p q. sym (seen .level k f p q)) acted c fit
+  con-seen c fit = agree-c agreed c fit
 
   pub expr-seen : (x : Expr) → allowedE (context (countsOf d) asked) x ≡ true → evalE x (historyOf levels occurred) j ≡ evalE x h j
-  expr-seen x fit = same-value (context (countsOf d) asked) (historyOf levels occurred) h j (λ k f p q. sym (seen .level k f p q)) acted x fit
+  expr-seen x fit = agree-e agreed x fit
 
 -- what the evaluator answers of a law's constraint, where the law stands at place p
 pub truth-told : (d : Domain) (held : List ℕ) (p : ℕ) (l : Law) (h : History) (levels : List ℤ) (occurred : List ℕ) (j : ℕ) {at : ℕ} (w : Says d (drop p held) l) → at ≡ p + placeOf l → Seen (asksOf l) d h levels occurred j

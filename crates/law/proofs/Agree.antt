@@ -16,7 +16,7 @@ use Rattle.bmap.specs.Meaning.{History, evalE, evalC}
 
 pub record Agree (x : Context) (j : ℕ) (g h : History) : Type 0 where
   pub levels : (k f : ℕ) → k ≤ j → f < x .fluents → g .level k f ≡ h .level k f
-  pub steps : (e k : ℕ) → e < x .entries → 1 ≤ k → k ≤ j + 1 → g .occurred e k ≡ h .occurred e k
+  pub steps : x .occurrences ≡ true → (e k : ℕ) → e < x .entries → 1 ≤ k → k ≤ j + 1 → g .occurred e k ≡ h .occurred e k
 
 both-holds : (a b : Bool) → both a b ≡ true → (a ≡ true) × (b ≡ true)
 both-holds true b e = (refl, e)
@@ -28,9 +28,10 @@ module _ {x : Context} {j : ℕ} {g h : History} (a : Agree x j g h) where
 
   same-step : (e t : ℕ) → both (x .occurrences) (both (ltb e (x .entries)) (leb t mostLag)) ≡ true → value (both (leb t j) (g .occurred e (j + 1 - t))) ≡ value (both (leb t j) (h .occurred e (j + 1 - t)))
   same-step e t w =
-      let known : e < x .entries = ltb-true e (x .entries) (both-holds (ltb e (x .entries)) (leb t mostLag) (both-holds (x .occurrences) (both (ltb e (x .entries)) (leb t mostLag)) w .1) .0) in
+      let asked = both-holds (x .occurrences) (both (ltb e (x .entries)) (leb t mostLag)) w in
+      let known : e < x .entries = ltb-true e (x .entries) (both-holds (ltb e (x .entries)) (leb t mostLag) (asked .1) .0) in
       elim (decLe t j) [
-        | yes le ↦ ap (λ (b : Bool). value (both (leb t j) b)) (a .steps e (j + 1 - t) known (omega arith) (omega arith))
+        | yes le ↦ ap (λ (b : Bool). value (both (leb t j) b)) (a .steps (asked .0) e (j + 1 - t) known (omega arith) (omega arith))
         | no gt ↦ rw (lt-leb t j (omega arith))
       ]
 

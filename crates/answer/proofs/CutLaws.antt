@@ -11,7 +11,7 @@ use lib.Dec.{eqb}
 use lib.ListN.{length, take, drop, getD, length-append, length-drop, take-append-drop, drop-of-length-le, List·getD-eq-default}
 use lib.Seq.{take-all, drop-cons, getD-drop, take-add}
 use borrow.Author.Tests.{eq-eqb, ne-eqb}
-use Rattle.line.proofs.Answers.{both-false}
+use Rattle.bmap.proofs.PlainLaws.{both-false}
 use Rattle.bmap.specs.Plain.{both}
 use Rattle.bmap.specs.Line.{Line, linesOf, lineFeed, before}
 use Rattle.bmap.specs.Program.{startsSheet, split}

@@ -1,1 +1,3 @@
+pub mod PayloadLaws
+pub mod PlainLaws
 pub mod RefusalLaws

@@ -17,12 +17,12 @@ use Rattle.bmap.specs.Tree.{always}
 use Rattle.bmap.specs.Domain.{Domain, Fluent, Knows, Entry, Law, must, static}
 use Rattle.bmap.specs.Accept.{nothing, countsOf, complete, Reading, read, refusedAt, taken}
 use Rattle.bmap.specs.Store.{framesIn, whatWasRead, domainIn}
+use Rattle.bmap.proofs.PlainLaws.{both-true}
 use Rattle.index.specs.declared.Index.{Index}
 use Rattle.index.specs.Index.{fluentAt, knowledgeAt, entryOf, lawOf, lawAt, domainOf, Sound}
 use Rattle.domain.specs.declared.found.Found.{Found}
 use Rattle.domain.specs.Found.{lawPlaces, indexWith, nothingFound, foundOf, foundIn}
 use Rattle.domain.proofs.Rows.{length-mapped, row-at, row-back, numbers-all}
-use Rattle.domain.proofs.Passed.{both-true}
 use Rattle.domain.proofs.Stands.{lawThere, stands-first, Whole, whole}
 
 -- ---- the i-th of two lists that are read off each other

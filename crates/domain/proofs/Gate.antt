@@ -16,6 +16,7 @@ use Rattle.bmap.specs.Domain.{Domain, Fluent, Knows, Entry, Law}
 use Rattle.bmap.specs.Payload.{Item, agents, knowledge, byte, wordAt, fluentIn, knowledgeIn, entryIn}
 use Rattle.bmap.specs.Accept.{Partial, nothing, countsOf, room, add, executes, complete}
 use Rattle.bmap.specs.declared.limits.Counts.{Counts}
+use Rattle.bmap.proofs.PlainLaws.{either-end}
 use Rattle.domain.specs.Check.{entryOf, entriesOf, checkedOn}
 use Rattle.domain.specs.Found.{row, counted, completeOn}
 use Rattle.domain.proofs.Rows.{length-snoc, any-snoc, push-by, row-push, row-back, numbers-all, all-same}
@@ -189,16 +190,12 @@ module _ {p : Partial} {latest : ℕ} {n : Counts} {names crews ready : List ℕ
         same : f .kind < 0xA5 → add (v .item) (p .domain) .laws ≡ p .domain .laws → getD readyWith i 0 ≡ mark (any (executes i) (add (v .item) (p .domain) .laws))
         same k e = rw (ne-eqb (f .kind) 0xA5 (λ z. omega arith), e) (g .marks i h)
 
-        either-false : (a : Bool) → either a false ≡ a
-        either-false true = refl
-        either-false false = refl
-
         either-true : (a : Bool) → either a true ≡ true
         either-true true = refl
         either-true false = refl
 
         by : (l : Law) → Executes (countsOf (p .domain)) (f .kind) (f .payload) l → getD readyWith i 0 ≡ mark (any (executes i) (p .domain .laws ++ (l ∷ [])))
-        by l (other k x) = rw (k, any-snoc (executes i) (p .domain .laws) l, x i, either-false (any (executes i) (p .domain .laws))) (g .marks i h)
+        by l (other k x) = rw (k, any-snoc (executes i) (p .domain .laws) l, x i, either-end (any (executes i) (p .domain .laws))) (g .marks i h)
         by l (this k e x) = rw (eq-eqb (f .kind) 0xA5 k, any-snoc (executes i) (p .domain .laws) l, x i) (at (eqb i (byte (f .payload) 0)) refl)
           where
             at : (t : Bool) → eqb i (byte (f .payload) 0) ≡ t
@@ -216,7 +213,7 @@ module _ {p : Partial} {latest : ℕ} {n : Counts} {names crews ready : List ℕ
                 rw (
                   getD-set-other ready (byte (f .payload) 0) i 1 0 q,
                   ne-eqb (byte (f .payload) 0) i (λ z. q (sym z)),
-                  either-false (any (executes i) (p .domain .laws)),
+                  either-end (any (executes i) (p .domain .laws)),
                 ) (g .marks i h)
 
         go : Case (countsOf (p .domain)) (f .kind) (f .payload) (v .item) → getD readyWith i 0 ≡ mark (any (executes i) (add (v .item) (p .domain) .laws))

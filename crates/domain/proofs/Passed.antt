@@ -1,7 +1,7 @@
 -- What a frame that passes its check says. Assumes nothing.
 use Prim.Native.Nat.{ℕ, _≤_, _<_}
 use native.Mathlib.Omega.{arith}
-use mathlib.Core.Path.{_≡_, refl, ap}
+use mathlib.Core.Path.{_≡_, refl, sym, ap}
 use mathlib.Core.Bool.{Bool, true, false}
 use mathlib.Core.List.{List, [], _∷_}
 use mathlib.Core.Option.{Option, none, some}
@@ -16,18 +16,12 @@ use Rattle.bmap.specs.Domain.{Entry, Law, executable, effect, must, Scope, stat
 use Rattle.bmap.specs.Payload.{Item, agents, fluent, knowledge, entry, law, byte, only, agentsFit, fluentFits, knowledgeFits, entryFits, fluentIn, knowledgeIn, entryIn, treeIn, last, below, conIn, exprIn, context, executableIn, effectIn, mustIn, lawIn, lawItem, itemIn}
 use Rattle.bmap.specs.Accept.{inOrder, room, fresh, executes}
 use Rattle.bmap.specs.declared.limits.Counts.{Counts}
+use Rattle.bmap.proofs.PlainLaws.{both-true}
+use Rattle.bmap.proofs.PayloadLaws.{only-some, last-some, taken-some}
 use Rattle.domain.specs.Check.{checkedOn, refusedIn}
 
-pub both-true : (a b : Bool) → both a b ≡ true → (a ≡ true) × (b ≡ true)
-both-true true b e = (refl, e)
-both-true false b e = absurd (let z : _≡_ {A = ℕ} 0 1 = cc in omega arith)
-
-only-then : {A : Type 0} (b : Bool) (o : Option A) (x : A) → only b o ≡ some x → (b ≡ true) × (o ≡ some x)
-only-then true o x e = (refl, e)
-only-then false o x e = absurd (let z : _≡_ {A = ℕ} 0 1 = cc in omega arith)
-
 only-is : {A : Type 0} (b : Bool) (a x : A) → only b (some a) ≡ some x → (b ≡ true) × (x ≡ a)
-only-is b a x e = let t = only-then b (some a) x e in (t .0, let q = t .1 in cc)
+only-is b a x e = let t = only-some b (some a) e in (t .0, let q = t .1 in cc)
 
 -- ---- the item, by the kind
 
@@ -111,45 +105,37 @@ pub data Executes (n : Counts) (k : ℕ) (p : List ℕ) (l : Law) : Type 0 where
   this : k ≡ 0xA5 → byte p 0 < n .entries → ((i : ℕ) → executes i l ≡ eqb (byte p 0) i) → Executes n k p l
   other : eqb k 0xA5 ≡ false → ((i : ℕ) → executes i l ≡ false) → Executes n k p l
 
--- what stands where a part was taken
-last-is : {L : Type 0} (l m : L) (r : List ℕ) → last l r ≡ some m → m ≡ l
-last-is l m [] e = cc
-last-is l m (x ∷ r) e = absurd (let z : _≡_ {A = ℕ} 0 1 = cc in omega arith)
-
-taken-is : {T L : Type 0} (allowed : T → Bool) (p : List ℕ) (o : Option (Parsed T)) (k : T → List ℕ → Option L) (l : L) → treeIn allowed p o k ≡ some l
-    → (t : T) × ((r : List ℕ) × (k t r ≡ some l))
-taken-is allowed p none k l e = absurd (let z : _≡_ {A = ℕ} 0 1 = cc in omega arith)
-taken-is allowed p (some t) k l e = (t .tree, (drop (t .used) p, only-then (allowed (t .tree)) (k (t .tree) (drop (t .used) p)) l e .1))
-
+-- what stands where a number was taken
 below-is : {L : Type 0} (limit : ℕ) (p : List ℕ) (k : ℕ → List ℕ → Option L) (l : L) → below limit p k ≡ some l
     → (byte p 0 < limit) × ((r : List ℕ) × (k (byte p 0) r ≡ some l))
 below-is limit [] k l e = absurd (let z : _≡_ {A = ℕ} 0 1 = cc in omega arith)
-below-is limit (x ∷ r) k l e = let t = only-then (ltb x limit) (k x r) l e in (ltb-true x limit (t .0), (r, t .1))
+below-is limit (x ∷ r) k l e = let t = only-some (ltb x limit) (k x r) e in (ltb-true x limit (t .0), (r, t .1))
 
 module _ (n : Counts) (p : List ℕ) (l : Law) where
   executable-is : executableIn n p ≡ some l → (byte p 0 < n .entries) × ((j : ℕ) → executes j l ≡ eqb (byte p 0) j)
   unfolding executableIn
   executable-is e =
       let b = below-is (n .entries) p (λ i rest. conIn (context n true) rest (λ c. last (executable i c))) l e in
-      let t = taken-is _ (b .1 .0) (parseC 16 (b .1 .0)) (λ c. last (executable (byte p 0) c)) l (b .1 .1) in
-      (b .0, λ j. ap (executes j) (last-is (executable (byte p 0) (t .0)) l (t .1 .0) (t .1 .1)))
+      let t = taken-some _ (b .1 .0) (parseC 16 (b .1 .0)) (λ c. last (executable (byte p 0) c)) (b .1 .1) in
+      (b .0, λ j. ap (executes j) (sym (last-some (executable (byte p 0) (t .tree)) (drop (t .used) (b .1 .0)) (t .rest))))
 
   effect-is : effectIn n p ≡ some l → (j : ℕ) → executes j l ≡ false
   unfolding effectIn
   effect-is e j =
       let b = below-is (n .entries) p (λ i rest. conIn (context n true) rest (λ c rest. below (n .fluents) rest (λ f rest. exprIn (context n true) rest (λ x. last (effect i c f x))))) l e in
       let i = byte p 0 in
-      let t = taken-is _ (b .1 .0) (parseC 16 (b .1 .0)) (λ c rest. below (n .fluents) rest (λ f rest. exprIn (context n true) rest (λ x. last (effect i c f x)))) l (b .1 .1) in
-      let g = below-is (n .fluents) (t .1 .0) (λ f rest. exprIn (context n true) rest (λ x. last (effect i (t .0) f x))) l (t .1 .1) in
-      let f = byte (t .1 .0) 0 in
-      let x = taken-is _ (g .1 .0) (parseE 16 (g .1 .0)) (λ x. last (effect i (t .0) f x)) l (g .1 .1) in
-      ap (executes j) (last-is (effect i (t .0) f (x .0)) l (x .1 .0) (x .1 .1))
+      let t = taken-some _ (b .1 .0) (parseC 16 (b .1 .0)) (λ c rest. below (n .fluents) rest (λ f rest. exprIn (context n true) rest (λ x. last (effect i c f x)))) (b .1 .1) in
+      let r = drop (t .used) (b .1 .0) in
+      let g = below-is (n .fluents) r (λ f rest. exprIn (context n true) rest (λ x. last (effect i (t .tree) f x))) l (t .rest) in
+      let f = byte r 0 in
+      let x = taken-some _ (g .1 .0) (parseE 16 (g .1 .0)) (λ x. last (effect i (t .tree) f x)) (g .1 .1) in
+      ap (executes j) (sym (last-some (effect i (t .tree) f (x .tree)) (drop (x .used) (g .1 .0)) (x .rest)))
 
   must-is : (s : Scope) → mustIn s n p ≡ some l → (j : ℕ) → executes j l ≡ false
   unfolding mustIn
   must-is s e j =
-      let t = taken-is _ p (parseC 16 p) (λ c. last (must s c)) l e in
-      ap (executes j) (last-is (must s (t .0)) l (t .1 .0) (t .1 .1))
+      let t = taken-some _ p (parseC 16 p) (λ c. last (must s c)) e in
+      ap (executes j) (sym (last-some (must s (t .tree)) (drop (t .used) p) (t .rest)))
 
 pub law-executes : (n : Counts) (k : ℕ) (p : List ℕ) (l : Law) → lawIn n k p ≡ some l → Executes n k p l
 unfolding lawIn

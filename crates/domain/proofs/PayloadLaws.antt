@@ -16,6 +16,7 @@ use mir.Facts.{toZ-ofZ}
 use borrow.Author.Tests.{lt-ltb, le-ltb, le-leb, eq-eqb, ne-eqb}
 use Rattle.bmap.specs.Payload.{byte, wordAt, fluentIn, maskFits, agentsFit, fluentFits, knowledgeFits, entryFits}
 use Rattle.bmap.specs.declared.limits.Counts.{Counts}
+use Rattle.number.proofs.BackLaws.{back16}
 
 -- ---- a mask, by a shift
 
@@ -61,12 +62,8 @@ module _ (p : List ℕ) where
 
 -- ---- A2
 
--- a signed local reads back as it was
-pub back : {x : ℤ} → mag x < 32768 → toZ w16 (ofZ w16 x) ≡ x
-back h = toZ-ofZ {w = w16} (record { sfits = h })
-
 pub le-back : (x y : ℤ) → mag x < 32768 → mag y < 32768 → leZ (toZ w16 (ofZ w16 x)) (toZ w16 (ofZ w16 y)) ≡ leZ x y
-le-back x y h k = rw (back h, back k)
+le-back x y h k = rw (back16 x h, back16 y k)
 
 pub fluent-length : (p : List ℕ) → (length p ≡ 6 → ⊥) → false ≡ fluentFits p
 unfolding fluentFits
@@ -111,4 +108,4 @@ module _ (n : Counts) (p : List ℕ) where
 
 -- a signed element that is stored
 pub set-back : (l : List ℤ) (i : ℕ) {x v : ℤ} → mag x < 32768 → x ≡ v → set l i (toZ w16 (ofZ w16 x)) ≡ set l i v
-set-back l i h e = ap (set l i) (back h ∙ e)
+set-back l i h e = ap (set l i) (back16 _ h ∙ e)

@@ -18,6 +18,8 @@ use Rattle.bmap.specs.Payload.{Item}
 use Rattle.bmap.specs.Accept.{Partial, nothing, countsOf, accept, Reading, read, refusedAt, atLine, afterwards, takenFrom, taken}
 use Rattle.bmap.specs.Buffer.{padded, over, Filled, fill, Written, written}
 use Rattle.bmap.specs.Store.{framesOf, storedOf, reading, standsAt, frameAt, zeros, framesFrom, framesIn, domainIn, textOf, readDomain, writeDomain}
+use Rattle.bmap.proofs.PlainLaws.{both-false}
+use Rattle.line.proofs.Lists.{zeros-replicate, zeros-are}
 use Rattle.line.proofs.Lists.{Bytes, bytes-take, bytes-drop}
 use Rattle.line.proofs.LineLaws.{lines-first, decodes, decode-line, lines-line, text-line}
 use Rattle.domain.specs.Check.{checkedOn, refusedIn}
@@ -114,31 +116,22 @@ frame-there done t f g =
       p,
     )
 
-zeros-all : (k : ℕ) → zeros (replicate k 0) ≡ true
-unfolding all
-zeros-all zero = refl
-zeros-all (suc k) = zeros-all k
-
 first-zero : (k : ℕ) → _≡_ {A = ℕ} (getD (replicate k 0) 0 0) 0
 first-zero zero = refl
 first-zero (suc k) = refl
-
-both-right : (a : Bool) {b : Bool} → b ≡ false → both a b ≡ false
-both-right true e = e
-both-right false e = refl
 
 no-frame-there : (done : List ℕ) (k : ℕ) → frameAt (done ++ replicate k 0) (length done) ≡ none
 unfolding frameAt standsAt
 no-frame-there done k =
     let s = done ++ replicate k 0 in
     let z : getD s (length done) 0 ≡ 0 = (let e : length done + 0 ≡ length done = omega arith in ap (λ (i : ℕ). getD s i 0) (sym e)) ∙ getD-append-add done (replicate k 0) 0 0 ∙ first-zero k in
-    rw (z, both-right (leb (length done + 2) (length s)) refl)
+    rw (z, both-false (leb (length done + 2) (length s)))
 
 frames-there : (looks : ℕ) (fs : List Frame) (done : List ℕ) (k : ℕ) → Fines fs → length fs < looks
     → framesFrom looks (done ++ (flat (map stored fs) ++ replicate k 0)) (length done) ≡ some fs
 unfolding framesFrom flat
 frames-there zero fs done k g h = absurd (omega arith)
-frames-there (suc looks) [] done k no-frames h = rw (no-frame-there done k, drop-append-seam done (replicate k 0), zeros-all k)
+frames-there (suc looks) [] done k no-frames h = rw (no-frame-there done k, drop-append-seam done (replicate k 0), zeros-replicate k)
 frames-there (suc looks) (f ∷ fs) done k (and-frame g gs) h =
     let t = flat (map stored fs) ++ replicate k 0 in
     let s = done ++ ((stored f ++ flat (map stored fs)) ++ replicate k 0) in
@@ -226,15 +219,6 @@ lines-again text store out n e h =
     ∙ ap (λ b. if-else b (record { answer = got (length text); buffer = over text out }) (record { answer = refused 10; buffer = out })) (le-leb (length text) (length out) h)
 
 -- ---- AN ACCEPTED STORE, WRITTEN AND READ AGAIN, IS THE SAME BYTES, ZEROS AFTER
-
-zeros-are : (l : List ℕ) → zeros l ≡ true → l ≡ replicate (length l) 0
-unfolding all
-zeros-are [] e = refl
-zeros-are (x ∷ l) e = go (eqb x 0) refl e (zeros-are l)
-  where
-    go : (b : Bool) → eqb x 0 ≡ b → both b (zeros l) ≡ true → (zeros l ≡ true → l ≡ replicate (length l) 0) → x ∷ l ≡ 0 ∷ replicate (length l) 0
-    go true q z rec = ap (λ y. y ∷ l) (eqb-true x 0 q) ∙ ap (λ r. 0 ∷ r) (rec z)
-    go false q z rec = absurd (let y : _≡_ {A = ℕ} 0 1 = cc in omega arith)
 
 -- a frame whose numbers are bytes
 pub record Spelt (f : Frame) : Type 0 where

@@ -8,6 +8,7 @@ use mathlib.Core.List.{List, [], _∷_, _++_, append-assoc, map}
 use lib.ListN.{length, getD, set, replicate, length-append, List·getD-append, List·getD-map}
 use lib.Seq.{set-append-seam}
 use Rattle.bmap.specs.Plain.{both, either, any, all, numbers}
+use Rattle.bmap.proofs.PlainLaws.{either-end, either-assoc}
 use Rattle.domain.specs.Found.{row}
 
 -- ---- one element more
@@ -35,16 +36,8 @@ map-same f g (a ∷ l) h = ap (λ b. b ∷ map f l) (h a) ∙ ap (λ r. g a ∷ 
 
 pub any-snoc : {A : Type 0} (P : A → Bool) (l : List A) (a : A) → any P (l ++ (a ∷ [])) ≡ either (any P l) (P a)
 unfolding any
-any-snoc P [] a = go (P a)
-  where
-    go : (b : Bool) → either b false ≡ b
-    go true = refl
-    go false = refl
-any-snoc P (b ∷ l) a = ap (either (P b)) (any-snoc P l a) ∙ go (P b) (any P l) (P a)
-  where
-    go : (a b c : Bool) → either a (either b c) ≡ either (either a b) c
-    go true b c = refl
-    go false b c = refl
+any-snoc P [] a = either-end (P a)
+any-snoc P (b ∷ l) a = ap (either (P b)) (any-snoc P l a) ∙ either-assoc (P b) (any P l) (P a)
 
 -- ---- rows
 

@@ -18,12 +18,18 @@ use Rattle.bmap.specs.Payload.{Item, agents, fluent, knowledge, entry, law, byt
 use Rattle.bmap.specs.Accept.{Partial, nothing, countsOf, checked, add, accept, complete, read, atLine, takenFrom}
 use Rattle.bmap.specs.Store.{standsAt, frameAt, zeros, framesFrom}
 use Rattle.bmap.specs.declared.limits.Counts.{Counts}
+use Rattle.bmap.proofs.PlainLaws.{both-true}
 use Rattle.index.specs.Index.{frameBytes}
 use Rattle.domain.specs.Check.{checkedOn, refusedIn}
 use Rattle.domain.specs.Found.{lawPlaces}
 use Rattle.domain.proofs.Rows.{length-snoc, map-snoc, map-same}
 use Rattle.domain.proofs.CheckLaws.{room-agents, room-fluents, room-knowledge, room-entries, room-laws}
-use Rattle.domain.proofs.Passed.{both-true, Case, is-agents, is-fluent, is-knowledge, is-entry, is-law, Passed, passed}
+use Rattle.domain.proofs.Passed.{Case, is-agents, is-fluent, is-knowledge, is-entry, is-law, Passed, passed}
+
+-- where no frame stands, nothing more was read
+pub no-more : {fs : List Frame} (b : Bool) → if-else b (some []) none ≡ some fs → fs ≡ []
+no-more true q = cc
+no-more false q = absurd (let z : _≡_ {A = ℕ} 0 1 = cc in omega arith)
 
 -- ---- the frame at a place
 
@@ -335,10 +341,6 @@ module _ (looks lines : ℕ) (s : List ℕ) (p : Partial) (places : List ℕ) (a
   unfolding framesFrom takenFrom
   step e r = go (frameAt s at) refl e
     where
-      last : (b : Bool) → if-else b (some []) none ≡ some fs → fs ≡ []
-      last true q = cc
-      last false q = absurd (let z : _≡_ {A = ℕ} 0 1 = cc in omega arith)
-
       more : (f : Frame) → frameAt s at ≡ some f → (o : Option (List Frame)) → framesFrom looks s (at + length (stored f)) ≡ o
           → maybe o none (λ rest. some (f ∷ rest)) ≡ some fs → Whole s d (places ++ lawPlaces at fs)
       more f fe none re q = absurd (let z : _≡_ {A = ℕ} 0 1 = cc in omega arith)
@@ -350,7 +352,7 @@ module _ (looks lines : ℕ) (s : List ℕ) (p : Partial) (places : List ℕ) (a
       go : (o : Option Frame) → frameAt s at ≡ o
           → maybe o (if-else (zeros (drop at s)) (some []) none) (λ f. maybe (framesFrom looks s (at + length (stored f))) none (λ rest. some (f ∷ rest))) ≡ some fs
           → Whole s d (places ++ lawPlaces at fs)
-      go none o q = let z = last (zeros (drop at s)) q in ended (complete (p .domain)) refl (ap (λ l. takenFrom lines p (map got l)) (sym z) ∙ r) z
+      go none o q = let z = no-more (zeros (drop at s)) q in ended (complete (p .domain)) refl (ap (λ l. takenFrom lines p (map got l)) (sym z) ∙ r) z
       go (some f) o q = more f o (framesFrom looks s (at + length (stored f))) refl q
 
 pub whole : (looks lines : ℕ) (s : List ℕ) (p : Partial) (places : List ℕ) (at : ℕ) (fs : List Frame) (d : Domain) → Stands s p places at

@@ -23,6 +23,7 @@ use Rattle.line.proofs.WriteLaws.{length-line}
 use Rattle.domain.specs.Write.{linesFrom, linesIn}
 use Rattle.domain.specs.declared.found.Found.{Found}
 use Rattle.domain.specs.Found.{foundIn}
+use Rattle.domain.proofs.Stands.{no-more}
 use Rattle.domain.proofs.Held.{cut, Framed}
 use Rattle.domain.proofs.Accepted.{domained, refused-15, found-got, found-not}
 use Rattle.domain.proofs.ReaderLaws.{renewed, lent-length}
@@ -43,10 +44,6 @@ unfolding framesFrom linesFrom flat
 lines-are zero s at fs e = absurd (let z : _≡_ {A = ℕ} 0 1 = cc in omega arith)
 lines-are (suc looks) s at fs e = step (frameAt s at) (λ f rest. lines-are looks s (at + length (stored f)) rest) e
   where
-    last : (b : Bool) → if-else b (some []) none ≡ some fs → fs ≡ []
-    last true q = cc
-    last false q = absurd (let z : _≡_ {A = ℕ} 0 1 = cc in omega arith)
-
     more : (f : Frame) (o : Option (List Frame)) → ((rest : List Frame) → o ≡ some rest → flat (map lineFor rest) ≡ linesFrom looks s (at + length (stored f)))
         → maybe o none (λ rest. some (f ∷ rest)) ≡ some fs → flat (map lineFor fs) ≡ lineFor f ++ linesFrom looks s (at + length (stored f))
     more f none rec q = absurd (let z : _≡_ {A = ℕ} 0 1 = cc in omega arith)
@@ -55,7 +52,7 @@ lines-are (suc looks) s at fs e = step (frameAt s at) (λ f rest. lines-are look
     step : (o : Option Frame) → ((f : Frame) (rest : List Frame) → framesFrom looks s (at + length (stored f)) ≡ some rest → flat (map lineFor rest) ≡ linesFrom looks s (at + length (stored f)))
         → maybe o (if-else (zeros (drop at s)) (some []) none) (λ f. maybe (framesFrom looks s (at + length (stored f))) none (λ rest. some (f ∷ rest))) ≡ some fs
         → flat (map lineFor fs) ≡ maybe o [] (λ f. lineFor f ++ linesFrom looks s (at + length (stored f)))
-    step none rec q = ap (λ l. flat (map lineFor l)) (last (zeros (drop at s)) q)
+    step none rec q = ap (λ l. flat (map lineFor l)) (no-more (zeros (drop at s)) q)
     step (some f) rec q = more f (framesFrom looks s (at + length (stored f))) (rec f) q
 
 pub text-is : (s : List ℕ) (d : Domain) → domainIn s ≡ got d → textOf s ≡ linesIn s

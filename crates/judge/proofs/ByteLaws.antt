@@ -16,6 +16,7 @@ use Rattle.bmap.specs.Tree.{Expr, Con, allowedE, allowedC}
 use Rattle.bmap.specs.Code.{Parsed, parseE, parseC}
 use Rattle.bmap.specs.Domain.{Law, executable, effect, must, Scope, static, concurrency, goal}
 use Rattle.bmap.specs.Payload.{only, treeIn, last, context, conIn, exprIn, below, executableIn, effectIn, asks, mustIn, lawIn}
+use Rattle.bmap.proofs.PayloadLaws.{only-some, last-some, Taken, taken-some}
 use Rattle.bmap.specs.declared.limits.Counts.{Counts}
 use Rattle.law.proofs.Used.{used-c}
 use Rattle.judge.specs.Told.{scopeKind}
@@ -43,27 +44,6 @@ abbrev pub Spelt : Counts → ℕ → List ℕ → Law → Type 0
 Spelt n k p (executable e c) = (k ≡ 0xA5) × (((e ≡ getD p 0 0) × (e < n .entries)) × Constrained n true (drop 1 p) c)
 Spelt n k p (effect e c f x) = (k ≡ 0xA6) × Effective n p e c f x
 Spelt n k p (must s c) = (k ≡ scopeKind s) × Constrained n (asks s) p c
-
-only-some : {L : Type 0} (b : Bool) (o : Option L) {l : L} → only b o ≡ some l → (b ≡ true) × (o ≡ some l)
-only-some true o e = (refl, e)
-only-some false o e = let z : _≡_ {A = ℕ} 0 1 = cc in absurd (omega arith)
-
-last-some : {L : Type 0} (a : L) (p : List ℕ) {l : L} → last a p ≡ some l → a ≡ l
-last-some a [] e = cc
-last-some a (x ∷ p) e = let z : _≡_ {A = ℕ} 0 1 = cc in absurd (omega arith)
-
-pub record Taken {T L : Type 0} (allowed : T → Bool) (p : List ℕ) (r : Option (Parsed T)) (k : T → List ℕ → Option L) (l : L) : Type 0 where
-  pub tree : T
-  pub used : ℕ
-  pub read : r ≡ some (record { tree = tree; used = used })
-  pub fit : allowed tree ≡ true
-  pub rest : k tree (drop used p) ≡ some l
-
-taken-some : {T L : Type 0} (allowed : T → Bool) (p : List ℕ) (r : Option (Parsed T)) (k : T → List ℕ → Option L) {l : L} → treeIn allowed p r k ≡ some l → Taken allowed p r k l
-taken-some allowed p none k e = let z : _≡_ {A = ℕ} 0 1 = cc in absurd (omega arith)
-taken-some allowed p (some t) k e =
-    let both′ = only-some (allowed (t .tree)) (k (t .tree) (drop (t .used) p)) e in
-    record { tree = t .tree; used = t .used; read = refl; fit = both′ .0; rest = both′ .1 }
 
 executable-spelt : (n : Counts) (k : ℕ) (p more : List ℕ) {l : Law} → k ≡ 0xA5 → executableIn n p ≡ some l → Spelt n k (p ++ more) l
 unfolding executableIn

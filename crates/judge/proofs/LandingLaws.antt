@@ -7,17 +7,18 @@ use native.Mathlib.Numerals.{add-one}
 use native.Mathlib.Omega.{arith}
 use native.Mathlib.Decide.{decLt}
 use lib.Dec.{eqb}
-use lib.IntN.{ℤ, pos}
+use lib.IntN.{ℤ, pos, negsuc}
 use lib.ListN.{length, getD, set}
 use lib.Seq.{getD-set-same, getD-set-other}
 use lib.Signed.{mag, leZ}
 use mir.Syntax.{w16, w32}
 use mir.Val.{toZ, ofZ}
-use borrow.Author.Tests.{eqb-true, eqb-false}
+use borrow.Author.Tests.{leb-true, eqb-true, eqb-false}
 use Rattle.bmap.specs.Plain.{both, if-else, numbers}
 use Rattle.bmap.specs.Limits.{mostFluents}
 use Rattle.bmap.specs.Domain.{Domain, Fluent, State}
 use Rattle.bmap.specs.Judge.{pass, fine, fault, unless, each, inRange, Setting, levelAfter, stateAfter}
+use Rattle.number.proofs.BackLaws.{back32, back16}
 use Rattle.judge.specs.Answer.{kindOf}
 use Rattle.judge.specs.States.{stateAt, leaving}
 use Rattle.judge.specs.Settings.{settingsOf}
@@ -26,9 +27,15 @@ use Rattle.judge.specs.declared.landing.Fit.{Fit}
 use Rattle.judge.specs.declared.landing.Fit.the-variants.{Out, In}
 use Rattle.judge.specs.declared.verdict.Check.the-variants.{Passed, Failed}
 use Rattle.judge.specs.declared.verdict.Fault.{Fault}
-use Rattle.judge.proofs.SignedLaws.{back, back16}
 use Rattle.judge.proofs.LoopLaws.{map-at}
 use Rattle.judge.proofs.StateLaws.{level-of}
+
+-- a number between two of 16 bits
+pub between : (lo v hi : ℤ) → mag lo < 32768 → mag hi < 32768 → leZ lo v ≡ true → leZ v hi ≡ true → mag v < 32768
+between lo (pos n) (pos h) p q r s = omega (arith, leb-true n h s)
+between lo (pos n) (negsuc h) p q r s = let z : _≡_ {A = ℕ} 0 1 = cc in absurd (omega arith)
+between (pos l) (negsuc n) hi p q r s = let z : _≡_ {A = ℕ} 0 1 = cc in absurd (omega arith)
+between (negsuc l) (negsuc n) hi p q r s = omega (arith, leb-true n l r)
 
 -- ---- a list that is filled from the front
 
@@ -84,7 +91,7 @@ fit-cases-out false v e = refl
 module _ (lo v hi : ℤ) {r : Fit} (l : mag lo < 32768) (h : mag hi < 32768) (w : mag v < 2147483648)
     (e : r ≡ fitOf (toZ w16 (ofZ w16 lo)) (toZ w32 (ofZ w32 v)) (toZ w16 (ofZ w16 hi))) where
   fit-back : r ≡ fitOf lo v hi
-  fit-back = e ∙ (ap (λ (z : ℤ). fitOf z (toZ w32 (ofZ w32 v)) (toZ w16 (ofZ w16 hi))) (back16 lo l) ∙ (ap (λ (z : ℤ). fitOf lo z (toZ w16 (ofZ w16 hi))) (back v w) ∙ ap (fitOf lo v) (back16 hi h)))
+  fit-back = e ∙ (ap (λ (z : ℤ). fitOf z (toZ w32 (ofZ w32 v)) (toZ w16 (ofZ w16 hi))) (back16 lo l) ∙ (ap (λ (z : ℤ). fitOf lo z (toZ w16 (ofZ w16 hi))) (back32 v w) ∙ ap (fitOf lo v) (back16 hi h)))
 
   pub fit-told : {z : ℤ} → r ≡ In z → (v ≡ z) × (both (leZ lo v) (leZ v hi) ≡ true)
   unfolding fitOf

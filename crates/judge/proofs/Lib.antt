@@ -7,7 +7,6 @@ pub mod HeldLaws
 pub mod NamedLaws
 pub mod StateLaws
 pub mod CheckLaws
-pub mod SignedLaws
 pub mod SettingLaws
 pub mod LandingLaws
 pub mod ReadingLaws

@@ -10,6 +10,7 @@ use native.Mathlib.Decide.{decLt}
 use lib.ListN.{length, getD, drop, drop-of-length-le}
 use lib.Seq.{drop-cons}
 use Rattle.bmap.specs.Plain.{both, all, numbers}
+use Rattle.bmap.proofs.PlainLaws.{both-true}
 use Rattle.bmap.specs.Judge.{Pass, pass, fault, eachFrom}
 
 module _ {A Y : Type 0} (R : ℕ → List A → Y) (l : List A) (d : A) where
@@ -91,17 +92,9 @@ all-from : (p : ℕ → Bool) (i n k : ℕ) → i ≤ k → k < i + n → all p 
 unfolding all numbers
 all-from p i zero k h q e = absurd (omega arith)
 all-from p i (suc n) k h q e = elim (decLt i k) [
-  | yes r ↦ all-from p (suc i) n k (omega arith) (omega arith) (second (p i) (all p (numbers (suc i) n)) e)
-  | no r ↦ let z : k ≡ i = omega arith in ap p z ∙ first (p i) (all p (numbers (suc i) n)) e
+  | yes r ↦ all-from p (suc i) n k (omega arith) (omega arith) (both-true (p i) (all p (numbers (suc i) n)) e .1)
+  | no r ↦ let z : k ≡ i = omega arith in ap p z ∙ both-true (p i) (all p (numbers (suc i) n)) e .0
 ]
-  where
-    first : (s t : Bool) → both s t ≡ true → s ≡ true
-    first true t e = refl
-    first false t e = e
-
-    second : (s t : Bool) → both s t ≡ true → t ≡ true
-    second true t e = e
-    second false t e = let z : _≡_ {A = ℕ} 0 1 = cc in absurd (omega arith)
 
 pub all-at : (p : ℕ → Bool) (n k : ℕ) → k < n → all p (numbers 0 n) ≡ true → p k ≡ true
 all-at p n k h e = all-from p 0 n k (omega arith) (omega arith) e

@@ -8,26 +8,10 @@ use native.Mathlib.Omega.{arith}
 use lib.Dec.{leb, ltb}
 use borrow.Author.Tests.{ltb-true}
 use Rattle.bmap.specs.Plain.{both, all}
+use Rattle.bmap.proofs.PlainLaws.{both-true, all-append}
 use Rattle.bmap.specs.Tree.{Expr, Con, constant, fluent, two, one, reified, compared, joined, negated, occurs, always, namedE, namedC, allowedE, allowedC}
 use Rattle.bmap.specs.Limits.{mostLag}
 use Rattle.bmap.specs.declared.limits.Context.{Context}
-
-pub both-first : (a b : Bool) → both a b ≡ true → a ≡ true
-both-first true b e = refl
-both-first false b e = e
-
-pub both-second : (a b : Bool) → both a b ≡ true → b ≡ true
-both-second true b e = e
-both-second false b e = let z : _≡_ {A = ℕ} 0 1 = cc in absurd (omega arith)
-
-pub all-append : {A : Type 0} (p : A → Bool) (a b : List A) → all p (a ++ b) ≡ both (all p a) (all p b)
-unfolding all
-all-append p [] b = refl
-all-append p (y ∷ a) b = rw (all-append p a b) (regroup (p y) (all p a) (all p b))
-  where
-    regroup : (r s t : Bool) → both r (both s t) ≡ both (both r s) t
-    regroup true s t = refl
-    regroup false s t = refl
 
 module _ (x : Context) (p q : ℕ → Bool) (same : (f : ℕ) → f < x .fluents → p f ≡ q f) where
   two-named : (a b : List ℕ) → all p a ≡ all q a → all p b ≡ all q b → all p (a ++ b) ≡ all q (a ++ b)
@@ -38,14 +22,14 @@ module _ (x : Context) (p q : ℕ → Bool) (same : (f : ℕ) → f < x .fluents
 
     pub same-named-E : (a : Expr) → allowedE x a ≡ true → all p (namedE a) ≡ all q (namedE a)
     same-named-E (constant z) e = refl
-    same-named-E (fluent f t) e = ap (λ (s : Bool). both s true) (same f (ltb-true f (x .fluents) (both-first (ltb f (x .fluents)) (leb t mostLag) e)))
-    same-named-E (two o a b) e = two-named (namedE a) (namedE b) (same-named-E a (both-first (allowedE x a) (allowedE x b) e)) (same-named-E b (both-second (allowedE x a) (allowedE x b) e))
+    same-named-E (fluent f t) e = ap (λ (s : Bool). both s true) (same f (ltb-true f (x .fluents) (both-true (ltb f (x .fluents)) (leb t mostLag) e .0)))
+    same-named-E (two o a b) e = two-named (namedE a) (namedE b) (same-named-E a (both-true (allowedE x a) (allowedE x b) e .0)) (same-named-E b (both-true (allowedE x a) (allowedE x b) e .1))
     same-named-E (one o a) e = same-named-E a e
     same-named-E (reified c) e = same-named c e
 
     pub same-named : (c : Con) → allowedC x c ≡ true → all p (namedC c) ≡ all q (namedC c)
-    same-named (compared o a b) e = two-named (namedE a) (namedE b) (same-named-E a (both-first (allowedE x a) (allowedE x b) e)) (same-named-E b (both-second (allowedE x a) (allowedE x b) e))
-    same-named (joined o a b) e = two-named (namedC a) (namedC b) (same-named a (both-first (allowedC x a) (allowedC x b) e)) (same-named b (both-second (allowedC x a) (allowedC x b) e))
+    same-named (compared o a b) e = two-named (namedE a) (namedE b) (same-named-E a (both-true (allowedE x a) (allowedE x b) e .0)) (same-named-E b (both-true (allowedE x a) (allowedE x b) e .1))
+    same-named (joined o a b) e = two-named (namedC a) (namedC b) (same-named a (both-true (allowedC x a) (allowedC x b) e .0)) (same-named b (both-true (allowedC x a) (allowedC x b) e .1))
     same-named (negated a) e = same-named a e
     same-named (occurs i t) e = refl
     same-named always e = refl

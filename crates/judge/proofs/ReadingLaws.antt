@@ -31,8 +31,8 @@ use Rattle.number.specs.Answer.{valuedOf, truthOf}
 use mir.Syntax.{w32}
 use mir.Val.{toZ, ofZ}
 use lib.Signed.{mag}
-use Rattle.judge.proofs.SignedLaws.{back}
 use Rattle.law.proofs.Agree.{Agree, agree-e, agree-c}
+use Rattle.number.proofs.BackLaws.{back32}
 use Rattle.judge.specs.Told.{Says, Seen, Occurring, conOf, placeOf, asksOf}
 use Rattle.judge.specs.Settings.{setting, settingFrom}
 use Rattle.judge.proofs.ByteLaws.{Constrained}
@@ -77,7 +77,7 @@ pub setting-malformed : (f : ℕ) {r : Evaluated} {m : Meant (Valued ℤ)} → e
 setting-malformed f {r} e q = ap (settingFrom f) (sym (ap evaluated q) ∙ e)
 
 pub setting-number : (f : ℕ) {v : Value} {z : ℤ} → v ≡ number-as.Number z → mag z < 2147483648 → value (some (setting f (toZ w32 (ofZ w32 z)))) ≡ with1 (λ y. value (some (setting f y))) (valuedOf v)
-setting-number f {v} {z} e h = ap (λ (y : ℤ). value (some (setting f y))) (back z h) ∙ sym (ap (λ (u : Value). with1 (λ y. value (some (setting f y))) (valuedOf u)) e)
+setting-number f {v} {z} e h = ap (λ (y : ℤ). value (some (setting f y))) (back32 z h) ∙ sym (ap (λ (u : Value). with1 (λ y. value (some (setting f y))) (valuedOf u)) e)
 
 pub setting-blank : (f : ℕ) {v : Value} → v ≡ number-as.NoValue → no-value ≡ with1 (λ y. value (some (setting f y))) (valuedOf v)
 setting-blank f {v} e = sym (ap (λ (u : Value). with1 (λ y. value (some (setting f y))) (valuedOf u)) e)

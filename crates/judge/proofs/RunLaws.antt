@@ -12,6 +12,7 @@ use lib.ListN.{length, getD, take, drop, set, length-drop}
 use lib.Seq.{getD-drop, drop-drop, take-all, getD-set-same, getD-set-other}
 use borrow.Author.Tests.{eq-eqb, eqb-true}
 use Rattle.bmap.specs.Plain.{both, implies, all, any, numbers}
+use Rattle.bmap.proofs.PlainLaws.{both-false}
 use Rattle.bmap.specs.Domain.{Domain, Names, State, Entry, has, follows, occursIn, entryAt}
 use Rattle.bmap.specs.Sheet.{rows}
 use Rattle.bmap.specs.Judge.{broken, accepted, carries, step, carried}
@@ -55,17 +56,8 @@ module _ (d : Domain) (names : Names) (actions crews : List ℕ) (count : ℕ) (
       let f : follows names e a ≡ true = all-at (follows names e) (d .agents) a (omega arith) o in
       let g : implies true (eqb (getD names a 0) (e .name)) ≡ true = ap (λ (b : Bool). implies b (eqb (getD names a 0) (e .name))) (sym u) ∙ f in
       ap (λ (b : Bool). both b true) (eq-eqb (e .name) (getD names a 0) (sym (eqb-true (getD names a 0) (e .name) g)))
-  named a e h true o false u = no-second (eqb (e .name) (getD names a 0))
-    where
-      no-second : (b : Bool) → both b false ≡ false
-      no-second true = refl
-      no-second false = refl
-  named a e h false o u q = no-second (eqb (e .name) (getD names a 0)) u
-    where
-      no-second : (b u : Bool) → both b (both u false) ≡ false
-      no-second true true = refl
-      no-second true false = refl
-      no-second false u = refl
+  named a e h true o false u = both-false (eqb (e .name) (getD names a 0))
+  named a e h false o u q = rw (both-false u, both-false (eqb (e .name) (getD names a 0)))
 
   pub belonging-is : {mask : ℕ} → mask ≡ unionFrom (joinsAt names actions crews) crews 0 count → Belonging d names mask
   unfolding carries

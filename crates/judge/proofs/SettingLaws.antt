@@ -18,9 +18,9 @@ use Rattle.bmap.specs.Number.{value, no-value, same}
 use Rattle.bmap.specs.Meaning.{History}
 use Rattle.bmap.specs.Domain.{Domain, Names, Law, executable, effect, must}
 use Rattle.bmap.specs.Judge.{fine, fault, Setting, agrees, sets, settled}
+use Rattle.number.proofs.BackLaws.{back32}
 use Rattle.judge.specs.Told.{Says}
 use Rattle.judge.specs.Settings.{setting, settingsOf}
-use Rattle.judge.proofs.SignedLaws.{back}
 use Rattle.judge.proofs.LoopLaws.{stops}
 use Rattle.judge.proofs.CheckLaws.{noLaw, says}
 
@@ -57,7 +57,7 @@ settings-put m f v fs vs p q = rw (add-one m, getD-set-same fs m f 0 p, getD-set
 
 -- a comparison of an element that the machine read
 pub same-back : (z y : ℤ) {t u : Bool} → mag z < 2147483648 → t ≡ same (toZ w32 (ofZ w32 z)) y → t ≡ u → same z y ≡ u
-same-back z y h e q = ap (λ (x : ℤ). same x y) (sym (back z h)) ∙ (sym e ∙ q)
+same-back z y h e q = ap (λ (x : ℤ). same x y) (sym (back32 z h)) ∙ (sym e ∙ q)
 
 -- ---- the effect laws
 

@@ -30,11 +30,3 @@ then-got-inv (refused n) f b e = absurd (let z : _≡_ {A = ℕ} 0 1 = cc in ome
 pub then-refused : {A B : Type 0} (y : Answer A) (f : A → B) (n : ℕ) → then y (λ x. got (f x)) ≡ refused n → y ≡ refused n
 then-refused (got x) f n q = absurd (let z : _≡_ {A = ℕ} 0 1 = cc in omega arith)
 then-refused (refused m) f n q = let z : m ≡ n = cc in ap refused z
-
-pub both-true : (a b : Bool) → both a b ≡ true → (a ≡ true) × (b ≡ true)
-both-true true b e = (refl, e)
-both-true false b e = absurd (let z : _≡_ {A = ℕ} 0 1 = cc in omega arith)
-
-pub both-false : (a : Bool) → both a false ≡ false
-both-false true = refl
-both-false false = refl

@@ -18,7 +18,7 @@ use Rattle.line.specs.Within.{Begins, frameOf}
 use Rattle.line.proofs.Digits.{spelt-most}
 use Rattle.line.proofs.Spelling.{beyond, passed, passed-on, stops, stops-anywhere}
 use Rattle.line.proofs.Lines.{at-feed, ends, front, lines-first}
-use Rattle.line.proofs.Answers.{both-false}
+use Rattle.bmap.proofs.PlainLaws.{both-false}
 use Rattle.line.proofs.HexLaws.{framed-long}
 
 -- of a text's first line: what it decodes to, and how long it is

@@ -11,16 +11,13 @@ use borrow.Author.Tests.{le-leb, lt-leb, eq-eqb, ne-eqb}
 use Rattle.bmap.specs.Limits.{mostPayload}
 use Rattle.bmap.specs.Plain.{both}
 use Rattle.bmap.specs.Store.{standsAt, frameAt}
+use Rattle.bmap.proofs.PlainLaws.{both-false}
 use Rattle.line.specs.Frame.{frameSizeAt}
 
 module _ (s : List ℕ) (at : ℕ) where
   no-frame : standsAt s at ≡ false → none ≡ frameSizeAt s at
   unfolding frameSizeAt frameAt
   no-frame e = rw e refl
-
-  both-false : (a : Bool) → both a false ≡ false
-  both-false true = refl
-  both-false false = refl
 
   pub no-head : length s < at + 2 → none ≡ frameSizeAt s at
   unfolding standsAt

@@ -18,7 +18,8 @@ use Rattle.line.proofs.Lists.{Bytes}
 use Rattle.line.proofs.Digits.{Pair, NoPair, pair-is, pair-back, digit-for-least, two-suc}
 use Rattle.line.proofs.Spelling.{bytes-pair}
 use Rattle.line.proofs.Lines.{after, ends, firstLine, front, lines-first, lines-nonempty, text-first}
-use Rattle.line.proofs.Answers.{both-true, need-got, then-got-inv}
+use Rattle.line.proofs.Answers.{need-got, then-got-inv}
+use Rattle.bmap.proofs.PlainLaws.{both-true}
 
 pub framed-long : (b : List ℕ) → frameSize < length b → framed b ≡ refused 2
 unfolding framed

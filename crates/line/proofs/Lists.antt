@@ -11,6 +11,7 @@ use lib.ListN.{length, getD, take, drop, set, replicate, drop-of-length-le, leng
 use lib.Seq.{drop-cons, take-all, length-take-le, set-at, getD-drop}
 use borrow.Author.Tests.{ltb-true, eqb-true, eqb-false, eq-eqb, ne-eqb}
 use Rattle.bmap.specs.Plain.{both, all}
+use Rattle.bmap.proofs.PlainLaws.{both-true, both-assoc, both-end}
 use Rattle.bmap.specs.Buffer.{padded}
 use Rattle.bmap.specs.Store.{zeros}
 use Rattle.bmap.specs.Theorems.{AreBytes}
@@ -94,14 +95,6 @@ or-zero a b = go (eqb a 0) (eqb b 0) refl refl
     go true false e f = let y : b ≡ 0 → ⊥ = eqb-false b 0 f in ne-eqb (bitOr a b) 0 (λ z. y (omega (arith, high)))
     go false q e f = let x : a ≡ 0 → ⊥ = eqb-false a 0 e in ne-eqb (bitOr a b) 0 (λ z. x (omega (arith, low)))
 
-pub both-assoc : (a b c : Bool) → both a (both b c) ≡ both (both a b) c
-both-assoc true b c = refl
-both-assoc false b c = refl
-
-pub both-end : (a : Bool) → both a true ≡ a
-both-end true = refl
-both-end false = refl
-
 -- the bytes so far are joined, those from i on are still to be asked
 abbrev pub joining : List ℕ → ℕ → ℕ → Bool
 joining s joined i = both (eqb joined 0) (zeros (drop i s))
@@ -114,3 +107,19 @@ module _ (s : List ℕ) (joined i : ℕ) where
   pub join-end : length s ≤ i → joining s joined i ≡ eqb joined 0
   unfolding all
   join-end h = rw (drop-of-length-le s h) (both-end (eqb joined 0))
+
+-- ---- nothing but zeros
+
+pub zeros-replicate : (n : ℕ) → zeros (replicate n 0) ≡ true
+unfolding all
+zeros-replicate zero = refl
+zeros-replicate (suc n) = zeros-replicate n
+
+pub zeros-are : (l : List ℕ) → zeros l ≡ true → l ≡ replicate (length l) 0
+unfolding all
+zeros-are [] h = refl
+zeros-are (x ∷ l) h =
+    let p = both-true (eqb x 0) (zeros l) h in
+    let a : x ≡ 0 = eqb-true x 0 (p .0) in
+    let b = zeros-are l (p .1) in
+    rw a (ap (λ (r : List ℕ). 0 ∷ r) b)

@@ -13,6 +13,7 @@ use mir.Syntax.{Width, w16, w32, w64}
 use mir.Val.{Fits, SFits, hbits, toZ, ofZ}
 use mir.Facts.{sfits-widen, toZ-ofZ, toZ-pos, fits-natAbs}
 use Rattle.bmap.specs.Plain.{both}
+use Rattle.bmap.proofs.PlainLaws.{both-true}
 use Rattle.bmap.specs.Number.{Valued, value, no-value, with1, with2, bounded, unlessZero, operate, change, same, compare, flag, signedWord, bytesOf, bits}
 use Rattle.bmap.specs.declared.Operation.{Operation}
 use Rattle.bmap.specs.declared.Operation.the-variants.{Sum, Difference, Product, Quotient, Remainder}
@@ -162,10 +163,6 @@ alike : (a b : Bool) → (a ≡ true → b ≡ true) → (b ≡ true → a ≡ t
 alike true b f g = sym (f refl)
 alike false true f g = g refl
 alike false false f g = refl
-
-both-true : (p q : Bool) → both p q ≡ true → (p ≡ true) × (q ≡ true)
-both-true true q h = (refl, h)
-both-true false q h = absurd (subst T (sym h) tt)
 
 -- m and n are equal where a and b are, which is: where neither is less
 equal-as : (m n a b : ℕ) → (m ≡ n → a ≡ b) → (a ≡ b → m ≡ n) → eqb m n ≡ both (leb a b) (leb b a)

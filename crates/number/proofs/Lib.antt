@@ -1,2 +1,3 @@
+pub mod BackLaws
 pub mod Laws
 pub mod Theorems

@@ -16,13 +16,10 @@ use Rattle.bmap.specs.Plain.{both, all}
 use Rattle.bmap.specs.Buffer.{padded}
 use Rattle.bmap.specs.Store.{zeros}
 use Rattle.bmap.specs.Session.{sameBytes}
-use Rattle.line.proofs.Lists.{or-zero, both-assoc, both-end}
+use Rattle.bmap.proofs.PlainLaws.{both-true, both-assoc, both-end}
+use Rattle.line.proofs.Lists.{or-zero}
 
 -- ---- tests
-pub both-true : (a b : Bool) → both a b ≡ true → (a ≡ true) × (b ≡ true)
-both-true true b h = (refl, h)
-both-true false b h = absurd (let z : _≡_ {A = ℕ} 0 1 = cc in omega arith)
-
 pub is-false : (b : Bool) → (b ≡ true → ⊥) → false ≡ b
 is-false true h = absurd (h refl)
 is-false false h = refl
@@ -40,20 +37,6 @@ pub take-replicate : (n m a : ℕ) → n ≤ m → take n (replicate m a) ≡ re
 take-replicate zero m a h = refl
 take-replicate (suc n) zero a h = absurd (not-suc-le-zero h)
 take-replicate (suc n) (suc m) a h = ap (λ (l : List ℕ). a ∷ l) (take-replicate n m a (le-of-suc-le-suc h))
-
-pub zeros-replicate : (n : ℕ) → zeros (replicate n 0) ≡ true
-unfolding all
-zeros-replicate zero = refl
-zeros-replicate (suc n) = zeros-replicate n
-
-pub zeros-are : (l : List ℕ) → zeros l ≡ true → l ≡ replicate (length l) 0
-unfolding all
-zeros-are [] h = refl
-zeros-are (x ∷ l) h =
-    let p = both-true (eqb x 0) (zeros l) h in
-    let a : x ≡ 0 = eqb-true x 0 (p .0) in
-    let b = zeros-are l (p .1) in
-    rw a (ap (λ (r : List ℕ). 0 ∷ r) b)
 
 -- ---- zeros after a list
 pub length-padded : (n : ℕ) (l : List ℕ) → length l ≤ n → length (padded n l) ≡ n

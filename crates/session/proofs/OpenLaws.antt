@@ -16,7 +16,9 @@ use Rattle.bmap.specs.Store.{zeros}
 use Rattle.bmap.specs.Session.{Edit, Model, orElse, standingSheet, replayed, loggedAll, editsFrom, modelOf, layout, sameBytes, sameSession, isGot, replays, isOpen}
 use Rattle.bmap.specs.declared.session.Session.{Session}
 use Rattle.session.specs.Log.{Sound, Holds, Reached}
-use Rattle.session.proofs.ListLaws.{both-true, is-false, same-refl, same-eq, zeros-are, zeros-replicate}
+use Rattle.session.proofs.ListLaws.{is-false, same-refl, same-eq}
+use Rattle.bmap.proofs.PlainLaws.{both-true}
+use Rattle.line.proofs.Lists.{zeros-are, zeros-replicate}
 use Rattle.session.proofs.SheetLaws.{page}
 use Rattle.session.proofs.LogLaws.{length-edits, edits-upto, length-edits-logged, sound-sheet, sound-prefix}
 

@@ -17,13 +17,11 @@ use Rattle.bmap.specs.Buffer.{padded}
 use Rattle.bmap.specs.Sheet.{rows}
 use Rattle.bmap.specs.Session.{Edit, enter, strike, amend, edited, replayed}
 use Rattle.session.specs.Log.{laid}
-use Rattle.session.proofs.ListLaws.{both-true, laid-mid}
+use Rattle.session.proofs.ListLaws.{laid-mid}
+use Rattle.bmap.proofs.PlainLaws.{both-true, flat-one}
+use Rattle.line.proofs.Answers.{need-got}
 
 -- ---- answers
-pub need-got : {A : Type 0} (t : Bool) (n : ℕ) (r : Answer A) (a : A) → need t n r ≡ got a → (t ≡ true) × (r ≡ got a)
-need-got true n r a h = (refl, h)
-need-got false n r a h = absurd (let z : _≡_ {A = ℕ} 0 1 = cc in omega arith)
-
 pub got-inj : {A : Type 0} (a b : A) → got a ≡ got b → a ≡ b
 got-inj a b h = cc
 
@@ -108,10 +106,6 @@ zeros k = replicate k 0
 
 abbrev pub page : List Names → List ℕ
 page ss = padded 1024 (flat ss)
-
-flat-one : (xs : List Names) (y : Names) → flat (xs ++ (y ∷ [])) ≡ flat xs ++ y
-unfolding flat
-flat-one xs y = flat-append xs (y ∷ []) ∙ ap (λ (l : List ℕ). flat xs ++ l) (append-nil y)
 
 flat-mid : (xs : List Names) (y : Names) (ys : List Names) → flat (xs ++ (y ∷ ys)) ≡ flat xs ++ (y ++ flat ys)
 unfolding flat

@@ -18,7 +18,9 @@ use Rattle.bmap.specs.Session.{Edit, enter, strike, amend, edited, logged}
 use Rattle.session.specs.declared.log.Place.{Place}
 use Rattle.session.specs.declared.log.Place.the-variants.{Nowhere, Step}
 use Rattle.session.specs.Log.{laid, placeOf, targetOf}
-use Rattle.session.proofs.ListLaws.{both-true, never, zeros-are, zeros-replicate, take-replicate}
+use Rattle.session.proofs.ListLaws.{never, take-replicate}
+use Rattle.bmap.proofs.PlainLaws.{both-true}
+use Rattle.line.proofs.Lists.{zeros-are, zeros-replicate}
 use Rattle.session.proofs.SheetLaws.{Fits, page, enter-got, strike-got, amend-got, enter-asks, strike-asks, amend-asks, enter-page, strike-page, amend-page}
 use Rattle.session.proofs.LogLaws.{editAt}
 
@@ -48,8 +50,8 @@ nowhere : (a : Bool) → if-else a Nowhere Nowhere ≡ Nowhere
 nowhere true = refl
 nowhere false = refl
 
-both-false : (a b : Bool) → a ≡ true → b ≡ true → both a b ≡ false → ⊥
-both-false a b p q h = never b q (sym (ap (λ (t : Bool). both t b) p) ∙ h)
+both-denied : (a b : Bool) → a ≡ true → b ≡ true → both a b ≡ false → ⊥
+both-denied a b p q h = never b q (sym (ap (λ (t : Bool). both t b) p) ∙ h)
 
 module _ (n : ℕ) (few : n ≤ 16) (k m : ℕ) (rest : List ℕ) (len : length rest ≡ 16) where
   abbrev entry : List ℕ
@@ -184,7 +186,7 @@ module _ (n : ℕ) (few : n ≤ 16) (k m : ℕ) (rest : List ℕ) (len : length 
           let pad : rest ≡ padded 16 names = cc in
           let asks = enter-asks n names s t (sym (ap (λ (x : Edit). edited n x s) (edit-1 e)) ∙ d) in
           let l : both (eqb m 0) (ltb (length s) 64) ≡ true = rw (eq-eqb m 0 z, lt-ltb (length s) 64 (asks .1)) in
-          both-false (zeros (drop n rest)) (both (eqb m 0) (ltb (length s) 64)) (names-padded pad) l (place-none _ _ _ (sym (target-1 (length s) e) ∙ h))
+          both-denied (zeros (drop n rest)) (both (eqb m 0) (ltb (length s) 64)) (names-padded pad) l (place-none _ _ _ (sym (target-1 (length s) e) ∙ h))
 
       stuck-3 : k ≡ 3 → ⊥
       unfolding logged
@@ -194,7 +196,7 @@ module _ (n : ℕ) (few : n ≤ 16) (k m : ℕ) (rest : List ℕ) (len : length 
           let asks = amend-asks n m names s t (sym (ap (λ (x : Edit). edited n x s) (edit-3 e)) ∙ d) in
           let p : 1 ≤ m = asks .1 in
           let l : both (ltb 0 m) (leb m (length s)) ≡ true = rw (lt-ltb 0 m (omega arith), le-leb m (length s) (asks .2)) in
-          both-false (zeros (drop n rest)) (both (ltb 0 m) (leb m (length s))) (names-padded pad) l (place-none _ _ _ (sym (target-3 (length s) e) ∙ h))
+          both-denied (zeros (drop n rest)) (both (ltb 0 m) (leb m (length s))) (names-padded pad) l (place-none _ _ _ (sym (target-3 (length s) e) ∙ h))
 
       stuck-2 : (k ≡ 1 → ⊥) → (k ≡ 3 → ⊥) → ⊥
       unfolding logged
@@ -205,7 +207,7 @@ module _ (n : ℕ) (few : n ≤ 16) (k m : ℕ) (rest : List ℕ) (len : length 
           let pad : rest ≡ replicate 16 0 = cc in
           let asks = strike-asks n s t (sym (ap (λ (x : Edit). edited n x s) (edit-2 x y)) ∙ d) in
           let l : both (eqb m 0) (ltb 0 (length s)) ≡ true = rw (eq-eqb m 0 z, lt-ltb 0 (length s) (asks .0)) in
-          both-false (zeros rest) (both (eqb m 0) (ltb 0 (length s))) (ap zeros pad ∙ zeros-replicate 16) l (place-none _ _ _ (sym (target-2 (length s) e) ∙ h))
+          both-denied (zeros rest) (both (eqb m 0) (ltb 0 (length s))) (ap zeros pad ∙ zeros-replicate 16) l (place-none _ _ _ (sym (target-2 (length s) e) ∙ h))
 
       stuck-entry : ⊥
       stuck-entry = by-kind (eqb k 1) (eqb k 3) refl refl

@@ -10,6 +10,7 @@ use lib.ListN.{length, getD, take, drop, set, length-drop, length-append}
 use lib.Seq.{drop-cons, take-suc, length-take-le, set-at, take-at, getD-drop}
 use borrow.Author.Tests.{lt-ltb, le-ltb, le-leb, lt-leb, eq-eqb, ne-eqb}
 use Rattle.bmap.specs.Plain.{flat}
+use Rattle.bmap.proofs.PlainLaws.{flat-one}
 use Rattle.bmap.specs.Limits.{mostSteps, sheetSize}
 use Rattle.bmap.specs.Refusal.{refused}
 use Rattle.bmap.specs.Line.{linesOf, decode, stored}
@@ -104,11 +105,6 @@ pub record Done (agents : ℕ) (text rest buffer : List ℕ) (steps used : ℕ) 
   pub names : flat done ≡ take used buffer
   pub goes : outcome agents text ≡ stepsFrom agents done (map decode (linesOf rest))
 
-flat-snoc : (l : List Names) (x : Names) → flat (l ++ (x ∷ [])) ≡ flat l ++ x
-unfolding flat
-flat-snoc [] x = append-nil x
-flat-snoc (a ∷ l) x = rw (flat-snoc l x) (sym (append-assoc a (flat l) x))
-
 module _ (agents : ℕ) (text : List ℕ) where
   pub done-start : (buffer : List ℕ) → Done agents text text buffer 0 0
   unfolding flat
@@ -143,7 +139,7 @@ module _ (agents : ℕ) (text : List ℕ) where
         record {
           done = d .done ++ (x ∷ []);
           count = length-append (d .done) (x ∷ []) ∙ omega (arith, d .count);
-          names = flat-snoc (d .done) x ∙ ap (λ (y : List ℕ). y ++ x) (d .names) ∙ sym cut;
+          names = flat-one (d .done) x ∙ ap (λ (y : List ℕ). y ++ x) (d .names) ∙ sym cut;
           goes = d .goes ∙ rw (s .lines, d .count, s .is, part-to-end rest k) refl;
         }
 

@@ -1,4 +1,4 @@
-use Rattle.domain.proofs.PayloadLaws.{back}
+use Rattle.number.proofs.BackLaws.{back16}
 use Rattle.bmap.specs.Number.{signedWord}
 use Prim.Native.Nat.{ℕ}
 use mathlib.Core.Path.{_∙_, ap}
@@ -19,7 +19,7 @@ signed-word-requires : tie.Need-signed-word-requires
 signed-word-requires c κs = search needs
 
 returns : tie.Need-returns
-returns c = back (c .signed-word .ok) ∙ c .signed-word .ensures ∙ ap (λ (h : ℕ). signedWord h (c .before .byte-at2 .result)) (c .before .before .byte-at .ensures) ∙ ap (signedWord _) (c .before .byte-at2 .ensures)
+returns c = back16 _ (c .signed-word .ok) ∙ c .signed-word .ensures ∙ ap (λ (h : ℕ). signedWord h (c .before .byte-at2 .result)) (c .before .before .byte-at .ensures) ∙ ap (signedWord _) (c .before .byte-at2 .ensures)
 
 pub value-at-spec : {M : Type 1} → statement M
 value-at-spec =

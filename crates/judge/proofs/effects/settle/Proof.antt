@@ -18,10 +18,10 @@ use Rattle.bmap.specs.Number.{value}
 use Rattle.bmap.specs.Domain.{Domain, Names}
 use Rattle.bmap.specs.Meaning.{History}
 use Rattle.bmap.specs.Judge.{Checked, fine, fault, Setting, agrees, settled}
+use Rattle.number.proofs.BackLaws.{back32}
 use Rattle.judge.specs.Answer.{wantsOf}
 use Rattle.judge.specs.Settings.{setting, settingsOf}
 use Rattle.judge.specs.Told.{Lawful, Within, Occurring, Seen, lawNumber}
-use Rattle.judge.proofs.SignedLaws.{back}
 use Rattle.judge.proofs.CheckLaws.{run-starts, run-ends, run-law, run-says}
 use Rattle.judge.proofs.SettingLaws.{settings-none, settings-clash, settings-same, settings-other, settings-put, same-back, sets-none, settled-none, settled-idle, settled-blank, settled-clash, settled-leaves, settled-puts}
 use Rattle.judge.proofs.effects.settle.Statement.{statement}
@@ -149,7 +149,7 @@ laws-again c = let s = c .before .before .before .before .args in let l = c .bef
         λ d h n names lawful within occurring seen. c .before .before .before .laws .inv .1 .1 d h n names lawful within occurring seen
             ∙ settled-puts d h (s .j) names (d .laws) l (settingsOf m fs vs) (run-law d _ n 0xA6 (s .from) (s .to) l lawful within (c .before .before .laws-test .taken))
             (sym (c .before .wanted .ensures d h (lawNumber d l) names (lawful .long) ((run-says d _ n 0xA6 (s .from) (s .to) l lawful within (c .before .before .laws-test .taken))) occurring seen)
-            ∙ (ap wantsOf (w .1 .given .1) ∙ ap (λ (y : ℤ). value (some (setting f y))) (sym (back (w .1 .given .0 .1 .0) (w .2 .given .1 .0 .1)))))
+            ∙ (ap wantsOf (w .1 .given .1) ∙ ap (λ (y : ℤ). value (some (setting f y))) (sym (back32 (w .1 .given .0 .1 .0) (w .2 .given .1 .0 .1)))))
             (w .3 .inv .1 .1 ∙ settings-none _ _ _ (w .4 .left)) put,
       ),
     ))
@@ -185,7 +185,7 @@ answer c = let s = c .before .before .args in let l = c .before .laws .l in ⊎-
           c .before .laws .inv .1 .1 d h n names lawful within occurring seen
           ∙ (settled-clash d h (s .j) names (d .laws) l _ (run-law d _ n 0xA6 (s .from) (s .to) l lawful within (w .0 .taken))
           (sym (w .1 .ensures d h (lawNumber d l) names (lawful .long) ((run-says d _ n 0xA6 (s .from) (s .to) l lawful within (w .0 .taken))) occurring seen)
-          ∙ (ap wantsOf (w .3 .given .1) ∙ ap (λ (y : ℤ). value (some (setting (w .3 .given .0 .0) y))) (sym (back (w .3 .given .0 .1 .0) (w .4 .given .1 .0 .1)))))
+          ∙ (ap wantsOf (w .3 .given .1) ∙ ap (λ (y : ℤ). value (some (setting (w .3 .given .0 .0) y))) (sym (back32 (w .3 .given .0 .1 .0) (w .4 .given .1 .0 .1)))))
           (w .5 .inv .1 .1 ∙ settings-clash _ _ _ _ (w .5 .i) (w .6 .taken) (w .8 .taken) (same-back (getD (c .before .laws .values) (w .5 .i - 1) (pos 0)) _ (w .9 .given) (w .10 .ensures) (not-true _ (w .11 .taken))))
           ∙ ap (fault 4) (sym (w .12))),
     ))

@@ -6,12 +6,12 @@ use borrow.Author.Needs.{needs}
 use lib.IntN.{ℤ, pos}
 use lib.ListN.{length, getD}
 use Rattle.bmap.specs.Limits.{mostFluents}
+use Rattle.number.proofs.BackLaws.{back32}
 use Rattle.judge.specs.States.{stateAt}
 use Rattle.judge.specs.Settings.{settingsOf}
 use Rattle.judge.specs.Landing.{Laid}
 use Rattle.judge.proofs.LandingLaws.{laid-none, laid-more}
 use lib.ListN.{length-set}
-use Rattle.judge.proofs.SignedLaws.{back}
 use Rattle.judge.proofs.landing.new_levels.Statement.{statement}
 use Rattle.judge.proofs.landing.new_levels.Tie as tie
 
@@ -50,7 +50,7 @@ loop-again c = let s = c .before .before .before .before .before .before .before
   omega arith,
   (
     ap length (c .put .ensures) ∙ simp length-set (c .before .before .before .before .before .loop .inv .1 .0),
-    λ f p. ap (λ (l : List ℤ). getD l f (pos 0)) (c .put .ensures) ∙ laid-more (s .w) i (c .before .before .before .before .before .loop .new) (s .fluents .now) (s .values .now) (stateAt (s .w) (s .levels .now) (s .j)) (omega (arith, c .before .before .before .before .before .before .before .pre .1 .0)) refl (back (getD (s .values .now) i (pos 0)) (c .before .put-arg2 .given)) (c .before .before .before .before .before .loop .inv .1 .1) f p,
+    λ f p. ap (λ (l : List ℤ). getD l f (pos 0)) (c .put .ensures) ∙ laid-more (s .w) i (c .before .before .before .before .before .loop .new) (s .fluents .now) (s .values .now) (stateAt (s .w) (s .levels .now) (s .j)) (omega (arith, c .before .before .before .before .before .before .before .pre .1 .0)) refl (back32 (getD (s .values .now) i (pos 0)) (c .before .put-arg2 .given)) (c .before .before .before .before .before .loop .inv .1 .1) f p,
   ),
 )
 

@@ -5,8 +5,8 @@ use borrow.Author.Needs.{needs}
 use lib.IntN.{pos}
 use lib.ListN.{length, getD}
 use Rattle.bmap.specs.Limits.{mostFluents}
+use Rattle.number.proofs.BackLaws.{widens16, widened16}
 use Rattle.judge.proofs.LandingLaws.{filled-more}
-use Rattle.judge.proofs.SignedLaws.{widened, widened-back}
 use lib.ListN.{length-set}
 use Rattle.judge.proofs.landing.old_levels.Statement.{statement}
 use Rattle.judge.proofs.landing.old_levels.Tie as tie
@@ -33,7 +33,7 @@ element-copy-out-old : tie.Need-element-copy-out-old Inv-loop μ-loop
 element-copy-out-old c = search needs
 
 cast-old : tie.Need-cast-old Inv-loop μ-loop
-cast-old c = let s = c .before .before .before .args in widened (getD (s .levels .now) (mostFluents * s .j + c .before .before .loop .f) (pos 0)) (c .old .given)
+cast-old c = let s = c .before .before .before .args in widens16 (getD (s .levels .now) (mostFluents * s .j + c .before .before .loop .f) (pos 0)) (c .old .given)
 
 mul-old-3 : tie.Need-mul-old-3 Inv-loop μ-loop
 mul-old-3 c = search needs
@@ -53,7 +53,7 @@ loop-again c = let s = c .before .before .before .args in (
   (
     simp length-set (c .before .before .loop .inv .1 .0),
     filled-more (pos 0) (λ k. getD (s .levels .now) (mostFluents * s .j + k) (pos 0)) (c .before .before .loop .old) (c .before .before .loop .f) (omega arith) (c .before .before .loop .inv .1 .1)
-        (widened-back (getD (s .levels .now) (mostFluents * s .j + c .before .before .loop .f) (pos 0)) (c .old .given)),
+        (widened16 (getD (s .levels .now) (mostFluents * s .j + c .before .before .loop .f) (pos 0)) (c .old .given)),
   ),
 )
 

@@ -12,9 +12,9 @@ use Rattle.bmap.specs.Limits.{mostFluents, levelsSize}
 use Rattle.bmap.specs.Domain.{Domain, State}
 use Rattle.bmap.specs.Judge.{eachFrom, inRange, Setting, stateAfter}
 use mathlib.Core.List.{map}
+use Rattle.number.proofs.BackLaws.{back16}
 use Rattle.judge.specs.States.{stateAt}
 use Rattle.judge.specs.Landing.{Ranged, Laid}
-use Rattle.judge.proofs.SignedLaws.{back16}
 use Rattle.judge.proofs.LoopLaws.{ends, stops, on, each-on, each-stop, each-none}
 use Rattle.judge.proofs.StateLaws.{row-none, row-more, row-whole}
 use Rattle.judge.proofs.LandingLaws.{noFluent, levelThen, range-is, ranged-fine, ranged-fault, fit-told, unfit-told}

@@ -5,8 +5,8 @@ use borrow.Author.Needs.{needs}
 use lib.IntN.{pos}
 use lib.ListN.{length, getD, drop}
 use lib.Seq.{paste, paste-zero}
+use Rattle.number.proofs.BackLaws.{back16}
 use Rattle.judge.proofs.StateLaws.{copy-more}
-use Rattle.judge.proofs.SignedLaws.{back16}
 use lib.ListN.{length-set}
 use Rattle.judge.proofs.states.copy_levels.Statement.{statement}
 use Rattle.judge.proofs.states.copy_levels.Tie as tie

@@ -1,4 +1,5 @@
-//! Both programs on the same inputs in one run: calls a second, and the ratio of the proved library to the second judge.
+//! Both programs on the same inputs in one run: calls a second, and the ratio of the proved library to the second judge;
+//! for verdicts also to the second judge with its laws as trees.
 //! Each figure is the best of several short runs, which other work on the machine disturbs least; the runs of the two
 //! take turns.
 
@@ -11,7 +12,7 @@ use std::hint::black_box;
 use std::time::{Duration, Instant};
 use waroth_reference::generate::draft::sheet_text;
 use waroth_reference::generate::{random::Random, sheets, Answer};
-use waroth_reference::judge::{Verdict, LEVELS};
+use waroth_reference::judge::{judge_by_trees, Verdict, LEVELS};
 use waroth_reference::sheet::SHEET_BYTES;
 use waroth_reference::store::STORE_BYTES;
 use waroth_reference::{judge, read_domain, read_sheet};
@@ -31,32 +32,50 @@ fn rate(call: &mut dyn FnMut()) -> f64 {
     f64::from(calls) / start.elapsed().as_secs_f64()
 }
 
-fn compared(name: &str, mut library: impl FnMut(), mut peer: impl FnMut()) {
-    let mut best = [0f64; 2];
+/// The best rate of each call; their runs take turns.
+fn best<const N: usize>(mut calls: [&mut dyn FnMut(); N]) -> [f64; N] {
+    let mut best = [0f64; N];
     for _ in 0..RUNS {
-        best[0] = best[0].max(rate(&mut library));
-        best[1] = best[1].max(rate(&mut peer));
+        for (best, call) in best.iter_mut().zip(&mut calls) {
+            *best = best.max(rate(call));
+        }
     }
-    let [library, peer] = best;
+    best
+}
+
+fn compared(name: &str, mut library: impl FnMut(), mut peer: impl FnMut()) {
+    let [library, peer] = best([&mut library, &mut peer]);
     let ratio = library / peer;
     println!("{name:42} {library:12.0} {peer:12.0} {ratio:8.2}");
 }
 
 fn verdicts(input: &Input) {
     let (store, sheet) = (input.draft.store(), &input.sheet);
-    let mut levels = vec![0; LEVELS];
-    assert_eq!(judge(&store, sheet, &mut levels), Ok(Verdict::Accepted));
-    let answer = desk::judge(&store, sheet, &mut levels);
+    let mut levels = [(); 3].map(|()| vec![0; LEVELS]);
+    let [ours, compiled, walked] = &mut levels;
+    let accepted = Ok(Verdict::Accepted);
+    assert_eq!(judge(&store, sheet, compiled), accepted);
+    assert_eq!(judge_by_trees(&store, sheet, walked), accepted);
+    let answer = desk::judge(&store, sheet, ours);
     assert_eq!(answer, Answer::Verdict(Verdict::Accepted));
-    let mut others = levels.clone();
-    compared(
-        &format!("verdicts: {}", input.name),
-        || {
-            black_box(desk::judge(black_box(&store), sheet, &mut levels));
+    let [library, second, trees] = best([
+        &mut || {
+            black_box(desk::judge(black_box(&store), sheet, ours));
         },
-        || {
-            let _ = black_box(judge(black_box(&store), sheet, &mut others));
+        &mut || {
+            let _ = black_box(judge(black_box(&store), sheet, compiled));
         },
+        &mut || {
+            let _ = black_box(judge_by_trees(black_box(&store), sheet, walked));
+        },
+    ]);
+    assert!(
+        levels[0] == levels[1] && levels[1] == levels[2],
+        "the levels differ"
+    );
+    let (name, ratio, plain) = (input.name, library / second, library / trees);
+    println!(
+        "verdicts: {name:32} {library:12.0} {second:12.0} {ratio:8.2} {trees:12.0} {plain:8.2}"
     );
 }
 
@@ -121,7 +140,10 @@ fn edits() {
 }
 
 fn main() {
-    println!("{:42} {:>12} {:>12} {:>8}", "a second", "library", "second", "ratio");
+    println!(
+        "{:42} {:>12} {:>12} {:>8} {:>12} {:>8}",
+        "a second", "library", "second", "ratio", "by trees", "ratio"
+    );
     let full = inputs::full();
     for input in [inputs::pool(), inputs::deep()] {
         verdicts(&input);

@@ -1,9 +1,10 @@
 //! A domain, built frame after frame with all of the domain reader's checks
 //! that look at more than one line's form.
 
-use crate::law::{Nowhere, Op, Parser, Scope, Target};
+use crate::law::{Code, Moment, Nowhere, Op, Parser, Scope, Target};
 use crate::number;
 use crate::refusal;
+use crate::tree::Tree;
 use std::ops::Range;
 
 pub const AGENTS: u8 = 0xA1;
@@ -45,7 +46,8 @@ pub struct Law {
 }
 
 /// A domain, finished once [`Domain::finish`] has agreed. With the target
-/// `Vec<Op>` its laws can be evaluated, with `Nowhere` it is only checked.
+/// `Vec<Op>` or `Vec<Tree>` its laws can be evaluated, with `Nowhere` it is only
+/// checked.
 pub struct Domain<T = Vec<Op>> {
     agents: usize,
     fluents: [Fluent; Domain::MAX_FLUENTS],
@@ -77,15 +79,26 @@ impl Domain {
         let most = Domain::MAX_LAWS * crate::line::MAX_PAYLOAD;
         Domain::with(Vec::with_capacity(store_bytes.min(most)))
     }
+}
 
-    pub fn constraint(&self, law: usize) -> &[Op] {
+impl Domain<Vec<Tree>> {
+    /// A domain to be filled whose laws are kept as trees.
+    pub fn of_trees() -> Self {
+        Domain::with(Vec::new())
+    }
+}
+
+impl<T: Code> Domain<T> {
+    #[inline]
+    pub fn constraint(&self, law: usize, at: &Moment) -> Option<i64> {
         let law = &self.laws[law];
-        &self.code[law.start as usize..law.middle as usize]
+        self.code.value(law.start, law.middle, at)
     }
 
-    pub fn expression(&self, law: usize) -> &[Op] {
+    #[inline]
+    pub fn expression(&self, law: usize, at: &Moment) -> Option<i64> {
         let law = &self.laws[law];
-        &self.code[law.middle as usize..law.end as usize]
+        self.code.value(law.middle, law.end, at)
     }
 }
 

@@ -12,6 +12,7 @@ pub mod refusal;
 pub mod session;
 pub mod sheet;
 pub mod store;
+pub mod tree;
 
 pub use domain::Domain;
 pub use judge::{judge, Verdict};

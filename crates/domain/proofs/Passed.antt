@@ -11,9 +11,9 @@ use borrow.Author.Tests.{ltb-true, leb-true, eqb-true, eqb-false}
 use Rattle.bmap.specs.Plain.{both, if-else}
 use Rattle.bmap.specs.Refusal.{Answer, got, need, known, then}
 use Rattle.bmap.specs.Line.{Frame}
-use Rattle.bmap.specs.Code.{Parsed, parseE, parseC}
+use Rattle.bmap.specs.Code.{parseE, parseC}
 use Rattle.bmap.specs.Domain.{Entry, Law, executable, effect, must, Scope, static, concurrency, goal}
-use Rattle.bmap.specs.Payload.{Item, agents, fluent, knowledge, entry, law, byte, only, agentsFit, fluentFits, knowledgeFits, entryFits, fluentIn, knowledgeIn, entryIn, treeIn, last, below, conIn, exprIn, context, executableIn, effectIn, mustIn, lawIn, lawItem, itemIn}
+use Rattle.bmap.specs.Payload.{Item, agents, fluent, knowledge, entry, law, byte, only, agentsFit, fluentFits, knowledgeFits, entryFits, fluentIn, knowledgeIn, entryIn, last, below, conIn, exprIn, context, executableIn, effectIn, mustIn, lawIn, lawItem, itemIn}
 use Rattle.bmap.specs.Accept.{inOrder, room, fresh, executes}
 use Rattle.bmap.specs.declared.limits.Counts.{Counts}
 use Rattle.bmap.proofs.PlainLaws.{both-true}

@@ -12,7 +12,6 @@ use lib.ListN.{length, set}
 use lib.Signed.{leZ, mag}
 use mir.Syntax.{w16}
 use mir.Val.{toZ, ofZ}
-use mir.Facts.{toZ-ofZ}
 use borrow.Author.Tests.{lt-ltb, le-ltb, le-leb, eq-eqb, ne-eqb}
 use Rattle.bmap.specs.Payload.{byte, wordAt, fluentIn, maskFits, agentsFit, fluentFits, knowledgeFits, entryFits}
 use Rattle.bmap.specs.declared.limits.Counts.{Counts}

@@ -6,11 +6,11 @@ use mathlib.Core.Path.{_≡_, refl, sym, ap, subst, _∙_}
 use mathlib.Core.Bool.{Bool, true, false}
 use mathlib.Core.List.{List, [], _∷_, _++_, append-assoc, map}
 use mathlib.Core.Option.{Option, none, some}
-use lib.Dec.{eqb, leb}
+use lib.Dec.{leb}
 use lib.ListN.{length, getD, take, drop, replicate, length-append, length-replicate, take-append-drop}
 use lib.Seq.{take-append-seam, drop-append-seam, drop-append-add, getD-append-seam, getD-append-add, drop-cons, drop-drop}
-use borrow.Author.Tests.{leb-true, leb-false, le-leb, eqb-true, ne-eqb}
-use Rattle.bmap.specs.Plain.{both, if-else, maybe, all, flat}
+use borrow.Author.Tests.{leb-true, leb-false, le-leb, ne-eqb}
+use Rattle.bmap.specs.Plain.{if-else, maybe, flat}
 use Rattle.bmap.specs.Refusal.{Answer, got, refused, then}
 use Rattle.bmap.specs.Line.{Frame, Line, stored, linesOf, decode, lineFor}
 use Rattle.bmap.specs.Domain.{Domain}

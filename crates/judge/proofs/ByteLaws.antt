@@ -13,10 +13,10 @@ use borrow.Author.Tests.{eqb-true, ltb-true}
 use Rattle.bmap.specs.Plain.{if-else}
 use Rattle.bmap.specs.Limits.{mostDepth}
 use Rattle.bmap.specs.Tree.{Expr, Con, allowedE, allowedC}
-use Rattle.bmap.specs.Code.{Parsed, parseE, parseC}
+use Rattle.bmap.specs.Code.{parseE, parseC}
 use Rattle.bmap.specs.Domain.{Law, executable, effect, must, Scope, static, concurrency, goal}
-use Rattle.bmap.specs.Payload.{only, treeIn, last, context, conIn, exprIn, below, executableIn, effectIn, asks, mustIn, lawIn}
-use Rattle.bmap.proofs.PayloadLaws.{only-some, last-some, Taken, taken-some}
+use Rattle.bmap.specs.Payload.{last, context, conIn, exprIn, below, executableIn, effectIn, asks, mustIn, lawIn}
+use Rattle.bmap.proofs.PayloadLaws.{only-some, last-some, taken-some}
 use Rattle.bmap.specs.declared.limits.Counts.{Counts}
 use Rattle.law.proofs.Used.{used-c}
 use Rattle.judge.specs.Told.{scopeKind}

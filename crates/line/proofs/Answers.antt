@@ -3,7 +3,6 @@ use Prim.Native.Nat.{ℕ}
 use native.Mathlib.Omega.{arith}
 use mathlib.Core.Path.{_≡_, refl, ap}
 use mathlib.Core.Bool.{Bool, true, false}
-use Rattle.bmap.specs.Plain.{both}
 use Rattle.bmap.specs.Refusal.{Answer, got, refused, need, then}
 
 module _ {A B C : Type 0} where

@@ -2,14 +2,13 @@
 use Prim.Native.Nat.{ℕ, suc, _+_, _≤_, _<_}
 use native.Mathlib.Omega.{arith}
 use mathlib.Core.Path.{_≡_, refl}
-use mathlib.Core.Bool.{Bool, true, false}
+use mathlib.Core.Bool.{true, false}
 use mathlib.Core.Option.{none, some}
 use mathlib.Core.List.{List}
 use lib.ListN.{length, getD, take, drop, length-drop}
 use lib.Seq.{length-take-le}
 use borrow.Author.Tests.{le-leb, lt-leb, eq-eqb, ne-eqb}
 use Rattle.bmap.specs.Limits.{mostPayload}
-use Rattle.bmap.specs.Plain.{both}
 use Rattle.bmap.specs.Store.{standsAt, frameAt}
 use Rattle.bmap.proofs.PlainLaws.{both-false}
 use Rattle.line.specs.Frame.{frameSizeAt}

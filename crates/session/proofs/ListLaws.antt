@@ -12,9 +12,8 @@ use lib.Bits.{bitOr, bitXor, xor-self, xor-add-and, and-le-l, and-le-r}
 use lib.ListN.{length, getD, take, drop, set, replicate, length-append, length-replicate, replicate-append-replicate, length-set, drop-of-length-le}
 use lib.Seq.{take-length, take-at, drop-at, drop-drop, drop-cons, length-take-le, paste, take-suc-set, length-paste, take-paste}
 use borrow.Author.Tests.{eq-eqb, ne-eqb, eqb-true, eqb-false}
-use Rattle.bmap.specs.Plain.{both, all}
+use Rattle.bmap.specs.Plain.{both}
 use Rattle.bmap.specs.Buffer.{padded}
-use Rattle.bmap.specs.Store.{zeros}
 use Rattle.bmap.specs.Session.{sameBytes}
 use Rattle.bmap.proofs.PlainLaws.{both-true, both-assoc, both-end}
 use Rattle.line.proofs.Lists.{or-zero}

@@ -14,7 +14,8 @@ use Rattle.bmap.specs.Domain.{Names}
 use Rattle.bmap.specs.Buffer.{padded}
 use Rattle.bmap.specs.Session.{Edit, enter, strike, amend, Model, orElse, standingSheet, edited, edit, moved, undo, redo, replayed, Call, editing, undoing, redoing, judging, turned, turn, after, logged, loggedAll, editsFrom, modelOf, layout, isGot, replays, isOpen}
 use Rattle.bmap.specs.declared.session.Session.{Session}
-use Rattle.session.proofs.SheetLaws.{need-got, got-inj, enter-asks, amend-asks, one-more, prefix-got}
+use Rattle.line.proofs.Answers.{need-got}
+use Rattle.session.proofs.SheetLaws.{got-inj, enter-asks, amend-asks, one-more, prefix-got}
 use Rattle.session.proofs.LogLaws.{editAt, Short, AllShort, length-logged, length-all, logged-append}
 use Rattle.session.proofs.OpenLaws.{Open, is-open-when, opens, same-session, kept, every, every-edit, agents-kept, count-standing, count-undone}
 use Rattle.session.proofs.CallLaws.{kept-is}

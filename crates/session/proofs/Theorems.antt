@@ -26,7 +26,8 @@ use Rattle.session.specs.declared.Outcome.the-variants.{Done, Refused}
 use Rattle.session.specs.declared.Change.{Change}
 use Rattle.session.specs.Calls.{answerOf, changedOf, leaves}
 use Rattle.bmap.specs.Series.{Called, calledBy, called, sessionAfter, repliesOf}
-use Rattle.session.proofs.SheetLaws.{need-got, got-inj, one-more, prefix-got}
+use Rattle.line.proofs.Answers.{need-got}
+use Rattle.session.proofs.SheetLaws.{got-inj, one-more, prefix-got}
 use Rattle.session.proofs.OpenLaws.{every}
 use Rattle.session.proofs.CallLaws.{layout-of}
 use Rattle.session.proofs.ModelLaws.{Reachable, stands, added, edit-got, after-keeps, turn-keeps, nothing-done, model-back, layout-opens, open-reachable}

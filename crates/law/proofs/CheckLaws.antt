@@ -1,11 +1,13 @@
 -- The checker's answer for a tree, by its answers for the operands.
 use mathlib.Core.Path.{_≡_, refl, sym, ap, _∙_}
-use mathlib.Core.Bool.{Bool, true, false}
+use mathlib.Core.Bool.{Bool, true, false, not}
 use mathlib.Core.List.{List, [], _∷_, _++_}
 use mathlib.Core.Option.{Option, none, some}
-use Prim.Native.Nat.{ℕ, _+_, _-_, _<_}
+use Prim.Native.Nat.{ℕ, zero, suc, _+_, _-_, _≤_, _<_}
 use native.Mathlib.Nat.{add-assoc}
-use lib.Dec.{leb, ltb}
+use native.Mathlib.Omega.{arith}
+use borrow.Author.Tests.{ne-eqb}
+use lib.Dec.{leb, ltb, eqb}
 use lib.ListN.{length, drop, getD}
 use lib.Seq.{drop-drop}
 use Rattle.bmap.specs.declared.Operation.{Operation}
@@ -29,7 +31,7 @@ use Rattle.law.specs.declared.checks.Test.the-variants.{Allowed, Known}
 use Rattle.law.specs.Shape.{opened, pairOf, operationOf, singleOf, comparisonOf, junctionOf}
 use Rattle.law.specs.Mask.{bit}
 use Rattle.law.specs.Names.{namesOnly}
-use Rattle.law.specs.Check.{checked, passesE, passesC}
+use Rattle.law.specs.Check.{checked, nextOf, passesE, passesC}
 use Rattle.law.proofs.Trees.{at-constant, at-fluent, at-reified, at-one, at-two, at-truth, at-occurrence, at-negation, at-junction, at-comparison, no-pair, a-pair}
 
 -- A tree passes where its operands do.
@@ -139,6 +141,17 @@ module _ {T A : Type 0} (okA : A → Bool) (okT : T → Bool) where
     pub then-second : {m : ℕ} → Next m ≡ checked okA (at + 1) (pa (drop (at + 1) s)) → checked okA m (pa (drop m s)) ≡ checked okT at (operands make pa (drop (at + 1) s))
     then-second e = ap after e ∙ two-checked (pa (drop (at + 1) s))
 
+-- no tree ends at 0
+pub nowhere : {n : ℕ} → n ≡ 0 → Refused ≡ nextOf n
+nowhere e = rw e
+
+pub there : (n : ℕ) → (n ≡ 0 → ⊥) → Next n ≡ nextOf n
+there zero h = absurd (h refl)
+there (suc n) h = refl
+
+past : (at k : ℕ) → 1 ≤ k → nextOf (at + k) ≡ Next (at + k)
+past at k h = sym (there (at + k) (λ e. omega arith))
+
 -- no tree is refused
 pub refused : {T : Type 0} (ok : T → Bool) (at : ℕ) {o : Option (Parsed T)} → o ≡ none → Refused ≡ checked ok at o
 refused ok at e = rw e
@@ -149,8 +162,8 @@ module _ {T : Type 0} (ok : T → Bool) (make : ℕ → ℕ → T) (s : List ℕ
   leaf-short e = refused ok at (no-pair make (drop (at + 1) s) e)
 
   module _ {a b : ℕ} (e : Bytes a b ≡ pairOf (drop (at + 1) s)) where
-    pub leaf-passes : ok (make a b) ≡ true → Next (at + 3) ≡ checked ok at (twoBytes make (drop (at + 1) s))
-    leaf-passes h = rw (a-pair make (drop (at + 1) s) e, h)
+    pub leaf-passes : ok (make a b) ≡ true → nextOf (at + 3) ≡ checked ok at (twoBytes make (drop (at + 1) s))
+    leaf-passes h = rw (a-pair make (drop (at + 1) s) e, h) (past at 3 (omega arith))
 
     pub leaf-fails : ok (make a b) ≡ false → Refused ≡ checked ok at (twoBytes make (drop (at + 1) s))
     leaf-fails h = rw (a-pair make (drop (at + 1) s) e, h)
@@ -192,8 +205,8 @@ module _ (t : Test) (s : List ℕ) (at d : ℕ) (ne : d ≡ 0 → ⊥) (lt : at 
     check-first q e = rw (at-two s at d ne lt p q) (first-refused (passesE t) (passesE t) (two (operationOf code)) (passes-two t (operationOf code)) (parseE (d - 1)) s at e)
 
   module _ {sh : Shape} (p : Constraint sh ≡ opened code) where
-    pub check-truth : sh ≡ shape.Nothing → Next (at + 1) ≡ whole-c
-    check-truth q = rw (at-truth s at d ne lt p q, passes-always t)
+    pub check-truth : sh ≡ shape.Nothing → nextOf (at + 1) ≡ whole-c
+    check-truth q = rw (at-truth s at d ne lt p q, passes-always t) (past at 1 (omega arith))
 
     pub check-occurrence : sh ≡ shape.EntryLag → checked (passesC t) at (twoBytes occurs (drop (at + 1) s)) ≡ whole-c
     check-occurrence q = rw (at-occurrence s at d ne lt p q)
@@ -214,19 +227,13 @@ module _ (t : Test) (s : List ℕ) (at d : ℕ) (ne : d ≡ 0 → ⊥) (lt : at 
     check-first-e q e = rw (at-comparison s at d ne lt p q) (first-refused (passesE t) (passesC t) (compared (comparisonOf code)) (passes-compared t (comparisonOf code)) (parseE (d - 1)) s at e)
 
 -- What the place after a tree says of the fluents that it names.
-module _ (mask at : ℕ) where
-  pub names-all : {n : ℕ} (o : Option (Parsed Con)) → Next n ≡ checked (passesC (Known mask)) at o → true ≡ namesOnly mask o
-  names-all none e = cc
-  names-all {n} (some p) e = go (passesC (Known mask) (p .tree)) e
-    where
-      go : (b : Bool) → Next n ≡ if-else b (Next (at + p .used)) Refused → true ≡ b
-      go true e = refl
-      go false e = cc
-
-  pub names-more : (o : Option (Parsed Con)) → Refused ≡ checked (passesC (Known mask)) at o → false ≡ namesOnly mask o
-  names-more none e = refl
-  names-more (some p) e = go (passesC (Known mask) (p .tree)) e
-    where
-      go : (b : Bool) → Refused ≡ if-else b (Next (at + p .used)) Refused → false ≡ b
-      go true e = cc
-      go false e = refl
+pub names-known : (mask at n : ℕ) (o : Option (Parsed Con)) → nextOf n ≡ checked (passesC (Known mask)) at o → not (eqb n 0) ≡ namesOnly mask o
+names-known mask at zero none e = refl
+names-known mask at (suc n) none e = cc
+names-known mask at n (some p) e = go n (passesC (Known mask) (p .tree)) e
+  where
+    go : (n : ℕ) (b : Bool) → nextOf n ≡ if-else b (Next (at + p .used)) Refused → not (eqb n 0) ≡ b
+    go zero true e = cc
+    go zero false e = refl
+    go (suc n) true e = rw (ne-eqb (suc n) 0 (λ z. omega arith))
+    go (suc n) false e = cc

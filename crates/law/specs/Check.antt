@@ -1,5 +1,5 @@
 -- What the checker answers.
-use Prim.Native.Nat.{ℕ, _+_}
+use Prim.Native.Nat.{ℕ, zero, suc, _+_}
 use mathlib.Core.Bool.{Bool}
 use mathlib.Core.Option.{Option, none, some}
 use Rattle.bmap.specs.Plain.{if-else, all}
@@ -16,6 +16,11 @@ module _ {T : Type 0} where
   abbrev pub checked : (T → Bool) → ℕ → Option (Parsed T) → Checked
   checked passes at none = Refused
   checked passes at (some p) = if-else (passes (p .tree)) (Next (at + p .used)) Refused
+
+-- the same by a number: at place 0 no tree ends
+abbrev pub nextOf : ℕ → Checked
+nextOf zero = Refused
+nextOf (suc n) = Next (suc n)
 
 -- the two tests that a tree may be put to
 abbrev pub passesE : Test → Expr → Bool

@@ -9,7 +9,7 @@ ghost use Rattle.bmap.specs.Limits.{mostDepth, mostLag};
 ghost use Rattle.bmap.specs.Tree.{allowedE, allowedC, constant, fluent, occurs};
 ghost use Rattle.bmap.specs.Number.{signedWord};
 ghost use Rattle.bmap.specs.Code.{parseE, parseC, twoBytes};
-ghost use Rattle.law.specs.Check.{checked, passesE, passesC};
+ghost use Rattle.law.specs.Check.{checked, nextOf, passesE, passesC};
 use crate::mask::has_bit;
 use crate::table::Node;
 use crate::table::Pair;
@@ -23,6 +23,10 @@ pub enum Checked {
     Next(usize),
     Refused,
 }
+
+// Within the checker the place alone, in a register: an enum would go through memory at every node. A tree takes at least
+// one byte, so place 0 means that none stands there that passes.
+pub(crate) const REFUSED: usize = 0;
 
 // What is asked of a tree: that it names only what a law may, or only fluents of a mask.
 pub enum Test {
@@ -67,56 +71,56 @@ fn entry_passes(test: Test, e: u8, lag: u8) -> bool
 }
 
 // The leaves, whose code stands at a place.
-fn constant_at(s: &[u8], at: usize, test: Test) -> Checked
-    ensures { λ r. ⌜ r ≡ checked (passesE test) at (twoBytes (λ hi lo. constant (signedWord hi lo)) (drop (at + 1) (now (s .entry)))) ⌝ }
+fn constant_at(s: &[u8], at: usize, test: Test) -> usize
+    ensures { λ r. ⌜ nextOf r ≡ checked (passesE test) at (twoBytes (λ hi lo. constant (signedWord hi lo)) (drop (at + 1) (now (s .entry)))) ⌝ }
 {
     match pair_after(s, at) {
-        Pair::Bytes(_, _) => Checked::Next(at + 3),
-        Pair::Short => Checked::Refused,
+        Pair::Bytes(_, _) => at + 3,
+        Pair::Short => REFUSED,
     }
 }
 
-fn fluent_at(s: &[u8], at: usize, test: Test) -> Checked
-    ensures { λ r. ⌜ r ≡ checked (passesE test) at (twoBytes fluent (drop (at + 1) (now (s .entry)))) ⌝ }
+fn fluent_at(s: &[u8], at: usize, test: Test) -> usize
+    ensures { λ r. ⌜ nextOf r ≡ checked (passesE test) at (twoBytes fluent (drop (at + 1) (now (s .entry)))) ⌝ }
 {
     match pair_after(s, at) {
         Pair::Bytes(f, lag) => {
             if fluent_passes(test, f, lag) {
-                Checked::Next(at + 3)
+                at + 3
             } else {
-                Checked::Refused
+                REFUSED
             }
         }
-        Pair::Short => Checked::Refused,
+        Pair::Short => REFUSED,
     }
 }
 
-fn entry_at(s: &[u8], at: usize, test: Test) -> Checked
-    ensures { λ r. ⌜ r ≡ checked (passesC test) at (twoBytes occurs (drop (at + 1) (now (s .entry)))) ⌝ }
+fn entry_at(s: &[u8], at: usize, test: Test) -> usize
+    ensures { λ r. ⌜ nextOf r ≡ checked (passesC test) at (twoBytes occurs (drop (at + 1) (now (s .entry)))) ⌝ }
 {
     match pair_after(s, at) {
         Pair::Bytes(e, lag) => {
             if entry_passes(test, e, lag) {
-                Checked::Next(at + 3)
+                at + 3
             } else {
-                Checked::Refused
+                REFUSED
             }
         }
-        Pair::Short => Checked::Refused,
+        Pair::Short => REFUSED,
     }
 }
 
-pub fn expression_in(s: &[u8], at: usize, depth: usize, test: Test) -> Checked
-    ensures { λ r. ⌜ r ≡ checked (passesE test) at (parseE depth (drop at (now (s .entry)))) ⌝ }
+fn expression_in(s: &[u8], at: usize, depth: usize, test: Test) -> usize
+    ensures { λ r. ⌜ nextOf r ≡ checked (passesE test) at (parseE depth (drop at (now (s .entry)))) ⌝ }
 {
     if depth == 0 {
-        return Checked::Refused;
+        return REFUSED;
     }
     if s.len() <= at {
-        return Checked::Refused;
+        return REFUSED;
     }
     let Node::Expression(shape) = opens(s[at]) else {
-        return Checked::Refused;
+        return REFUSED;
     };
     match shape {
         Shape::Value => constant_at(s, at, test),
@@ -124,57 +128,69 @@ pub fn expression_in(s: &[u8], at: usize, depth: usize, test: Test) -> Checked
         Shape::Constraint => constraint_in(s, at + 1, depth - 1, test),
         Shape::Expression => expression_in(s, at + 1, depth - 1, test),
         Shape::Expressions => {
-            let Checked::Next(middle) = expression_in(s, at + 1, depth - 1, test) else {
-                return Checked::Refused;
-            };
+            let middle = expression_in(s, at + 1, depth - 1, test);
+            if middle == REFUSED {
+                return REFUSED;
+            }
             expression_in(s, middle, depth - 1, test)
         }
-        _ => Checked::Refused,
+        _ => REFUSED,
     }
 }
 
-pub fn constraint_in(s: &[u8], at: usize, depth: usize, test: Test) -> Checked
-    ensures { λ r. ⌜ r ≡ checked (passesC test) at (parseC depth (drop at (now (s .entry)))) ⌝ }
+pub(crate) fn constraint_in(s: &[u8], at: usize, depth: usize, test: Test) -> usize
+    ensures { λ r. ⌜ nextOf r ≡ checked (passesC test) at (parseC depth (drop at (now (s .entry)))) ⌝ }
 {
     if depth == 0 {
-        return Checked::Refused;
+        return REFUSED;
     }
     if s.len() <= at {
-        return Checked::Refused;
+        return REFUSED;
     }
     let Node::Constraint(shape) = opens(s[at]) else {
-        return Checked::Refused;
+        return REFUSED;
     };
     match shape {
-        Shape::Nothing => Checked::Next(at + 1),
+        Shape::Nothing => at + 1,
         Shape::EntryLag => entry_at(s, at, test),
         Shape::Constraint => constraint_in(s, at + 1, depth - 1, test),
         Shape::Constraints => {
-            let Checked::Next(middle) = constraint_in(s, at + 1, depth - 1, test) else {
-                return Checked::Refused;
-            };
+            let middle = constraint_in(s, at + 1, depth - 1, test);
+            if middle == REFUSED {
+                return REFUSED;
+            }
             constraint_in(s, middle, depth - 1, test)
         }
         Shape::Expressions => {
-            let Checked::Next(middle) = expression_in(s, at + 1, depth - 1, test) else {
-                return Checked::Refused;
-            };
+            let middle = expression_in(s, at + 1, depth - 1, test);
+            if middle == REFUSED {
+                return REFUSED;
+            }
             expression_in(s, middle, depth - 1, test)
         }
-        _ => Checked::Refused,
+        _ => REFUSED,
     }
+}
+
+fn next_of(end: usize) -> Checked
+    ensures { λ r. ⌜ r ≡ nextOf end ⌝ }
+{
+    if end == REFUSED {
+        return Checked::Refused;
+    }
+    Checked::Next(end)
 }
 
 // An expression that a law may hold in this context.
 pub fn check_expression(s: &[u8], at: usize, context: Context) -> Checked
     ensures { λ r. ⌜ r ≡ checked (allowedE context) at (parseE mostDepth (drop at (now (s .entry)))) ⌝ }
 {
-    expression_in(s, at, bmap::DEPTH, Test::Allowed(context))
+    next_of(expression_in(s, at, bmap::DEPTH, Test::Allowed(context)))
 }
 
 // A constraint that a law may hold in this context.
 pub fn check_constraint(s: &[u8], at: usize, context: Context) -> Checked
     ensures { λ r. ⌜ r ≡ checked (allowedC context) at (parseC mostDepth (drop at (now (s .entry)))) ⌝ }
 {
-    constraint_in(s, at, bmap::DEPTH, Test::Allowed(context))
+    next_of(constraint_in(s, at, bmap::DEPTH, Test::Allowed(context)))
 }

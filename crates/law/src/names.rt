@@ -4,7 +4,7 @@ ghost use lib.ListN.{drop};
 ghost use Rattle.bmap.specs.Limits.{mostDepth};
 ghost use Rattle.bmap.specs.Code.{parseC};
 ghost use Rattle.law.specs.Names.{namesOnly};
-use crate::checks::Checked;
+use crate::checks::REFUSED;
 use crate::checks::Test;
 use crate::checks::constraint_in;
 
@@ -12,8 +12,5 @@ use crate::checks::constraint_in;
 pub fn names_only(s: &[u8], at: usize, mask: u32) -> bool
     ensures { λ r. ⌜ r ≡ namesOnly mask (parseC mostDepth (drop at (now (s .entry)))) ⌝ }
 {
-    match constraint_in(s, at, bmap::DEPTH, Test::Known(mask)) {
-        Checked::Next(_) => true,
-        Checked::Refused => false,
-    }
+    constraint_in(s, at, bmap::DEPTH, Test::Known(mask)) != REFUSED
 }

@@ -7,7 +7,7 @@ use borrow.Fn.Kinds.{In}
 use borrow.Fn.PlainCycle.{Measures, is, falls, and}
 use Rattle.law.specs.Check.{passesE, passesC}
 use Rattle.law.proofs.Trees.{deep-e, deep-c, end-e, end-c, no-expression, no-constraint, other-e, other-c}
-use Rattle.law.proofs.CheckLaws.{refused, check-constant, check-fluent, check-reified, check-one, check-two, check-first}
+use Rattle.law.proofs.CheckLaws.{nowhere, there, refused, check-constant, check-fluent, check-reified, check-one, check-two, check-first}
 use Rattle.law.proofs.CheckLaws.{check-truth, check-occurrence, check-negation, check-junction, check-first-c, check-compared, check-first-e}
 use Rattle.law.proofs.checks.constraint_in.Reads as constraint-in
 use Rattle.law.proofs.checks.constraint_in.Kinds as constraint-in-kinds
@@ -65,13 +65,13 @@ module _ (t : ℕ) where
 
   constraint-in-returns-4 : constraint-in-lts.Need-returns-4 by-constraint-in constraint-in-at constraint-in.Post
   constraint-in-returns-4 c =
-      let a = c .before .before .before .before .before .before .before .before .before .before .before .before .before .args in
-      check-first-c (a .test) (a .s .now) (a .at) (a .depth) (c .before .before .before .before .before .before .before .before .before .before .before .if1 .left) (c .before .before .before .before .before .before .before .before .before .before .if2 .left) (sym (c .before .before .before .before .before .before .shape .given .1) ∙ c .before .before .before .before .before .before .before .before .opens .ensures) (c .before .before .before .enum-told4 .given .1) (sym (c .enum-told5 .given .1) ∙ c .before .before .constraint-in2 .ensures)
+      let a = c .before .before .before .before .before .before .before .before .before .before .before .before .args in
+      check-first-c (a .test) (a .s .now) (a .at) (a .depth) (c .before .before .before .before .before .before .before .before .before .before .if1 .left) (c .before .before .before .before .before .before .before .before .before .if2 .left) (sym (c .before .before .before .before .before .shape .given .1) ∙ c .before .before .before .before .before .before .before .opens .ensures) (c .before .before .enum-told4 .given .1) (nowhere (c .if3 .taken) ∙ c .before .constraint-in2 .ensures)
 
   constraint-in-returns-5 : constraint-in-lts.Need-returns-5 by-constraint-in constraint-in-at constraint-in.Post
   constraint-in-returns-5 c =
-      let a = c .before .before .before .before .before .before .before .before .before .before .before .before .before .args in
-      check-first-e (a .test) (a .s .now) (a .at) (a .depth) (c .before .before .before .before .before .before .before .before .before .before .before .if1 .left) (c .before .before .before .before .before .before .before .before .before .before .if2 .left) (sym (c .before .before .before .before .before .before .shape .given .1) ∙ c .before .before .before .before .before .before .before .before .opens .ensures) (c .before .before .before .enum-told6 .given .1) (sym (c .enum-told7 .given .1) ∙ c .before .before .expression-in .ensures)
+      let a = c .before .before .before .before .before .before .before .before .before .before .before .before .args in
+      check-first-e (a .test) (a .s .now) (a .at) (a .depth) (c .before .before .before .before .before .before .before .before .before .before .if1 .left) (c .before .before .before .before .before .before .before .before .before .if2 .left) (sym (c .before .before .before .before .before .shape .given .1) ∙ c .before .before .before .before .before .before .before .opens .ensures) (c .before .before .enum-told5 .given .1) (nowhere (c .if4 .taken) ∙ c .before .expression-in .ensures)
 
   constraint-in-returns-6 : constraint-in-lts.Need-returns-6 by-constraint-in constraint-in-at constraint-in.Post
   constraint-in-returns-6 c =
@@ -90,13 +90,13 @@ module _ (t : ℕ) where
 
   constraint-in-returns-9 : constraint-in-lts.Need-returns-9 by-constraint-in constraint-in-at constraint-in.Post
   constraint-in-returns-9 c =
-      let a = c .before .before .before .before .before .before .before .before .before .before .before .before .before .before .before .args in
-      c .constraint-in3 .ensures ∙ check-junction (a .test) (a .s .now) (a .at) (a .depth) (c .before .before .before .before .before .before .before .before .before .before .before .before .before .if1 .left) (c .before .before .before .before .before .before .before .before .before .before .before .before .if2 .left) (sym (c .before .before .before .before .before .before .before .before .shape .given .1) ∙ c .before .before .before .before .before .before .before .before .before .before .opens .ensures) (c .before .before .before .before .before .enum-told4 .given .1) (sym (c .before .before .middle .given .1) ∙ c .before .before .before .before .constraint-in2 .ensures)
+      let a = c .before .before .before .before .before .before .before .before .before .before .before .before .before .args in
+      c .constraint-in3 .ensures ∙ check-junction (a .test) (a .s .now) (a .at) (a .depth) (c .before .before .before .before .before .before .before .before .before .before .before .if1 .left) (c .before .before .before .before .before .before .before .before .before .before .if2 .left) (sym (c .before .before .before .before .before .before .shape .given .1) ∙ c .before .before .before .before .before .before .before .before .opens .ensures) (c .before .before .before .enum-told4 .given .1) (there _ (c .before .if3 .left) ∙ c .before .before .constraint-in2 .ensures)
 
   constraint-in-returns-10 : constraint-in-lts.Need-returns-10 by-constraint-in constraint-in-at constraint-in.Post
   constraint-in-returns-10 c =
-      let a = c .before .before .before .before .before .before .before .before .before .before .before .before .before .before .before .args in
-      c .expression-in2 .ensures ∙ check-compared (a .test) (a .s .now) (a .at) (a .depth) (c .before .before .before .before .before .before .before .before .before .before .before .before .before .if1 .left) (c .before .before .before .before .before .before .before .before .before .before .before .before .if2 .left) (sym (c .before .before .before .before .before .before .before .before .shape .given .1) ∙ c .before .before .before .before .before .before .before .before .before .before .opens .ensures) (c .before .before .before .before .before .enum-told6 .given .1) (sym (c .before .before .middle2 .given .1) ∙ c .before .before .before .before .expression-in .ensures)
+      let a = c .before .before .before .before .before .before .before .before .before .before .before .before .before .args in
+      c .expression-in2 .ensures ∙ check-compared (a .test) (a .s .now) (a .at) (a .depth) (c .before .before .before .before .before .before .before .before .before .before .before .if1 .left) (c .before .before .before .before .before .before .before .before .before .before .if2 .left) (sym (c .before .before .before .before .before .before .shape .given .1) ∙ c .before .before .before .before .before .before .before .before .opens .ensures) (c .before .before .before .enum-told5 .given .1) (there _ (c .before .if4 .left) ∙ c .before .before .expression-in .ensures)
 
   constraint-in-returns-11 : constraint-in-lts.Need-returns-11 by-constraint-in constraint-in-at constraint-in.Post
   constraint-in-returns-11 c =
@@ -120,8 +120,8 @@ module _ (t : ℕ) where
 
   expression-in-returns-4 : expression-in-lts.Need-returns-4 by-expression-in expression-in-at expression-in.Post
   expression-in-returns-4 c =
-      let a = c .before .before .before .before .before .before .before .before .before .before .before .before .before .args in
-      check-first (a .test) (a .s .now) (a .at) (a .depth) (c .before .before .before .before .before .before .before .before .before .before .before .if1 .left) (c .before .before .before .before .before .before .before .before .before .before .if2 .left) (sym (c .before .before .before .before .before .before .shape .given .1) ∙ c .before .before .before .before .before .before .before .before .opens .ensures) (c .before .before .before .enum-told5 .given .1) (sym (c .enum-told6 .given .1) ∙ c .before .before .expression-in2 .ensures)
+      let a = c .before .before .before .before .before .before .before .before .before .before .before .before .args in
+      check-first (a .test) (a .s .now) (a .at) (a .depth) (c .before .before .before .before .before .before .before .before .before .before .if1 .left) (c .before .before .before .before .before .before .before .before .before .if2 .left) (sym (c .before .before .before .before .before .shape .given .1) ∙ c .before .before .before .before .before .before .before .opens .ensures) (c .before .before .enum-told5 .given .1) (nowhere (c .if3 .taken) ∙ c .before .expression-in2 .ensures)
 
   expression-in-returns-5 : expression-in-lts.Need-returns-5 by-expression-in expression-in-at expression-in.Post
   expression-in-returns-5 c =
@@ -145,8 +145,8 @@ module _ (t : ℕ) where
 
   expression-in-returns-9 : expression-in-lts.Need-returns-9 by-expression-in expression-in-at expression-in.Post
   expression-in-returns-9 c =
-      let a = c .before .before .before .before .before .before .before .before .before .before .before .before .before .before .before .args in
-      c .expression-in3 .ensures ∙ check-two (a .test) (a .s .now) (a .at) (a .depth) (c .before .before .before .before .before .before .before .before .before .before .before .before .before .if1 .left) (c .before .before .before .before .before .before .before .before .before .before .before .before .if2 .left) (sym (c .before .before .before .before .before .before .before .before .shape .given .1) ∙ c .before .before .before .before .before .before .before .before .before .before .opens .ensures) (c .before .before .before .before .before .enum-told5 .given .1) (sym (c .before .before .middle .given .1) ∙ c .before .before .before .before .expression-in2 .ensures)
+      let a = c .before .before .before .before .before .before .before .before .before .before .before .before .before .args in
+      c .expression-in3 .ensures ∙ check-two (a .test) (a .s .now) (a .at) (a .depth) (c .before .before .before .before .before .before .before .before .before .before .before .if1 .left) (c .before .before .before .before .before .before .before .before .before .before .if2 .left) (sym (c .before .before .before .before .before .before .shape .given .1) ∙ c .before .before .before .before .before .before .before .before .opens .ensures) (c .before .before .before .enum-told5 .given .1) (there _ (c .before .if3 .left) ∙ c .before .before .expression-in2 .ensures)
 
   expression-in-returns-10 : expression-in-lts.Need-returns-10 by-expression-in expression-in-at expression-in.Post
   expression-in-returns-10 c =
@@ -175,8 +175,6 @@ pub +constraint-in+expression-in-spec : {M : Type 1} → statement M
     (λ c. search needs)
     (λ c. search needs)
     (λ c κs. (omega arith, tt))
-    (λ c. search needs)
-    (λ c. search needs)
     (constraint-in-returns-4 t)
     (λ c. search needs)
     (λ c κs. (omega arith, tt))
@@ -184,8 +182,6 @@ pub +constraint-in+expression-in-spec : {M : Type 1} → statement M
     (λ c. search needs)
     (λ c. search needs)
     (λ c κs. (omega arith, tt))
-    (λ c. search needs)
-    (λ c. search needs)
     (constraint-in-returns-5 t)
     (λ c. search needs)
     (λ c κs. (omega arith, tt))
@@ -218,8 +214,6 @@ pub +constraint-in+expression-in-spec : {M : Type 1} → statement M
     (λ c. search needs)
     (λ c. search needs)
     (λ c κs. (omega arith, tt))
-    (λ c. search needs)
-    (λ c. search needs)
     (expression-in-returns-4 t)
     (λ c. search needs)
     (λ c κs. (omega arith, tt))

@@ -9,8 +9,8 @@ use Rattle.law.proofs.CheckLaws.{leaf-short, leaf-passes, passes-consta
 use Rattle.law.proofs.checks.constant_at.Statement.{statement}
 use Rattle.law.proofs.checks.constant_at.Tie as tie
 
-add-t6 : tie.Need-add-t6
-add-t6 c = omega (arith, pair-in (c .before .before .before .before .args .s .now) (c .before .before .before .before .args .at) (sym (c .enum-told .given .1) ∙ c .before .before .pair-after .ensures))
+add-result : tie.Need-add-result
+add-result c = omega (arith, pair-in (c .before .before .before .before .args .s .now) (c .before .before .before .before .args .at) (sym (c .enum-told .given .1) ∙ c .before .before .pair-after .ensures))
 
 returns : tie.Need-returns
 returns c =
@@ -28,7 +28,7 @@ constant-at-spec =
     (tie.spec
     (λ c κs. search needs)
     (λ c. search needs)
-    add-t6
+    add-result
     (λ c. search needs)
     returns
     returns-2)

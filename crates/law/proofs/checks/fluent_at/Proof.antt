@@ -8,8 +8,8 @@ use Rattle.law.proofs.CheckLaws.{leaf-short, leaf-passes, leaf-fails}
 use Rattle.law.proofs.checks.fluent_at.Statement.{statement}
 use Rattle.law.proofs.checks.fluent_at.Tie as tie
 
-add-t10 : tie.Need-add-t10
-add-t10 c =
+add-result : tie.Need-add-result
+add-result c =
     let k = c .before .before .before in
     let a = k .before .before .before .before .args in
     omega (arith, pair-in (a .s .now) (a .at) (sym (k .f .given .1) ∙ k .before .before .pair-after .ensures))
@@ -38,7 +38,7 @@ fluent-at-spec =
     (λ c κs. search needs)
     (λ c. search needs)
     (λ c κs. search needs)
-    add-t10
+    add-result
     (λ c. search needs)
     returns
     returns-2

@@ -4,7 +4,7 @@ ghost use mathlib.Core.Path.{_≡_};
 ghost use mathlib.Core.Bool.{not};
 ghost use Prim.Native.Nat.{_+_, _-_, _*_, _≤_, _<_};
 ghost use lib.Dec.{leb};
-ghost use lib.ListN.{length, drop};
+ghost use lib.ListN.{length, drop, getD};
 ghost use Rattle.bmap.specs.Plain.{both};
 ghost use Rattle.bmap.specs.Limits.{mostDepth, mostSteps, storeSize, levelsSize};
 ghost use Rattle.bmap.specs.Number.{value, with1, with2, operate, change, compare, join, flag, signedWord};
@@ -237,7 +237,8 @@ fn joined_of(code: u8, a: u64, b: u64) -> u64
     )
 }
 
-// An expression with so much depth left. The leaves are most of a tree: their codes are looked at before the table.
+// An expression with so much depth left. The leaves are most of a tree: they are read without a look at the table, and
+// what is no leaf by a function of its own, so that this one is small enough to be put in place of its calls.
 fn value_in(
     s: &[u8; STORE],
     at: usize,
@@ -262,6 +263,22 @@ fn value_in(
     if code == 0x11 {
         return fluent_in(s, at, levels, j);
     }
+    inner_value(s, at, depth, levels, occurred, j)
+}
+
+// An expression that is no leaf. It reads its code again: a seventh parameter would go through memory.
+fn inner_value(
+    s: &[u8; STORE],
+    at: usize,
+    depth: usize,
+    levels: &[i16; LEVELS],
+    occurred: &[u64; Sheet::STEPS + 1],
+    j: usize,
+) -> u64
+    requires { ⌜ Lent (now s) (now levels) (now occurred) × ((1 ≤ depth) × ((at < storeSize) × ((getD (now s) at 0 ≡ 0x10 → ⊥) × (getD (now s) at 0 ≡ 0x11 → ⊥)))) ⌝ }
+    ensures { λ r. ⌜ evaluatedIn r ≡ valueAt depth (now (s .entry)) at (now (levels .entry)) (now (occurred .entry)) j ⌝ }
+{
+    let code = s[at];
     let Node::Expression(shape) = opens(code) else {
         return MALFORMED;
     };

@@ -1,6 +1,7 @@
--- The one proof of the cycle {truth_in, value_in}: each calls both with one level less. Assumes nothing.
-use mathlib.Core.Path.{sym, ap, _∙_}
-use Prim.Native.Nat.{ℕ, _≤_, _<_}
+-- The one proof of the cycle {inner_value, truth_in, value_in}: value_in calls inner_value with the same depth left, all other
+-- calls are with one level less. Assumes nothing.
+use mathlib.Core.Path.{_≡_, sym, ap, _∙_}
+use Prim.Native.Nat.{ℕ, _+_, _*_, _≤_, _<_}
 use native.Mathlib.Omega.{arith}
 use borrow.Author.Needs.{needs}
 use borrow.Fn.Kinds.{In}
@@ -14,12 +15,15 @@ use Rattle.law.proofs.Trees.{deep-e, deep-c, end-e, end-c, no-expressio
 use Rattle.law.proofs.PackedLaws.{ends-nowhere, ends-there}
 use Rattle.law.proofs.Evals.{nothing-there, eval-constant, eval-fluent, eval-reified, eval-one, eval-two, eval-first}
 use Rattle.law.proofs.Evals.{eval-truth, eval-occurrence, eval-negation, eval-junction, eval-first-c, eval-compared, eval-first-e}
+use Rattle.law.proofs.eval.inner_value.Reads as inner-value
+use Rattle.law.proofs.eval.inner_value.Kinds as inner-value-kinds
+use Rattle.law.proofs.eval.+inner_value+truth_in+value_in.Lts-inner_value as inner-value-lts
 use Rattle.law.proofs.eval.truth_in.Reads as truth-in
 use Rattle.law.proofs.eval.truth_in.Kinds as truth-in-kinds
-use Rattle.law.proofs.eval.+truth_in+value_in.Lts-truth_in as truth-in-lts
+use Rattle.law.proofs.eval.+inner_value+truth_in+value_in.Lts-truth_in as truth-in-lts
 use Rattle.law.proofs.eval.value_in.Reads as value-in
 use Rattle.law.proofs.eval.value_in.Kinds as value-in-kinds
-use Rattle.law.proofs.eval.+truth_in+value_in.Lts-value_in as value-in-lts
+use Rattle.law.proofs.eval.+inner_value+truth_in+value_in.Lts-value_in as value-in-lts
 use Rattle.law.proofs.eval.changed_of.Reads as changed-of-reads
 use Rattle.law.proofs.eval.compared_of.Reads as compared-of-reads
 use Rattle.law.proofs.eval.constant_in.Reads as constant-in-reads
@@ -32,17 +36,26 @@ use Rattle.law.proofs.eval.reified_of.Reads as reified-of-reads
 use Rattle.law.proofs.packed.end_of.Reads as end-of-reads
 use Rattle.law.proofs.packed.with_truth.Reads as with-truth-reads
 use Rattle.law.proofs.table.opens.Reads as opens-reads
-use Rattle.law.proofs.eval.+truth_in+value_in.{statement}
-use Rattle.law.proofs.eval.+truth_in+value_in.Tie.{close}
+use Rattle.law.proofs.eval.+inner_value+truth_in+value_in.{statement}
+use Rattle.law.proofs.eval.+inner_value+truth_in+value_in.Tie.{close}
+
+abbrev μ-inner-value : Measures 3 inner-value-kinds.ps ℕ
+μ-inner-value κs a = 2 * a .1 .1 .0
 
 abbrev μ-truth-in : Measures 3 truth-in-kinds.ps ℕ
-μ-truth-in κs a = a .1 .1 .0
+μ-truth-in κs a = 2 * a .1 .1 .0 + 1
 
 abbrev μ-value-in : Measures 3 value-in-kinds.ps ℕ
-μ-value-in κs a = a .1 .1 .0
+μ-value-in κs a = 2 * a .1 .1 .0 + 1
 
 module _ (t : ℕ) where
   -- what a call is given at the measure t, and what it asks below t
+  abbrev inner-value-at : In 3 inner-value-kinds.ps
+  inner-value-at = and 3 inner-value-kinds.ps (is 3 inner-value-kinds.ps μ-inner-value t) inner-value.Pre
+
+  abbrev inner-value-below : In 3 inner-value-kinds.ps
+  inner-value-below = and 3 inner-value-kinds.ps (falls 3 inner-value-kinds.ps _<_ μ-inner-value t) inner-value.Pre
+
   abbrev truth-in-at : In 3 truth-in-kinds.ps
   truth-in-at = and 3 truth-in-kinds.ps (is 3 truth-in-kinds.ps μ-truth-in t) truth-in.Pre
 
@@ -59,7 +72,10 @@ module _ (t : ℕ) where
   by-truth-in = (opens-reads.Asked, opens-reads.Learnt, with-truth-reads.Asked, with-truth-reads.Learnt, occurrence-in-reads.Asked, occurrence-in-reads.Learnt, truth-in-below, truth-in.Post, negated-of-reads.Asked, negated-of-reads.Learnt, end-of-reads.Asked, end-of-reads.Learnt, joined-of-reads.Asked, joined-of-reads.Learnt, value-in-below, value-in.Post, compared-of-reads.Asked, compared-of-reads.Learnt)
 
   abbrev by-value-in : value-in-lts.Claims
-  by-value-in = (constant-in-reads.Asked, constant-in-reads.Learnt, fluent-in-reads.Asked, fluent-in-reads.Learnt, opens-reads.Asked, opens-reads.Learnt, truth-in-below, truth-in.Post, reified-of-reads.Asked, reified-of-reads.Learnt, value-in-below, value-in.Post, changed-of-reads.Asked, changed-of-reads.Learnt, end-of-reads.Asked, end-of-reads.Learnt, operated-of-reads.Asked, operated-of-reads.Learnt)
+  by-value-in = (constant-in-reads.Asked, constant-in-reads.Learnt, fluent-in-reads.Asked, fluent-in-reads.Learnt, inner-value-below, inner-value.Post)
+
+  abbrev by-inner-value : inner-value-lts.Claims
+  by-inner-value = (opens-reads.Asked, opens-reads.Learnt, truth-in-below, truth-in.Post, reified-of-reads.Asked, reified-of-reads.Learnt, value-in-below, value-in.Post, changed-of-reads.Asked, changed-of-reads.Learnt, end-of-reads.Asked, end-of-reads.Learnt, operated-of-reads.Asked, operated-of-reads.Learnt)
 
   truth-in-returns : truth-in-lts.Need-returns by-truth-in truth-in-at truth-in.Post
   truth-in-returns c =
@@ -163,50 +179,82 @@ module _ (t : ℕ) where
       c .fluent-in .ensures ∙ eval-fluent (a .s .now) (a .at) (a .depth) (a .levels .now) (a .occurred .now) (a .j) (c .before .before .before .before .before .if1 .left) lt (c .before .if4 .taken)
 
   value-in-returns-5 : value-in-lts.Need-returns-5 by-value-in value-in-at value-in.Post
-  value-in-returns-5 c =
-      let k = c .before .before .before .before .before .before .before in
-      let a = k .args in
-      let lt : a .at < length (a .s .now) = omega (arith, k .pre .1 .store, c .before .before .before .before .before .if2 .left) in
-      nothing-there (λ t. evalE t (historyOf (a .levels .now) (a .occurred .now)) (a .j)) (a .at) (no-expression (a .s .now) (a .at) (a .depth) (c .before .before .before .before .before .before .if1 .left) lt _ (c .before .opens .ensures) (c .match .keys2))
+  value-in-returns-5 c = c .inner-value .ensures
 
-  value-in-returns-6 : value-in-lts.Need-returns-6 by-value-in value-in-at value-in.Post
-  value-in-returns-6 c =
-      let k = c .before .before .before .before .before .before .before .before .before .before .before .before .before .before in
-      let a = k .args in
-      let lt : a .at < length (a .s .now) = omega (arith, k .pre .1 .store, c .before .before .before .before .before .before .before .before .before .before .before .before .if2 .left) in
-      eval-first (a .s .now) (a .at) (a .depth) (a .levels .now) (a .occurred .now) (a .j) (c .before .before .before .before .before .before .before .before .before .before .before .before .before .if1 .left) lt (sym (c .before .before .before .before .before .before .shape .given .1) ∙ c .before .before .before .before .before .before .before .before .opens .ensures) (c .before .before .before .enum-told3 .given .1) (ends-nowhere (valueIn (c .before .before .value-in2 .result)) (c .before .end-of .ensures) (c .if5 .taken) ∙ c .before .before .value-in2 .ensures)
+  -- what the caller of inner_value has seen to
+  some-depth : (k : inner-value-lts.Start by-inner-value inner-value-at inner-value.Post) → k .args .depth ≡ 0 → ⊥
+  some-depth k e = omega (arith, k .pre .1 .1 .0)
 
-  value-in-returns-7 : value-in-lts.Need-returns-7 by-value-in value-in-at value-in.Post
-  value-in-returns-7 c =
-      let k = c .before .before .before .before .before .before .before .before .before .before .before .before .before in
-      let a = k .args in
-      let lt : a .at < length (a .s .now) = omega (arith, k .pre .1 .store, c .before .before .before .before .before .before .before .before .before .before .before .if2 .left) in
-      c .reified-of .ensures ∙ ap (onward _) (c .before .truth-in .ensures) ∙ eval-reified (a .s .now) (a .at) (a .depth) (a .levels .now) (a .occurred .now) (a .j) (c .before .before .before .before .before .before .before .before .before .before .before .before .if1 .left) lt (sym (c .before .before .before .before .before .shape .given .1) ∙ c .before .before .before .before .before .before .before .opens .ensures) (c .before .before .enum-told .given .1)
+  inside : (k : inner-value-lts.Start by-inner-value inner-value-at inner-value.Post) → k .args .at < length (k .args .s .now)
+  inside k = omega (arith, k .pre .1 .0 .store, k .pre .1 .1 .1 .0)
 
-  value-in-returns-8 : value-in-lts.Need-returns-8 by-value-in value-in-at value-in.Post
-  value-in-returns-8 c =
-      let k = c .before .before .before .before .before .before .before .before .before .before .before .before .before in
+  inner-value-returns : inner-value-lts.Need-returns by-inner-value inner-value-at inner-value.Post
+  inner-value-returns c =
+      let k = c .before .before .before in
       let a = k .args in
-      let lt : a .at < length (a .s .now) = omega (arith, k .pre .1 .store, c .before .before .before .before .before .before .before .before .before .before .before .if2 .left) in
-      c .changed-of .ensures ∙ ap (onward _) (c .before .value-in .ensures) ∙ eval-one (a .s .now) (a .at) (a .depth) (a .levels .now) (a .occurred .now) (a .j) (c .before .before .before .before .before .before .before .before .before .before .before .before .if1 .left) lt (sym (c .before .before .before .before .before .shape .given .1) ∙ c .before .before .before .before .before .before .before .opens .ensures) (c .before .before .enum-told2 .given .1)
+      nothing-there (λ t. evalE t (historyOf (a .levels .now) (a .occurred .now)) (a .j)) (a .at) (no-expression (a .s .now) (a .at) (a .depth) (some-depth k) (inside k) _ (c .before .opens .ensures) (c .match .keys2))
 
-  value-in-returns-9 : value-in-lts.Need-returns-9 by-value-in value-in-at value-in.Post
-  value-in-returns-9 c =
-      let k = c .before .before .before .before .before .before .before .before .before .before .before .before .before .before .before .before in
-      let a = k .args in
-      let lt : a .at < length (a .s .now) = omega (arith, k .pre .1 .store, c .before .before .before .before .before .before .before .before .before .before .before .before .before .before .if2 .left) in
-      c .operated-of .ensures ∙ ap (onward _) (c .before .value-in3 .ensures) ∙ eval-two (a .s .now) (a .at) (a .depth) (a .levels .now) (a .occurred .now) (a .j) (c .before .before .before .before .before .before .before .before .before .before .before .before .before .before .before .if1 .left) lt (sym (c .before .before .before .before .before .before .before .before .shape .given .1) ∙ c .before .before .before .before .before .before .before .before .before .before .opens .ensures) (c .before .before .before .before .before .enum-told3 .given .1) (ends-there (valueIn (c .before .before .before .before .value-in2 .result)) (c .before .before .before .end-of .ensures) (c .before .before .if5 .left) ∙ c .before .before .before .before .value-in2 .ensures)
-
-  value-in-returns-10 : value-in-lts.Need-returns-10 by-value-in value-in-at value-in.Post
-  value-in-returns-10 c =
+  inner-value-returns-2 : inner-value-lts.Need-returns-2 by-inner-value inner-value-at inner-value.Post
+  inner-value-returns-2 c =
       let k = c .before .before .before .before .before .before .before .before .before .before in
       let a = k .args in
-      let lt : a .at < length (a .s .now) = omega (arith, k .pre .1 .store, c .before .before .before .before .before .before .before .before .if2 .left) in
-      nothing-there (λ t. evalE t (historyOf (a .levels .now) (a .occurred .now)) (a .j)) (a .at) (other-tree (a .s .now) (a .at) (a .depth) (c .before .before .before .before .before .before .before .before .before .if1 .left) lt (sym (c .before .before .shape .given .1) ∙ c .before .before .before .before .opens .ensures) (else-tree (getD (a .s .now) (a .at) 0) (c .before .before .before .before .before .before .if3 .left, (c .before .before .before .before .before .if4 .left, tt))) (c .match2 .keys4))
+      eval-first (a .s .now) (a .at) (a .depth) (a .levels .now) (a .occurred .now) (a .j) (some-depth k) (inside k) (sym (c .before .before .before .before .before .before .shape .given .1) ∙ c .before .before .before .before .before .before .before .before .opens .ensures) (c .before .before .before .enum-told3 .given .1) (ends-nowhere (valueIn (c .before .before .value-in2 .result)) (c .before .end-of .ensures) (c .if1 .taken) ∙ c .before .before .value-in2 .ensures)
 
-pub +truth-in+value-in-spec : {M : Type 1} → statement M
-+truth-in+value-in-spec =
-    close μ-truth-in μ-value-in
+  inner-value-returns-3 : inner-value-lts.Need-returns-3 by-inner-value inner-value-at inner-value.Post
+  inner-value-returns-3 c =
+      let k = c .before .before .before .before .before .before .before .before .before in
+      let a = k .args in
+      c .reified-of .ensures ∙ ap (onward _) (c .before .truth-in .ensures) ∙ eval-reified (a .s .now) (a .at) (a .depth) (a .levels .now) (a .occurred .now) (a .j) (some-depth k) (inside k) (sym (c .before .before .before .before .before .shape .given .1) ∙ c .before .before .before .before .before .before .before .opens .ensures) (c .before .before .enum-told .given .1)
+
+  inner-value-returns-4 : inner-value-lts.Need-returns-4 by-inner-value inner-value-at inner-value.Post
+  inner-value-returns-4 c =
+      let k = c .before .before .before .before .before .before .before .before .before in
+      let a = k .args in
+      c .changed-of .ensures ∙ ap (onward _) (c .before .value-in .ensures) ∙ eval-one (a .s .now) (a .at) (a .depth) (a .levels .now) (a .occurred .now) (a .j) (some-depth k) (inside k) (sym (c .before .before .before .before .before .shape .given .1) ∙ c .before .before .before .before .before .before .before .opens .ensures) (c .before .before .enum-told2 .given .1)
+
+  inner-value-returns-5 : inner-value-lts.Need-returns-5 by-inner-value inner-value-at inner-value.Post
+  inner-value-returns-5 c =
+      let k = c .before .before .before .before .before .before .before .before .before .before .before .before in
+      let a = k .args in
+      c .operated-of .ensures ∙ ap (onward _) (c .before .value-in3 .ensures) ∙ eval-two (a .s .now) (a .at) (a .depth) (a .levels .now) (a .occurred .now) (a .j) (some-depth k) (inside k) (sym (c .before .before .before .before .before .before .before .before .shape .given .1) ∙ c .before .before .before .before .before .before .before .before .before .before .opens .ensures) (c .before .before .before .before .before .enum-told3 .given .1) (ends-there (valueIn (c .before .before .before .before .value-in2 .result)) (c .before .before .before .end-of .ensures) (c .before .before .if1 .left) ∙ c .before .before .before .before .value-in2 .ensures)
+
+  inner-value-returns-6 : inner-value-lts.Need-returns-6 by-inner-value inner-value-at inner-value.Post
+  inner-value-returns-6 c =
+      let k = c .before .before .before .before .before .before in
+      let a = k .args in
+      nothing-there (λ t. evalE t (historyOf (a .levels .now) (a .occurred .now)) (a .j)) (a .at) (other-tree (a .s .now) (a .at) (a .depth) (some-depth k) (inside k) (sym (c .before .before .shape .given .1) ∙ c .before .before .before .before .opens .ensures) (else-tree (getD (a .s .now) (a .at) 0) (k .pre .1 .1 .1 .1 .0, (k .pre .1 .1 .1 .1 .1, tt))) (c .match2 .keys4))
+
+pub +inner-value+truth-in+value-in-spec : {M : Type 1} → statement M
++inner-value+truth-in+value-in-spec =
+    close μ-inner-value μ-truth-in μ-value-in
+    (λ t. inner-value-lts.spec (by-inner-value t) (inner-value-at t) inner-value.Post
+    (λ c. search needs)
+    (λ c κs. search needs)
+    (λ c. search needs)
+    (inner-value-returns t)
+    (λ c. search needs)
+    (λ c. search needs)
+    (λ c. search needs)
+    (λ c κs. (omega arith, c .before .before .before .before .before .before .before .pre .1 .0))
+    (λ c κs. search needs)
+    (λ c. search needs)
+    (λ c. search needs)
+    (λ c. search needs)
+    (λ c κs. (omega arith, c .before .before .before .before .before .before .before .pre .1 .0))
+    (λ c κs. search needs)
+    (λ c. search needs)
+    (λ c. search needs)
+    (λ c. search needs)
+    (λ c κs. (omega arith, c .before .before .before .before .before .before .before .pre .1 .0))
+    (λ c κs. search needs)
+    (inner-value-returns-2 t)
+    (λ c. search needs)
+    (λ c κs. (omega arith, c .before .before .before .before .before .before .before .before .before .before .pre .1 .0))
+    (λ c κs. search needs)
+    (inner-value-returns-3 t)
+    (inner-value-returns-4 t)
+    (inner-value-returns-5 t)
+    (inner-value-returns-6 t))
     (λ t. truth-in-lts.spec (by-truth-in t) (truth-in-at t) truth-in.Post
     (truth-in-returns t)
     (truth-in-returns-2 t)
@@ -256,29 +304,5 @@ pub +truth-in+value-in-spec : {M : Type 1} → statement M
     (value-in-returns-3 t)
     (λ c κs. search needs)
     (value-in-returns-4 t)
-    (λ c κs. search needs)
-    (λ c. search needs)
-    (value-in-returns-5 t)
-    (λ c. search needs)
-    (λ c. search needs)
-    (λ c. search needs)
-    (λ c κs. (omega arith, c .before .before .before .before .before .before .before .before .before .before .before .pre .1))
-    (λ c κs. search needs)
-    (λ c. search needs)
-    (λ c. search needs)
-    (λ c. search needs)
-    (λ c κs. (omega arith, c .before .before .before .before .before .before .before .before .before .before .before .pre .1))
-    (λ c κs. search needs)
-    (λ c. search needs)
-    (λ c. search needs)
-    (λ c. search needs)
-    (λ c κs. (omega arith, c .before .before .before .before .before .before .before .before .before .before .before .pre .1))
-    (λ c κs. search needs)
-    (value-in-returns-6 t)
-    (λ c. search needs)
-    (λ c κs. (omega arith, c .before .before .before .before .before .before .before .before .before .before .before .before .before .before .pre .1))
-    (λ c κs. search needs)
-    (value-in-returns-7 t)
-    (value-in-returns-8 t)
-    (value-in-returns-9 t)
-    (value-in-returns-10 t))
+    (λ c κs. (omega arith, (c .before .before .before .before .before .pre .1, (omega arith, (c .before .before .before .if2 .left, (c .before .if3 .left, c .if4 .left))))))
+    (value-in-returns-5 t))

@@ -1,7 +1,7 @@
 -- The checker's answer for a tree, by its answers for the operands.
 use mathlib.Core.Path.{_≡_, refl, sym, ap, _∙_}
 use mathlib.Core.Bool.{Bool, true, false, not}
-use mathlib.Core.List.{List, [], _∷_, _++_}
+use mathlib.Core.List.{List}
 use mathlib.Core.Option.{Option, none, some}
 use Prim.Native.Nat.{ℕ, zero, suc, _+_, _-_, _≤_, _<_}
 use native.Mathlib.Nat.{add-assoc}
@@ -19,6 +19,7 @@ use Rattle.bmap.specs.declared.limits.Context.{Context}
 use Rattle.bmap.specs.Limits.{mostLag}
 use Rattle.bmap.specs.Number.{signedWord}
 use Rattle.bmap.specs.Tree.{Expr, Con, constant, fluent, two, one, reified, compared, joined, negated, occurs, always, allowedE, allowedC, namedE, namedC}
+use Rattle.bmap.proofs.PlainLaws.{both-end, all-append}
 use Rattle.bmap.specs.Code.{Code, Parsed, Parser, codeOf, made, second, operands, twoBytes, parseE, parseC}
 use Rattle.law.specs.declared.table.Shape.{Shape}
 use Rattle.law.specs.declared.table.Shape.the-variants as shape
@@ -35,19 +36,6 @@ use Rattle.law.specs.Check.{checked, nextOf, passesE, passesC}
 use Rattle.law.proofs.Trees.{at-constant, at-fluent, at-reified, at-one, at-two, at-truth, at-occurrence, at-negation, at-junction, at-comparison, no-pair, a-pair}
 
 -- A tree passes where its operands do.
-both-true : (b : Bool) → both b true ≡ b
-both-true true = refl
-both-true false = refl
-
-both-both : (a b c : Bool) → both a (both b c) ≡ both (both a b) c
-both-both true b c = refl
-both-both false b c = refl
-
-both-all : (p : ℕ → Bool) (l m : List ℕ) → all p (l ++ m) ≡ both (all p l) (all p m)
-unfolding all
-both-all p [] m = refl
-both-all p (a ∷ l) m = rw (both-all p l m) (both-both (p a) (all p l) (all p m))
-
 pub passes-constant : (t : Test) (hi lo : ℕ) → passesE t (constant (signedWord hi lo)) ≡ true
 unfolding allowedE namedE all
 passes-constant (Allowed x) hi lo = refl
@@ -56,7 +44,7 @@ passes-constant (Known m) hi lo = refl
 passes-two : (t : Test) (o : Operation) (a b : Expr) → passesE t (two o a b) ≡ both (passesE t a) (passesE t b)
 unfolding allowedE namedE
 passes-two (Allowed x) o a b = refl
-passes-two (Known m) o a b = both-all (bit m) (namedE a) (namedE b)
+passes-two (Known m) o a b = all-append (bit m) (namedE a) (namedE b)
 
 passes-one : (t : Test) (o : Single) (a : Expr) → passesE t (one o a) ≡ passesE t a
 unfolding allowedE namedE
@@ -71,12 +59,12 @@ passes-reified (Known m) a = refl
 passes-compared : (t : Test) (o : Comparison) (a b : Expr) → passesC t (compared o a b) ≡ both (passesE t a) (passesE t b)
 unfolding allowedC namedC
 passes-compared (Allowed x) o a b = refl
-passes-compared (Known m) o a b = both-all (bit m) (namedE a) (namedE b)
+passes-compared (Known m) o a b = all-append (bit m) (namedE a) (namedE b)
 
 passes-joined : (t : Test) (o : Junction) (a b : Con) → passesC t (joined o a b) ≡ both (passesC t a) (passesC t b)
 unfolding allowedC namedC
 passes-joined (Allowed x) o a b = refl
-passes-joined (Known m) o a b = both-all (bit m) (namedC a) (namedC b)
+passes-joined (Known m) o a b = all-append (bit m) (namedC a) (namedC b)
 
 passes-negated : (t : Test) (a : Con) → passesC t (negated a) ≡ passesC t a
 unfolding allowedC namedC
@@ -96,7 +84,7 @@ module _ (t : Test) (n lag : ℕ) where
 
   pub fluent-known : {m : ℕ} → t ≡ Known m → bit m n ≡ passesE t (fluent n lag)
   unfolding namedE all
-  fluent-known {m} e = rw e (sym (both-true (bit m n)))
+  fluent-known {m} e = rw e (sym (both-end (bit m n)))
 
   pub entry-allowed : {x : Context} → t ≡ Allowed x → x .occurrences ≡ true → both (ltb n (x .entries)) (leb lag mostLag) ≡ passesC t (occurs n lag)
   unfolding allowedC

@@ -19,15 +19,12 @@ use Rattle.bmap.specs.declared.Comparison.{Comparison}
 use Rattle.bmap.specs.declared.Comparison.the-variants.{Equal, Unequal, Less, AtMost, Greater, AtLeast}
 use Rattle.bmap.specs.declared.Junction.{Junction}
 use Rattle.bmap.specs.declared.Junction.the-variants.{And, Or}
+use Rattle.bmap.proofs.PlainLaws.{both-parts}
 use Rattle.bmap.specs.Code.{Row, Code, expression, constraint, no-code, a-constant, a-fluent, of-two, of-one, a-reified, codes, found, codeOf}
 use Rattle.law.specs.declared.table.Node.the-variants.{Expression, Constraint, Refused}
 use Rattle.law.specs.declared.table.Shape.{Shape}
 use Rattle.law.specs.declared.table.Shape.the-variants as shape
 use Rattle.law.specs.Shape.{shapeOf, opened, operationOf, singleOf, comparisonOf, junctionOf}
-
-both-parts : (a b : Bool) → T (both a b) → T a × T b
-both-parts true b t = (tt, t)
-both-parts false b t = absurd t
 
 -- 0 an expression, 1 a constraint, 2 no code
 abbrev sort : Code → ℕ

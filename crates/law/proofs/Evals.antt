@@ -6,13 +6,9 @@ use mathlib.Core.Option.{Option, none, some}
 use Prim.Native.Nat.{ℕ, _+_, _-_, _*_, _≤_, _<_}
 use native.Mathlib.Nat.{add-assoc}
 use native.Mathlib.Omega.{arith}
-use mir.Syntax.{w16, w32}
-use mir.Val.{SFits, toZ, ofZ}
-use mir.Facts.{sfits-widen, toZ-ofZ}
 use borrow.Author.Tests.{le-leb, lt-leb}
 use lib.Dec.{leb}
 use lib.IntN.{ℤ, pos}
-use lib.Signed.{mag}
 use lib.ListN.{length, drop, getD, List·getD-eq-default}
 use lib.Seq.{drop-drop}
 use Rattle.bmap.specs.Plain.{both}
@@ -47,17 +43,6 @@ module _ (o : List ℕ) (j e t : ℕ) where
 
   pub at-step : t ≤ j → bit (getD o (j - t + 1) 0) e ≡ both (leb t j) (bit (getD o (j + 1 - t) 0) e)
   at-step h = let k : j + 1 - t ≡ j - t + 1 = omega arith in rw (le-leb t j h, k)
-
--- sixteen bits read back as they are, and fit thirty-two
-pub read-back : (z : ℤ) → mag z < 32_768 → toZ w16 (ofZ w16 z) ≡ z
-read-back z h = toZ-ofZ {w = w16} {z = z} (record { sfits = h })
-
-module _ {z : ℤ} (f : SFits w16 z) where
-  pub widens : SFits w32 (toZ w16 (ofZ w16 z))
-  widens = rw (toZ-ofZ f) (sfits-widen tt f)
-
-  pub widened : value (toZ w32 (ofZ w32 (toZ w16 (ofZ w16 z)))) ≡ value z
-  widened = rw (toZ-ofZ f, toZ-ofZ (sfits-widen {w = w16} {w′ = w32} tt f))
 
 -- The leaves.
 module _ {A : Type 0} (make : ℕ → ℕ → A) (s : List ℕ) (at : ℕ) where

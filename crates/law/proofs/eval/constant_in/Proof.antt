@@ -3,7 +3,8 @@ use native.Mathlib.Omega.{arith}
 use borrow.Author.Needs.{needs}
 use lib.IntN.{ℤ}
 use Rattle.bmap.specs.Number.{value, signedWord}
-use Rattle.law.proofs.Evals.{leaf-none, leaf-gives, read-back}
+use Rattle.number.proofs.BackLaws.{back16}
+use Rattle.law.proofs.Evals.{leaf-none, leaf-gives}
 use Rattle.law.proofs.eval.constant_in.Statement.{statement}
 use Rattle.law.proofs.eval.constant_in.Tie as tie
 
@@ -15,7 +16,7 @@ returns-2 c =
     let a = c .before .before .before .before .before .args in
     let w = c .before .signed-word in
     c .number-at .ensures
-    ∙ leaf-gives (λ hi lo. value (signedWord hi lo)) (a .s .now) (a .at) (omega arith) (ap (λ (z : ℤ). value z) (read-back (w .result) (w .ok) ∙ w .ensures))
+    ∙ leaf-gives (λ hi lo. value (signedWord hi lo)) (a .s .now) (a .at) (omega arith) (ap (λ (z : ℤ). value z) (back16 (w .result) (w .ok) ∙ w .ensures))
 
 pub constant-in-spec : {M : Type 1} → statement M
 constant-in-spec =

@@ -6,7 +6,8 @@ use lib.IntN.{ℤ, pos}
 use lib.ListN.{getD}
 use Rattle.bmap.specs.Limits.{mostFluents}
 use Rattle.bmap.specs.Number.{value}
-use Rattle.law.proofs.Evals.{leaf-none, leaf-gives, read-back}
+use Rattle.number.proofs.BackLaws.{back16}
+use Rattle.law.proofs.Evals.{leaf-none, leaf-gives}
 use Rattle.law.proofs.eval.fluent_in.Statement.{statement}
 use Rattle.law.proofs.eval.fluent_in.Tie as tie
 
@@ -20,7 +21,7 @@ returns-2 c =
     let a = c .before .before .before .before .before .before .args in
     let w = c .before .level in
     c .number-at .ensures
-    ∙ leaf-gives (λ f t. value (getD (a .levels .now) (mostFluents * (a .j - t) + f) (pos 0))) (a .s .now) (a .at) (omega arith) (ap (λ (z : ℤ). value z) (read-back (w .result) (w .ok) ∙ w .ensures ∙ ap (λ (k : ℕ). getD (a .levels .now) (mostFluents * k + getD (a .s .now) (a .at + 1) 0) (pos 0)) (c .before .before .before .state-of .ensures)))
+    ∙ leaf-gives (λ f t. value (getD (a .levels .now) (mostFluents * (a .j - t) + f) (pos 0))) (a .s .now) (a .at) (omega arith) (ap (λ (z : ℤ). value z) (back16 (w .result) (w .ok) ∙ w .ensures ∙ ap (λ (k : ℕ). getD (a .levels .now) (mostFluents * k + getD (a .s .now) (a .at + 1) 0) (pos 0)) (c .before .before .before .state-of .ensures)))
 
 pub fluent-in-spec : {M : Type 1} → statement M
 fluent-in-spec =

@@ -1,5 +1,5 @@
 //! Both programs on the same inputs in one run: calls a second, and the ratio of the proved library to the second judge;
-//! for verdicts also to the second judge with its laws as trees.
+//! for verdicts also to the judge that was written without regard to speed.
 //! Each figure is the best of several short runs, which other work on the machine disturbs least; the runs of the two
 //! take turns.
 
@@ -12,10 +12,10 @@ use std::hint::black_box;
 use std::time::{Duration, Instant};
 use waroth_reference::generate::draft::sheet_text;
 use waroth_reference::generate::{random::Random, sheets, Answer};
-use waroth_reference::judge::{judge_by_trees, Verdict, LEVELS};
+use waroth_reference::judge::{Verdict, LEVELS};
 use waroth_reference::sheet::SHEET_BYTES;
 use waroth_reference::store::STORE_BYTES;
-use waroth_reference::{judge, read_domain, read_sheet};
+use waroth_reference::{judge, plain, read_domain, read_sheet};
 
 const RUNS: usize = 9;
 const RUN: Duration = Duration::from_millis(60);
@@ -52,31 +52,28 @@ fn compared(name: &str, mut library: impl FnMut(), mut peer: impl FnMut()) {
 fn verdicts(input: &Input) {
     let (store, sheet) = (input.draft.store(), &input.sheet);
     let mut levels = [(); 3].map(|()| vec![0; LEVELS]);
-    let [ours, compiled, walked] = &mut levels;
+    let [ours, theirs, plains] = &mut levels;
     let accepted = Ok(Verdict::Accepted);
-    assert_eq!(judge(&store, sheet, compiled), accepted);
-    assert_eq!(judge_by_trees(&store, sheet, walked), accepted);
+    assert_eq!(judge(&store, sheet, theirs), accepted);
+    assert_eq!(plain::judge(&store, sheet, plains), accepted);
     let answer = desk::judge(&store, sheet, ours);
     assert_eq!(answer, Answer::Verdict(Verdict::Accepted));
-    let [library, second, trees] = best([
+    let [library, second, plain] = best([
         &mut || {
             black_box(desk::judge(black_box(&store), sheet, ours));
         },
         &mut || {
-            let _ = black_box(judge(black_box(&store), sheet, compiled));
+            let _ = black_box(judge(black_box(&store), sheet, theirs));
         },
         &mut || {
-            let _ = black_box(judge_by_trees(black_box(&store), sheet, walked));
+            let _ = black_box(plain::judge(black_box(&store), sheet, plains));
         },
     ]);
-    assert!(
-        levels[0] == levels[1] && levels[1] == levels[2],
-        "the levels differ"
-    );
-    let (name, ratio, plain) = (input.name, library / second, library / trees);
-    println!(
-        "verdicts: {name:32} {library:12.0} {second:12.0} {ratio:8.2} {trees:12.0} {plain:8.2}"
-    );
+    let same = levels.iter().all(|numbers| *numbers == levels[0]);
+    assert!(same, "the levels differ");
+    let name = format!("verdicts: {}", input.name);
+    let (tuned, straight) = (library / second, library / plain);
+    println!("{name:42} {library:12.0} {second:12.0} {tuned:8.2} {plain:12.0} {straight:8.2}");
 }
 
 fn domain_texts(input: &Input) {
@@ -142,7 +139,7 @@ fn edits() {
 fn main() {
     println!(
         "{:42} {:>12} {:>12} {:>8} {:>12} {:>8}",
-        "a second", "library", "second", "ratio", "by trees", "ratio"
+        "a second", "library", "second", "ratio", "plain", "ratio"
     );
     let full = inputs::full();
     for input in [inputs::pool(), inputs::deep()] {

@@ -1,10 +1,9 @@
 //! A domain, built frame after frame with all of the domain reader's checks
 //! that look at more than one line's form.
 
-use crate::law::{Code, Moment, Nowhere, Op, Parser, Scope, Target};
+use crate::law::{Nowhere, Op, Parser, Scope, Target};
 use crate::number;
 use crate::refusal;
-use crate::tree::Tree;
 use std::ops::Range;
 
 pub const AGENTS: u8 = 0xA1;
@@ -46,8 +45,7 @@ pub struct Law {
 }
 
 /// A domain, finished once [`Domain::finish`] has agreed. With the target
-/// `Vec<Op>` or `Vec<Tree>` its laws can be evaluated, with `Nowhere` it is only
-/// checked.
+/// `Vec<Op>` its laws can be evaluated, with `Nowhere` it is only checked.
 pub struct Domain<T = Vec<Op>> {
     agents: usize,
     fluents: [Fluent; Domain::MAX_FLUENTS],
@@ -79,26 +77,15 @@ impl Domain {
         let most = Domain::MAX_LAWS * crate::line::MAX_PAYLOAD;
         Domain::with(Vec::with_capacity(store_bytes.min(most)))
     }
-}
 
-impl Domain<Vec<Tree>> {
-    /// A domain to be filled whose laws are kept as trees.
-    pub fn of_trees() -> Self {
-        Domain::with(Vec::new())
-    }
-}
-
-impl<T: Code> Domain<T> {
-    #[inline]
-    pub fn constraint(&self, law: usize, at: &Moment) -> Option<i64> {
+    pub fn constraint(&self, law: usize) -> &[Op] {
         let law = &self.laws[law];
-        self.code.value(law.start, law.middle, at)
+        &self.code[law.start as usize..law.middle as usize]
     }
 
-    #[inline]
-    pub fn expression(&self, law: usize, at: &Moment) -> Option<i64> {
+    pub fn expression(&self, law: usize) -> &[Op] {
         let law = &self.laws[law];
-        self.code.value(law.middle, law.end, at)
+        &self.code[law.middle as usize..law.end as usize]
     }
 }
 

@@ -1,7 +1,7 @@
 //! The judge: a sheet's steps in order until the first fault.
 
 use crate::domain::{bits, Domain, CONCURRENCY, EFFECT, GOAL, STATIC};
-use crate::law::{Code, Moment};
+use crate::law::{evaluate, Moment, Op};
 use crate::refusal;
 use crate::sheet::{steps_of, MAX_STEPS};
 use crate::store;
@@ -33,31 +33,17 @@ struct Fault(u8, usize);
 /// Judges a sheet, writes the states reached into `levels` and touches none of
 /// the numbers after them. Refusals 10, 15, 8 and 9, in this order.
 pub fn judge(store: &[u8], sheet: &[u8], levels: &mut [i16]) -> Result<Verdict, u8> {
-    judge_by(store::parse, store, sheet, levels)
-}
-
-/// The same by laws that are trees.
-pub fn judge_by_trees(store: &[u8], sheet: &[u8], levels: &mut [i16]) -> Result<Verdict, u8> {
-    judge_by(store::parse_trees, store, sheet, levels)
-}
-
-fn judge_by<T: Code>(
-    parse: impl Fn(&[u8]) -> Option<Domain<T>>,
-    store: &[u8],
-    sheet: &[u8],
-    levels: &mut [i16],
-) -> Result<Verdict, u8> {
     if levels.len() < LEVELS {
         return Err(refusal::BUFFER);
     }
-    let domain = parse(store).ok_or(refusal::STORE)?;
+    let domain = store::parse(store).ok_or(refusal::STORE)?;
     steps_of(sheet, domain.agents())?;
     Ok(run(&domain, sheet, levels).0)
 }
 
 /// Judges whole steps, at most 64 of them, over a domain. Returns the verdict
 /// and the number of states written.
-pub fn run<T: Code>(domain: &Domain<T>, sheet: &[u8], levels: &mut [i16]) -> (Verdict, usize) {
+pub fn run(domain: &Domain, sheet: &[u8], levels: &mut [i16]) -> (Verdict, usize) {
     let mut trial = Trial::start(domain);
     let width = domain.fluents().len();
     if let Err(fault) = trial.statics(0) {
@@ -89,8 +75,8 @@ impl Fault {
     }
 }
 
-struct Trial<'a, T> {
-    domain: &'a Domain<T>,
+struct Trial<'a> {
+    domain: &'a Domain,
     states: [[i16; Domain::MAX_FLUENTS]; MAX_STATES],
     /// Mask of the entries that occur in each step; nothing occurs in step 0.
     occurring: [u64; MAX_STATES],
@@ -98,8 +84,8 @@ struct Trial<'a, T> {
     naming: [u16; 256],
 }
 
-impl<'a, T: Code> Trial<'a, T> {
-    fn start(domain: &'a Domain<T>) -> Self {
+impl<'a> Trial<'a> {
+    fn start(domain: &'a Domain) -> Self {
         let mut trial = Trial {
             domain,
             states: [[0; Domain::MAX_FLUENTS]; MAX_STATES],
@@ -112,17 +98,19 @@ impl<'a, T: Code> Trial<'a, T> {
         trial
     }
 
-    fn moment(&self, position: usize) -> Moment<'_> {
-        Moment {
+    /// Evaluates code of the law with this number.
+    fn value(&self, law: usize, code: &[Op], position: usize) -> Result<i64, Fault> {
+        let moment = Moment {
             states: &self.states,
             occurring: &self.occurring,
             position,
-        }
+        };
+        evaluate(code, &moment).ok_or(Fault(NO_VALUE, law))
     }
 
     fn holds(&self, law: usize, position: usize) -> Result<bool, Fault> {
-        let truth = self.domain.constraint(law, &self.moment(position));
-        Ok(truth.ok_or(Fault(NO_VALUE, law))? != 0)
+        let truth = self.value(law, self.domain.constraint(law), position)?;
+        Ok(truth != 0)
     }
 
     /// The first law that is false is a fault of the given kind.
@@ -207,8 +195,7 @@ impl<'a, T: Code> Trial<'a, T> {
             if occurring >> law.entry & 1 == 0 || !self.holds(number, position)? {
                 continue;
             }
-            let value = self.domain.expression(number, &self.moment(position));
-            let value = value.ok_or(Fault(NO_VALUE, number))?;
+            let value = self.value(number, self.domain.expression(number), position)?;
             let fluent = law.fluent as usize;
             if set >> fluent & 1 != 0 && settings[fluent] != value {
                 return Err(Fault(DISAGREEMENT, number));

@@ -61,19 +61,6 @@ impl Target for Vec<Op> {
     }
 }
 
-/// Laws that can be evaluated: each part by the place where it begins and the
-/// place where the next one does.
-pub trait Code: Target {
-    fn value(&self, start: u16, end: u16, at: &Moment) -> Option<i64>;
-}
-
-impl Code for Vec<Op> {
-    #[inline]
-    fn value(&self, start: u16, end: u16, at: &Moment) -> Option<i64> {
-        evaluate(&self[start as usize..end as usize], at)
-    }
-}
-
 /// Target of those who only want to know whether the bytes are in order.
 #[derive(Clone, Copy, Default, Debug)]
 pub struct Nowhere;

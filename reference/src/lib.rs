@@ -7,12 +7,12 @@ pub mod judge;
 pub mod law;
 pub mod line;
 pub mod number;
+pub mod plain;
 pub mod program;
 pub mod refusal;
 pub mod session;
 pub mod sheet;
 pub mod store;
-pub mod tree;
 
 pub use domain::Domain;
 pub use judge::{judge, Verdict};

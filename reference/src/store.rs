@@ -4,7 +4,6 @@ use crate::domain::Domain;
 use crate::law::Target;
 use crate::line::{line_length, write_line, Lines, MAX_PAYLOAD};
 use crate::refusal;
-use crate::tree::Tree;
 
 /// Bytes that the domain reader asks of its store.
 pub const STORE_BYTES: usize = 36_000;
@@ -94,11 +93,6 @@ pub fn agents(store: &[u8]) -> Option<usize> {
 /// The domain of an accepted store, its laws compiled.
 pub fn parse(store: &[u8]) -> Option<Domain> {
     gather(store, Domain::compiling(store.len()))
-}
-
-/// The same, its laws as trees.
-pub fn parse_trees(store: &[u8]) -> Option<Domain<Vec<Tree>>> {
-    gather(store, Domain::of_trees())
 }
 
 /// Writes the text of an accepted domain and returns the bytes written.

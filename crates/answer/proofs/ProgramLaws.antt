@@ -12,12 +12,12 @@ use lib.Seq.{sets-eq, take-all}
 use borrow.Author.Tests.{le-leb, lt-leb}
 use Rattle.bmap.specs.Plain.{if-else, flat, text}
 use Rattle.bmap.specs.Limits.{mostAgents, mostFluents, levelsSize, storeSize, sheetSize, mostInput}
-use Rattle.bmap.specs.Refusal.{got, numberOf}
+use Rattle.bmap.specs.Refusal.{got, numberOf, Reading, read, refusedAt}
 use Rattle.bmap.specs.declared.refusal.Refusal.{Refusal}
 use Rattle.bmap.specs.declared.limits.Counts.{Counts}
 use Rattle.bmap.specs.Line.{Line, linesOf, decode, lineFeed, before}
 use Rattle.bmap.specs.Domain.{Domain, Names, State}
-use Rattle.bmap.specs.Accept.{countsOf, Reading, read, refusedAt, taken}
+use Rattle.bmap.specs.Accept.{countsOf, taken}
 use Rattle.bmap.specs.Buffer.{over}
 use Rattle.bmap.specs.Store.{domainIn, reading, readDomain}
 use Rattle.bmap.specs.Sheet.{rows, sheetOf, stepsFrom, readSheet}

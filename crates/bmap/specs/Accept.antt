@@ -6,7 +6,7 @@ use lib.Dec.{eqb, leb, ltb}
 use lib.ListN.{length}
 use Rattle.bmap.specs.Plain.{both, implies, if-else, any, all, numbers}
 use Rattle.bmap.specs.Limits.{mostFluents, mostKnowledge, mostEntries, mostLaws}
-use Rattle.bmap.specs.Refusal.{Answer, got, refused, need, known, then}
+use Rattle.bmap.specs.Refusal.{Answer, got, need, known, then, Reading, read, atLine}
 use Rattle.bmap.specs.Line.{Frame, agentsKind, fluentKind, knowledgeKind, entryKind, goalKind}
 use Rattle.bmap.specs.Domain.{Domain, Entry, Law, executable, effect, must}
 use Rattle.bmap.specs.Payload.{Item, agents, fluent, knowledge, entry, law, entryIn, itemIn}
@@ -83,21 +83,6 @@ complete d =
 
 abbrev pub finished : Partial → Answer Domain
 finished p = need (complete (p .domain)) 7 (got (p .domain))
-
--- what a reader answers: what it read, or a refusal's number and its line
-pub data Reading (A : Type 0) : Type 0 where
-  read : A → Reading A
-  refusedAt : ℕ → ℕ → Reading A
-
-module _ {A B : Type 0} where
-  -- what line n answers, and how the reading goes on
-  abbrev pub atLine : ℕ → Answer A → (A → Reading B) → Reading B
-  atLine n (got a) k = k a
-  atLine n (refused m) k = refusedAt m n
-
-  abbrev pub afterwards : Reading A → (A → Reading B) → Reading B
-  afterwards (read a) k = k a
-  afterwards (refusedAt m n) k = refusedAt m n
 
 -- the lines' frames in turn, after so many lines: "Readers report the line from 1; 7 the count of lines"
 unfoldable pub takenFrom : ℕ → Partial → List (Answer Frame) → Reading Domain

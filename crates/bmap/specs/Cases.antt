@@ -14,14 +14,14 @@ use Rattle.bmap.specs.Code.{codeOf, parseE, parseC}
 use Rattle.bmap.specs.Line.{linesOf, digit, bytes, framed, decode, digitFor, hex, lineFor}
 use Rattle.bmap.specs.Domain.{Names, occursIn, knownTo, readable}
 use Rattle.bmap.specs.Payload.{maskFits, agentsFit, fluentFits, knowledgeFits, entryFits, executableIn, effectIn, mustIn, lawIn, itemIn}
-use Rattle.bmap.specs.Accept.{Reading, read, refusedAt, inOrder, room, fresh, checked, accept, complete, takenFrom}
+use Rattle.bmap.specs.Refusal.{Reading, read, refusedAt, got, refused}
+use Rattle.bmap.specs.Accept.{inOrder, room, fresh, checked, accept, complete, takenFrom}
 use Rattle.bmap.specs.Sheet.{stepOf, stepsFrom, stepsIn, readSheet, rows, sheetOf}
 use Rattle.bmap.specs.Buffer.{Filled, Written}
 use Rattle.bmap.specs.Store.{readDomain, standsAt, frameAt, framesFrom, domainIn, Next, nextFrame, writeDomain}
 use Rattle.bmap.specs.Verdict.{Judgement, judgeSheet}
 use Rattle.bmap.specs.Judge.{Judged, accepted, broken, eachFrom, history, holds, carries, placed, permits, permitted, mayOccur, sets, settled, levelAfter, stateAfter, inRange, step, carried, ran, judge}
 use Rattle.bmap.specs.Session.{enter, strike, amend, edited, replayed, standingSheet, edit, undo, redo, verdict, Call, editing, undoing, redoing, Reply, done, turn, after, replies}
-use Rattle.bmap.specs.Refusal.{got, refused}
 use Rattle.bmap.specs.Program.{digitsOf, spaced, stateLines, split, output}
 use Rattle.bmap.specs.River.{p, judgedUnder, gives}
 use Rattle.bmap.specs.declared.Operation.the-variants.{Product, Quotient, Remainder}

@@ -44,3 +44,18 @@ module _ {A B : Type 0} where
   abbrev pub then : Answer A → (A → Answer B) → Answer B
   then (got a) k = k a
   then (refused n) k = refused n
+
+-- what a reader answers: what it read, or a refusal's number and its line
+pub data Reading (A : Type 0) : Type 0 where
+  read : A → Reading A
+  refusedAt : ℕ → ℕ → Reading A
+
+module _ {A B : Type 0} where
+  -- what line n answers, and how the reading goes on
+  abbrev pub atLine : ℕ → Answer A → (A → Reading B) → Reading B
+  atLine n (got a) k = k a
+  atLine n (refused m) k = refusedAt m n
+
+  abbrev pub afterwards : Reading A → (A → Reading B) → Reading B
+  afterwards (read a) k = k a
+  afterwards (refusedAt m n) k = refusedAt m n

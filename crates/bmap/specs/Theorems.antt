@@ -9,8 +9,7 @@ use lib.IntN.{ℤ}
 use lib.ListN.{length, take}
 use Rattle.bmap.specs.Plain.{all}
 use Rattle.bmap.specs.Limits.{storeSize, sheetSize, levelsSize}
-use Rattle.bmap.specs.Refusal.{got}
-use Rattle.bmap.specs.Accept.{read}
+use Rattle.bmap.specs.Refusal.{got, read}
 use Rattle.bmap.specs.Domain.{Domain, Names}
 use Rattle.bmap.specs.Buffer.{padded, over}
 use Rattle.bmap.specs.Store.{reading, readDomain, writeDomain, domainIn}

@@ -2,8 +2,7 @@
 use mathlib.Core.Path.{_≡_}
 use Prim.Native.Nat.{ℕ, _+_, _*_, _%_, _^_}
 use mathlib.Core.Option.{Option, none, some}
-use Rattle.bmap.specs.Refusal.{Answer, got, refused}
-use Rattle.bmap.specs.Accept.{Reading, read, refusedAt}
+use Rattle.bmap.specs.Refusal.{Answer, got, refused, Reading, read, refusedAt}
 use Rattle.bmap.specs.Buffer.{bytesWritten}
 use Rattle.bmap.specs.Judge.{Verdict, accepted, broken}
 use Rattle.bmap.specs.Session.{Changed}

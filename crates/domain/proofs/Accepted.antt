@@ -11,11 +11,11 @@ use lib.IntN.{ℤ, pos}
 use lib.ListN.{length, getD}
 use borrow.Author.Tests.{ltb-true}
 use Rattle.bmap.specs.Plain.{maybe, numbers}
-use Rattle.bmap.specs.Refusal.{Answer, got, refused, known}
+use Rattle.bmap.specs.Refusal.{Answer, got, refused, known, Reading, read, refusedAt}
 use Rattle.bmap.specs.Line.{Frame}
 use Rattle.bmap.specs.Tree.{always}
 use Rattle.bmap.specs.Domain.{Domain, Fluent, Knows, Entry, Law, must, static}
-use Rattle.bmap.specs.Accept.{nothing, countsOf, complete, Reading, read, refusedAt, taken}
+use Rattle.bmap.specs.Accept.{nothing, countsOf, complete, taken}
 use Rattle.bmap.specs.Store.{framesIn, whatWasRead, domainIn}
 use Rattle.bmap.proofs.PlainLaws.{both-true}
 use Rattle.index.specs.declared.Index.{Index}

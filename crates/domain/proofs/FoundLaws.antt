@@ -9,10 +9,10 @@ use lib.Dec.{eqb, leb}
 use lib.ListN.{length, getD, drop}
 use borrow.Author.Tests.{lt-ltb}
 use Rattle.bmap.specs.Plain.{if-else, maybe, all, numbers}
-use Rattle.bmap.specs.Refusal.{Answer, got, refused, need, known}
+use Rattle.bmap.specs.Refusal.{Answer, got, refused, need, known, read, atLine}
 use Rattle.bmap.specs.Line.{Frame, stored}
 use Rattle.bmap.specs.Domain.{Domain}
-use Rattle.bmap.specs.Accept.{Partial, nothing, accept, complete, finished, read, atLine, takenFrom}
+use Rattle.bmap.specs.Accept.{Partial, nothing, accept, complete, finished, takenFrom}
 use Rattle.bmap.specs.Store.{frameAt, zeros, framesFrom, framesIn, whatWasRead, domainIn}
 use Rattle.bmap.specs.declared.limits.Counts.{Counts}
 use Rattle.domain.specs.declared.found.Found.{Found}

@@ -11,11 +11,11 @@ use lib.ListN.{length, getD, set, take, drop, replicate, length-append, length-d
 use lib.Seq.{length-take-le, take-at, drop-at, getD-at}
 use borrow.Author.Tests.{le-leb, lt-leb}
 use Rattle.bmap.specs.Plain.{if-else, flat}
-use Rattle.bmap.specs.Refusal.{got, refused, need, numberOf}
+use Rattle.bmap.specs.Refusal.{got, refused, need, numberOf, Reading, read, refusedAt, atLine, afterwards}
 use Rattle.bmap.specs.Line.{Frame, stored, linesOf, decode}
 use Rattle.bmap.specs.Domain.{Domain}
 use Rattle.bmap.specs.Payload.{byte, wordAt}
-use Rattle.bmap.specs.Accept.{Partial, nothing, countsOf, room, accept, complete, finished, Reading, read, refusedAt, atLine, afterwards, takenFrom}
+use Rattle.bmap.specs.Accept.{Partial, nothing, countsOf, room, accept, complete, finished, takenFrom}
 use Rattle.bmap.specs.Buffer.{padded, Filled, fill}
 use Rattle.bmap.specs.Store.{framesOf, storedOf, reading, readDomain}
 use Rattle.bmap.specs.declared.limits.Counts.{Counts}

@@ -10,9 +10,8 @@ use lib.Seq.{length-take-le}
 use borrow.Author.Tests.{leb-true, le-leb}
 use Rattle.bmap.specs.Plain.{flat}
 use Rattle.bmap.specs.Limits.{storeSize}
-use Rattle.bmap.specs.Refusal.{Answer, got, refused}
+use Rattle.bmap.specs.Refusal.{Answer, got, refused, read}
 use Rattle.bmap.specs.Domain.{Domain}
-use Rattle.bmap.specs.Accept.{read}
 use Rattle.bmap.specs.Buffer.{padded}
 use Rattle.bmap.specs.Store.{framesOf, storedOf, domainIn, textOf, readDomain, writeDomain}
 use Rattle.bmap.specs.Theorems.{DomainLinesReturn, DomainReturns}

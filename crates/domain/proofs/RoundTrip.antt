@@ -11,11 +11,11 @@ use lib.ListN.{length, getD, take, drop, replicate, length-append, length-replic
 use lib.Seq.{take-append-seam, drop-append-seam, drop-append-add, getD-append-seam, getD-append-add, drop-cons, drop-drop}
 use borrow.Author.Tests.{leb-true, leb-false, le-leb, ne-eqb}
 use Rattle.bmap.specs.Plain.{if-else, maybe, flat}
-use Rattle.bmap.specs.Refusal.{Answer, got, refused, then}
+use Rattle.bmap.specs.Refusal.{Answer, got, refused, then, Reading, read, refusedAt, atLine, afterwards}
 use Rattle.bmap.specs.Line.{Frame, Line, stored, linesOf, decode, lineFor}
 use Rattle.bmap.specs.Domain.{Domain}
 use Rattle.bmap.specs.Payload.{Item}
-use Rattle.bmap.specs.Accept.{Partial, nothing, countsOf, accept, Reading, read, refusedAt, atLine, afterwards, takenFrom, taken}
+use Rattle.bmap.specs.Accept.{Partial, nothing, countsOf, accept, takenFrom, taken}
 use Rattle.bmap.specs.Buffer.{padded, over, Filled, fill, Written, written}
 use Rattle.bmap.specs.Store.{framesOf, storedOf, reading, standsAt, frameAt, zeros, framesFrom, framesIn, domainIn, textOf, readDomain, writeDomain}
 use Rattle.bmap.proofs.PlainLaws.{both-false}

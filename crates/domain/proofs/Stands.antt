@@ -11,11 +11,11 @@ use lib.ListN.{length, getD, take, drop, length-drop}
 use lib.Seq.{take-nil, length-take-le, getD-take, getD-drop, drop-drop}
 use borrow.Author.Tests.{leb-true, eqb-false, le-leb, lt-leb}
 use Rattle.bmap.specs.Plain.{if-else, maybe}
-use Rattle.bmap.specs.Refusal.{Answer, got, refused, need, then}
+use Rattle.bmap.specs.Refusal.{Answer, got, refused, need, then, read, atLine}
 use Rattle.bmap.specs.Line.{Frame, stored}
 use Rattle.bmap.specs.Domain.{Domain, Fluent, Knows, Entry, Law}
 use Rattle.bmap.specs.Payload.{Item, agents, fluent, knowledge, entry, law, byte, fluentIn, knowledgeIn, entryIn, executableIn, effectIn, mustIn, lawIn}
-use Rattle.bmap.specs.Accept.{Partial, nothing, countsOf, checked, add, accept, complete, read, atLine, takenFrom}
+use Rattle.bmap.specs.Accept.{Partial, nothing, countsOf, checked, add, accept, complete, takenFrom}
 use Rattle.bmap.specs.Store.{standsAt, frameAt, zeros, framesFrom}
 use Rattle.bmap.specs.declared.limits.Counts.{Counts}
 use Rattle.bmap.proofs.PlainLaws.{both-true}

@@ -4,8 +4,7 @@ use mathlib.Core.Path.{_≡_}
 use mathlib.Core.List.{List, map}
 use lib.ListN.{length, take}
 use Rattle.bmap.specs.Plain.{flat}
-use Rattle.bmap.specs.Refusal.{numberOf}
-use Rattle.bmap.specs.Accept.{Reading, read, refusedAt, afterwards}
+use Rattle.bmap.specs.Refusal.{numberOf, Reading, read, refusedAt, afterwards}
 use Rattle.bmap.specs.Store.{framesOf, storedOf, reading}
 use Rattle.domain.specs.declared.reader.ReadDomain.{ReadDomain}
 use Rattle.domain.specs.declared.reader.ReadDomain.the-variants.{Read, Refused}

@@ -166,27 +166,26 @@ fn run_steps(
     runs: Runs,
     lowest: &[i16; Counts::FLUENTS],
     highest: &[i16; Counts::FLUENTS],
-    w: usize,
     actions: &[u8; Counts::ENTRIES],
     crews: &[u16; Counts::ENTRIES],
-    count: usize,
+    counts: Counts,
     agents: usize,
     sheet: &[u8],
     n: usize,
     levels: &mut [i16; LEVELS],
     occurred: &mut [u64; Sheet::STEPS + 1],
 ) -> Ran
-    requires { ⌜ ((n ≤ mostSteps) × (Few runs × (length (now sheet) ≡ n * agents))) × (((agents ≤ mostAgents) × ((count ≤ mostEntries) × ((count ≤ length (now actions)) × (count ≤ length (now crews)))))
-        × ((w ≤ mostFluents) × (((w ≤ length (now lowest)) × (w ≤ length (now highest))) × ((length (now levels) ≡ levelsSize) × (length (now occurred) ≡ mostSteps + 1))))) ⌝ }
+    requires { ⌜ ((n ≤ mostSteps) × (Few runs × (length (now sheet) ≡ n * agents))) × (((agents ≤ mostAgents) × ((counts .entries ≤ mostEntries) × ((counts .entries ≤ length (now actions)) × (counts .entries ≤ length (now crews)))))
+        × ((counts .fluents ≤ mostFluents) × (((counts .fluents ≤ length (now lowest)) × (counts .fluents ≤ length (now highest))) × ((length (now levels) ≡ levelsSize) × (length (now occurred) ≡ mostSteps + 1))))) ⌝ }
     ensures { λ r. ⌜ ((r .reached ≤ n + 1) × ((verdictOf (r .verdict) ≡ accepted → r .reached ≡ n + 1) × (length (now (levels .exit)) ≡ levelsSize))) × ((d : Domain) (l : ℕ)
-        → Prepared d (now (held .entry)) (now (owners .entry)) l runs (now (lowest .entry)) (now (highest .entry)) w count → Entered d (now (actions .entry)) (now (crews .entry)) count → d .agents ≡ agents
-        → judgedOf w r (now (levels .exit)) ≡ carried d (rows agents n (now (sheet .entry))) 0 (statesOf w 1 (now (levels .entry))) (rows agents n (now (sheet .entry)))) ⌝ }
+        → Prepared d (now (held .entry)) (now (owners .entry)) l runs (now (lowest .entry)) (now (highest .entry)) (counts .fluents) (counts .entries) → Entered d (now (actions .entry)) (now (crews .entry)) (counts .entries) → d .agents ≡ agents
+        → judgedOf (counts .fluents) r (now (levels .exit)) ≡ carried d (rows agents n (now (sheet .entry))) 0 (statesOf (counts .fluents) 1 (now (levels .entry))) (rows agents n (now (sheet .entry)))) ⌝ }
 {
     let mut rest = sheet;
     let mut j = 0;
     while j < n {
         let names = &rest[..agents];
-        let acting = who_acts(names, actions, crews, count);
+        let acting = who_acts(names, actions, crews, counts.entries);
         occurred[j + 1] = acting.entries;
         if let Check::Failed(fault, number) = take_step(
             held,
@@ -194,8 +193,8 @@ fn run_steps(
             runs,
             lowest,
             highest,
-            w,
-            count,
+            counts.fluents,
+            counts.entries,
             names,
             acting,
             occurred,
@@ -228,23 +227,22 @@ pub(crate) fn run_sheet(
     start: &[i16; Counts::FLUENTS],
     lowest: &[i16; Counts::FLUENTS],
     highest: &[i16; Counts::FLUENTS],
-    w: usize,
     actions: &[u8; Counts::ENTRIES],
     crews: &[u16; Counts::ENTRIES],
-    count: usize,
+    counts: Counts,
     agents: usize,
     sheet: &[u8],
     n: usize,
     levels: &mut [i16; LEVELS],
 ) -> Ran
-    requires { ⌜ ((n ≤ mostSteps) × (Few runs × (length (now sheet) ≡ n * agents))) × (((agents ≤ mostAgents) × ((count ≤ mostEntries) × ((count ≤ length (now actions)) × (count ≤ length (now crews)))))
-        × ((w ≤ mostFluents) × (((w ≤ length (now lowest)) × (w ≤ length (now highest))) × ((w ≤ length (now start)) × (length (now levels) ≡ levelsSize))))) ⌝ }
+    requires { ⌜ ((n ≤ mostSteps) × (Few runs × (length (now sheet) ≡ n * agents))) × (((agents ≤ mostAgents) × ((counts .entries ≤ mostEntries) × ((counts .entries ≤ length (now actions)) × (counts .entries ≤ length (now crews)))))
+        × ((counts .fluents ≤ mostFluents) × (((counts .fluents ≤ length (now lowest)) × (counts .fluents ≤ length (now highest))) × ((counts .fluents ≤ length (now start)) × (length (now levels) ≡ levelsSize))))) ⌝ }
     ensures { λ r. ⌜ ((r .reached ≤ mostSteps + 1) × (length (now (levels .exit)) ≡ levelsSize)) × ((d : Domain) (l : ℕ)
-        → Prepared d (now (held .entry)) (now (owners .entry)) l runs (now (lowest .entry)) (now (highest .entry)) w count → Entered d (now (actions .entry)) (now (crews .entry)) count → d .agents ≡ agents
-        → startOf d ≡ take w (now (start .entry)) → judgedOf w r (now (levels .exit)) ≡ judge d (rows agents n (now (sheet .entry)))) ⌝ }
+        → Prepared d (now (held .entry)) (now (owners .entry)) l runs (now (lowest .entry)) (now (highest .entry)) (counts .fluents) (counts .entries) → Entered d (now (actions .entry)) (now (crews .entry)) (counts .entries) → d .agents ≡ agents
+        → startOf d ≡ take (counts .fluents) (now (start .entry)) → judgedOf (counts .fluents) r (now (levels .exit)) ≡ judge d (rows agents n (now (sheet .entry)))) ⌝ }
 {
     let mut occurred = [0u64; Sheet::STEPS + 1];
-    copy_levels(start, 0, w, levels, 0);
+    copy_levels(start, 0, counts.fluents, levels, 0);
     let fixed = runs.fixed;
     if let Check::Failed(fault, number) = check_laws(
         held,
@@ -271,10 +269,9 @@ pub(crate) fn run_sheet(
         runs,
         lowest,
         highest,
-        w,
         actions,
         crews,
-        count,
+        counts,
         agents,
         sheet,
         n,

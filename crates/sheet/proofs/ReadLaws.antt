@@ -12,10 +12,9 @@ use borrow.Author.Tests.{lt-ltb, le-ltb, le-leb, lt-leb, eq-eqb, ne-eqb}
 use Rattle.bmap.specs.Plain.{flat}
 use Rattle.bmap.proofs.PlainLaws.{flat-one}
 use Rattle.bmap.specs.Limits.{mostSteps, sheetSize}
-use Rattle.bmap.specs.Refusal.{refused}
+use Rattle.bmap.specs.Refusal.{refused, Reading, read, refusedAt, afterwards}
 use Rattle.bmap.specs.Line.{linesOf, decode, stored}
 use Rattle.bmap.specs.Domain.{Names}
-use Rattle.bmap.specs.Accept.{Reading, read, refusedAt, afterwards}
 use Rattle.bmap.specs.Buffer.{over, padded, fill}
 use Rattle.bmap.specs.Sheet.{stepOf, stepsFrom, stepsIn, readSheet}
 use Rattle.line.specs.Read.{frameSize, lineRead}

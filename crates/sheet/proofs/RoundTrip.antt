@@ -12,10 +12,9 @@ use lib.Seq.{take-at, drop-at, length-take-le}
 use borrow.Author.Tests.{ltb-true, leb-true, leb-false, eqb-true, eqb-false, lt-ltb, le-leb, eq-eqb}
 use Rattle.bmap.specs.Plain.{flat}
 use Rattle.bmap.specs.Limits.{mostAgents, mostSteps, sheetSize}
-use Rattle.bmap.specs.Refusal.{Answer, got, refused, need, then}
+use Rattle.bmap.specs.Refusal.{Answer, got, refused, need, then, Reading, read, refusedAt, atLine}
 use Rattle.bmap.specs.Line.{Line, Frame, linesOf, decode, lineFor}
 use Rattle.bmap.specs.Domain.{Names}
-use Rattle.bmap.specs.Accept.{Reading, read, refusedAt, atLine}
 use Rattle.bmap.specs.Buffer.{Filled, Written, over, padded, written}
 use Rattle.bmap.specs.Sheet.{stepOf, stepsFrom, stepsIn, readSheet, rows, sheetOf, stepLine, writeSheet}
 use Rattle.bmap.specs.Theorems.{SheetLinesReturn, SheetReturns}

@@ -1,7 +1,6 @@
 -- What the reader's answer says. The writer's is `line`'s `Written`.
 use Prim.Native.Nat.{ℕ}
-use Rattle.bmap.specs.Refusal.{numberOf}
-use Rattle.bmap.specs.Accept.{Reading, read, refusedAt}
+use Rattle.bmap.specs.Refusal.{numberOf, Reading, read, refusedAt}
 use Rattle.sheet.specs.declared.reader.ReadSheet.{ReadSheet}
 use Rattle.sheet.specs.declared.reader.ReadSheet.the-variants.{Read, Refused}
 

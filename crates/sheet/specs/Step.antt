@@ -7,10 +7,9 @@ use lib.Dec.{leb}
 use lib.ListN.{length, take, drop}
 use Rattle.bmap.specs.Plain.{both, flat}
 use Rattle.bmap.specs.Limits.{mostAgents, mostSteps}
-use Rattle.bmap.specs.Refusal.{got, refused, then, numberOf}
+use Rattle.bmap.specs.Refusal.{got, refused, then, numberOf, Reading, read, refusedAt, afterwards}
 use Rattle.bmap.specs.Line.{Line, linesOf, decode}
 use Rattle.bmap.specs.Domain.{Names}
-use Rattle.bmap.specs.Accept.{Reading, read, refusedAt, afterwards}
 use Rattle.bmap.specs.Sheet.{stepOf, stepsFrom, rows, stepLine}
 use Rattle.sheet.specs.declared.reader.Next.{Next}
 use Rattle.sheet.specs.declared.reader.Next.the-variants as next

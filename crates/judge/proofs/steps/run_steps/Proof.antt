@@ -23,13 +23,13 @@ use Rattle.judge.proofs.steps.run_steps.Statement.{statement}
 use Rattle.judge.proofs.steps.run_steps.Tie as tie
 
 abbrev Inv-loop : tie.InvT-loop
-Inv-loop held owners runs lowest highest w actions crews count agents sheet n levels₀ occurred₀ rest₀ j₀ levels occurred rest j =
-    ((j ≤ n) × (length rest ≡ (n - j) * agents)) × (((length levels ≡ levelsSize) × (length occurred ≡ mostSteps + 1)) × ((d : Domain) (l : ℕ) → Prepared d held owners l runs lowest highest w count → Entered d actions crews count → d .agents ≡ agents
+Inv-loop held owners runs lowest highest actions crews counts agents sheet n levels₀ occurred₀ rest₀ j₀ levels occurred rest j =
+    ((j ≤ n) × (length rest ≡ (n - j) * agents)) × (((length levels ≡ levelsSize) × (length occurred ≡ mostSteps + 1)) × ((d : Domain) (l : ℕ) → Prepared d held owners l runs lowest highest (counts .fluents) (counts .entries) → Entered d actions crews (counts .entries) → d .agents ≡ agents
     → Acted d (rows agents n sheet) occurred j × ((drop j (rows agents n sheet) ≡ rows agents (n - j) rest)
-    × (carried d (rows agents n sheet) 0 (statesOf w 1 levels₀) (rows agents n sheet) ≡ carried d (rows agents n sheet) j (statesOf w (j + 1) levels) (rows agents (n - j) rest)))))
+    × (carried d (rows agents n sheet) 0 (statesOf (counts .fluents) 1 levels₀) (rows agents n sheet) ≡ carried d (rows agents n sheet) j (statesOf (counts .fluents) (j + 1) levels) (rows agents (n - j) rest)))))
 
 abbrev μ-loop : tie.MeasureT-loop
-μ-loop held owners runs lowest highest w actions crews count agents sheet n levels₀ occurred₀ rest₀ j₀ levels occurred rest j =
+μ-loop held owners runs lowest highest actions crews counts agents sheet n levels₀ occurred₀ rest₀ j₀ levels occurred rest j =
     n - j
 
 loop-holds : tie.Need-loop-holds Inv-loop μ-loop
@@ -38,7 +38,7 @@ loop-holds c = let s = c .before .args in (
   (
     c .before .pre .1 .1 .1 .1,
     λ d l p entered agents.
-        (λ k e h i. absurd (omega arith), (rows-start (s .agents) (s .n) (s .sheet .now), ap (λ (r : List Names). carried d (rows (s .agents) (s .n) (s .sheet .now)) 0 (statesOf (s .w) 1 (s .levels .now)) r) (rows-start (s .agents) (s .n) (s .sheet .now)))),
+        (λ k e h i. absurd (omega arith), (rows-start (s .agents) (s .n) (s .sheet .now), ap (λ (r : List Names). carried d (rows (s .agents) (s .n) (s .sheet .now)) 0 (statesOf (s .counts .fluents) 1 (s .levels .now)) r) (rows-start (s .agents) (s .n) (s .sheet .now)))),
   ),
 )
 
@@ -63,11 +63,11 @@ take-step-requires c κs = ((omega (arith, c .before .before .before .before .lo
 enum-known-fault : tie.Need-enum-known-fault Inv-loop μ-loop
 enum-known-fault c = search needs
 
-add-t30 : tie.Need-add-t30 Inv-loop μ-loop
-add-t30 c = omega (arith, c .before .before .before .before .before .before .before .before .loop-test .taken, c .before .before .before .before .before .before .before .before .before .before .before .pre .0 .0)
+add-t29 : tie.Need-add-t29 Inv-loop μ-loop
+add-t29 c = omega (arith, c .before .before .before .before .before .before .before .before .loop-test .taken, c .before .before .before .before .before .before .before .before .before .before .before .pre .0 .0)
 
-add-t32 : tie.Need-add-t32 Inv-loop μ-loop
-add-t32 c = omega (arith, c .before .before .before .before .before .before .before .before .loop-test .taken, c .before .before .before .before .before .before .before .before .before .before .before .pre .0 .0)
+add-t31 : tie.Need-add-t31 Inv-loop μ-loop
+add-t31 c = omega (arith, c .before .before .before .before .before .before .before .before .loop-test .taken, c .before .before .before .before .before .before .before .before .before .before .before .pre .0 .0)
 
 returns : tie.Need-returns Inv-loop μ-loop
 returns c = let s = c .before .before .before .before .before .before .before .before .before .before .before .args in let j = c .before .before .before .before .before .before .before .before .before .loop .j in let rest = c .before .before .before .before .before .before .before .before .before .loop .rest .now in let levels = c .before .before .before .take-step .last .1 .1 .1 .1 .1 .1 .1 .1 .1 .1 .0 in (
@@ -76,11 +76,11 @@ returns c = let s = c .before .before .before .before .before .before .before .b
       let sheet = rows (s .agents) (s .n) (s .sheet .now) in let names = take (s .agents) rest in let going = c .before .before .before .before .before .before .before .before .before .loop .inv .1 .1 d l p entered agents in
       let there = row-there (s .agents) (s .n) j rest (c .before .before .before .before .before .before .before .before .loop-test .taken) (c .before .before .before .before .before .before .before .before .before .loop .inv .0 .1) in
       let long = length-take-le (s .agents) rest there ∙ sym agents in
-      let occurring = occurring-is d names (s .actions .now) (s .crews .now) (s .count) entered long (ap (λ (a : Acting). a .entries) (c .before .before .before .before .before .before .who-acts .ensures)) in
-      let belonging = belonging-is d names (s .actions .now) (s .crews .now) (s .count) entered long (ap (λ (a : Acting). a .agents) (c .before .before .before .before .before .before .who-acts .ensures)) in
+      let occurring = occurring-is d names (s .actions .now) (s .crews .now) (s .counts .entries) entered long (ap (λ (a : Acting). a .entries) (c .before .before .before .before .before .before .who-acts .ensures)) in
+      let belonging = belonging-is d names (s .actions .now) (s .crews .now) (s .counts .entries) entered long (ap (λ (a : Acting). a .agents) (c .before .before .before .before .before .before .who-acts .ensures)) in
       let acted = acted-more d sheet (c .before .before .before .before .before .before .before .before .before .loop .occurred) j names (c .before .before .before .before .before .before .who-acts .result .entries) (omega (arith, c .before .before .before .before .before .before .before .before .before .loop .inv .1 .0 .1, c .before .before .before .before .before .before .before .before .loop-test .taken, c .before .before .before .before .before .before .before .before .before .before .before .pre .0 .0)) (row-names (s .agents) (s .n) j rest (c .before .before .before .before .before .before .before .before .loop-test .taken) sheet (going .1 .0)) occurring (going .0) in
-      sym (going .1 .1 ∙ carried-stop (s .agents) d sheet (s .n) j (statesOf (s .w) (j + 1) (c .before .before .before .before .before .before .before .before .before .loop .levels)) rest (c .before .before .before .before .before .before .before .before .loop-test .taken) (c .before .before .before .take-step .result) (stateAt (s .w) levels (j + 1)) (c .before .before .before .take-step .ensures .1 d l sheet p occurring belonging acted) (c .before .fault .given .1)
-      (states-kept (s .w) (32 * (j + 1)) (j + 1) (c .before .before .before .before .before .before .before .before .before .loop .levels) levels (c .before .before .before .take-step .ensures .0 .states) (c .before .before .before .before .before .before .before .before .before .before .before .pre .1 .1 .0) (omega arith))),
+      sym (going .1 .1 ∙ carried-stop (s .agents) d sheet (s .n) j (statesOf (s .counts .fluents) (j + 1) (c .before .before .before .before .before .before .before .before .before .loop .levels)) rest (c .before .before .before .before .before .before .before .before .loop-test .taken) (c .before .before .before .take-step .result) (stateAt (s .counts .fluents) levels (j + 1)) (c .before .before .before .take-step .ensures .1 d l sheet p occurring belonging acted) (c .before .fault .given .1)
+      (states-kept (s .counts .fluents) (32 * (j + 1)) (j + 1) (c .before .before .before .before .before .before .before .before .before .loop .levels) levels (c .before .before .before .take-step .ensures .0 .states) (c .before .before .before .before .before .before .before .before .before .before .before .pre .1 .1 .0) (omega arith))),
 )
 
 enum-told : tie.Need-enum-told Inv-loop μ-loop
@@ -111,30 +111,30 @@ loop-again c = let s = c .before .before .before .before .before .before .before
             let sheet = rows (s .agents) (s .n) (s .sheet .now) in let names = take (s .agents) rest in let going = c .before .before .before .before .before .before .before .before .before .loop .inv .1 .1 d l p entered agents in
             let there = row-there (s .agents) (s .n) j rest (c .before .before .before .before .before .before .before .before .loop-test .taken) (c .before .before .before .before .before .before .before .before .before .loop .inv .0 .1) in
             let long = length-take-le (s .agents) rest there ∙ sym agents in
-            let occurring = occurring-is d names (s .actions .now) (s .crews .now) (s .count) entered long (ap (λ (a : Acting). a .entries) (c .before .before .before .before .before .before .who-acts .ensures)) in
-            let belonging = belonging-is d names (s .actions .now) (s .crews .now) (s .count) entered long (ap (λ (a : Acting). a .agents) (c .before .before .before .before .before .before .who-acts .ensures)) in
+            let occurring = occurring-is d names (s .actions .now) (s .crews .now) (s .counts .entries) entered long (ap (λ (a : Acting). a .entries) (c .before .before .before .before .before .before .who-acts .ensures)) in
+            let belonging = belonging-is d names (s .actions .now) (s .crews .now) (s .counts .entries) entered long (ap (λ (a : Acting). a .agents) (c .before .before .before .before .before .before .who-acts .ensures)) in
             let acted = acted-more d sheet (c .before .before .before .before .before .before .before .before .before .loop .occurred) j names (c .before .before .before .before .before .before .who-acts .result .entries) (omega (arith, c .before .before .before .before .before .before .before .before .before .loop .inv .1 .0 .1, c .before .before .before .before .before .before .before .before .loop-test .taken, c .before .before .before .before .before .before .before .before .before .before .before .pre .0 .0)) (row-names (s .agents) (s .n) j rest (c .before .before .before .before .before .before .before .before .loop-test .taken) sheet (going .1 .0)) occurring (going .0) in (
               acted,
               (
                 row-on (s .agents) (s .n) j rest (c .before .before .before .before .before .before .before .before .loop-test .taken) sheet (going .1 .0) ∙ ap (rows (s .agents) (s .n - (j + 1))) (sym part),
-                going .1 .1 ∙ (carried-on (s .agents) d sheet (s .n) j (statesOf (s .w) (j + 1) (c .before .before .before .before .before .before .before .before .before .loop .levels)) rest (c .before .before .before .before .before .before .before .before .loop-test .taken) (c .before .before .before .take-step .result) (stateAt (s .w) levels (j + 1)) (c .before .before .before .take-step .ensures .1 d l sheet p occurring belonging acted) (c .before .enum-told .given .1)
-                    (states-more (s .w) j (c .before .before .before .before .before .before .before .before .before .loop .levels) levels (c .before .before .before .take-step .ensures .0 .states) (c .before .before .before .before .before .before .before .before .before .before .before .pre .1 .1 .0))
-                    ∙ ap (λ (r : List ℕ). carried d sheet (j + 1) (statesOf (s .w) (j + 1 + 1) levels) (rows (s .agents) (s .n - (j + 1)) r)) (sym part)),
+                going .1 .1 ∙ (carried-on (s .agents) d sheet (s .n) j (statesOf (s .counts .fluents) (j + 1) (c .before .before .before .before .before .before .before .before .before .loop .levels)) rest (c .before .before .before .before .before .before .before .before .loop-test .taken) (c .before .before .before .take-step .result) (stateAt (s .counts .fluents) levels (j + 1)) (c .before .before .before .take-step .ensures .1 d l sheet p occurring belonging acted) (c .before .enum-told .given .1)
+                    (states-more (s .counts .fluents) j (c .before .before .before .before .before .before .before .before .before .loop .levels) levels (c .before .before .before .take-step .ensures .0 .states) (c .before .before .before .before .before .before .before .before .before .before .before .pre .1 .1 .0))
+                    ∙ ap (λ (r : List ℕ). carried d sheet (j + 1) (statesOf (s .counts .fluents) (j + 1 + 1) levels) (rows (s .agents) (s .n - (j + 1)) r)) (sym part)),
               ),
             ),
       ),
     )
 
-add-t36 : tie.Need-add-t36 Inv-loop μ-loop
-add-t36 c = search needs
+add-t35 : tie.Need-add-t35 Inv-loop μ-loop
+add-t35 c = search needs
 
 returns-2 : tie.Need-returns-2 Inv-loop μ-loop
 returns-2 c = let s = c .before .before .before .args in let z : c .before .loop .j ≡ s .n = omega arith in (
   (search needs, (λ e. refl, c .before .loop .inv .1 .0 .0)),
   λ d l p entered agents.
       let going = c .before .loop .inv .1 .1 d l p entered agents in
-      sym (going .1 .1 ∙ (carried-end (s .agents) d (rows (s .agents) (s .n) (s .sheet .now)) (s .n) (c .before .loop .j) (statesOf (s .w) (c .before .loop .j + 1) (c .before .loop .levels)) (c .before .loop .rest .now) (c .loop-test .left)
-      ∙ ap (λ (k : ℕ). record { states = statesOf (s .w) (k + 1) (c .before .loop .levels); verdict = accepted }) z)),
+      sym (going .1 .1 ∙ (carried-end (s .agents) d (rows (s .agents) (s .n) (s .sheet .now)) (s .n) (c .before .loop .j) (statesOf (s .counts .fluents) (c .before .loop .j + 1) (c .before .loop .levels)) (c .before .loop .rest .now) (c .loop-test .left)
+      ∙ ap (λ (k : ℕ). record { states = statesOf (s .counts .fluents) (k + 1) (c .before .loop .levels); verdict = accepted }) z)),
 )
 
 pub run-steps-spec : {M : Type 1} → statement M
@@ -151,8 +151,8 @@ run-steps-spec =
     element-write-occurred
     take-step-requires
     enum-known-fault
-    add-t30
-    add-t32
+    add-t29
+    add-t31
     returns
     enum-told
     sub-rest
@@ -161,5 +161,5 @@ run-steps-spec =
     add-j
     loop-less
     loop-again
-    add-t36
+    add-t35
     returns-2)

@@ -5,10 +5,6 @@ use crate::lent::Lent;
 use waroth_reference::generate::{Answer, Call, Case, Outcome};
 use waroth_reference::Session;
 
-/// Room for what the program prints at most.
-#[cfg(program)]
-const OUTPUT: usize = 60_000;
-
 /// The answers and every buffer after the call; what was lent only to be read has to be as it was.
 pub fn run_library(case: &Case) -> Result<Outcome, String> {
     let mut outcome = Outcome::default();
@@ -75,14 +71,11 @@ pub fn run_library(case: &Case) -> Result<Outcome, String> {
                 outcome.sessions.push((*session).clone());
             }
         }
-        #[cfg(not(program))]
-        Case::Program { .. } => return Err("the library has no program yet".into()),
-        #[cfg(program)]
-        Case::Program { input } => {
-            let mut output = Lent::of(&vec![0; OUTPUT]);
+        Case::Program { input, output } => {
+            let mut output = Lent::of(output);
             let written = desk::answer(input, output.part());
-            let printed = output.back()?;
-            let answer = Answer::Printed(printed[..written].to_vec());
+            outcome.bytes = output.back()?;
+            let answer = Answer::Printed(outcome.bytes[..written].to_vec());
             outcome.answers.push(("program", answer));
         }
     }

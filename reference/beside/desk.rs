@@ -44,7 +44,6 @@ extern "C" {
         levels: *mut i16,
         room: usize,
     ) -> u64;
-    #[cfg(program)]
     fn waroth_answer(input: *const u8, length: usize, output: *mut u8, room: usize) -> u64;
 }
 
@@ -149,7 +148,6 @@ pub fn verdict_of(session: &Session, store: &[u8], levels: &mut [i16]) -> Answer
 }
 
 /// What the program prints for an input: the bytes written to the front of the output.
-#[cfg(program)]
 pub fn answer(input: &[u8], output: &mut [u8]) -> usize {
     let (room, to) = (output.len(), output.as_mut_ptr());
     unsafe { waroth_answer(input.as_ptr(), input.len(), to, room) as usize }

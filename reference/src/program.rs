@@ -8,6 +8,20 @@ use std::io::Write;
 
 pub const MAX_INPUT: usize = 60_000;
 
+/// Bytes that the call asks of its output: more than any input makes it print.
+pub const OUTPUT_BYTES: usize = 16_384;
+
+/// Prints to the front of the output and returns how many bytes that were; an
+/// output that is too short is left as it is.
+pub fn answer(input: &[u8], output: &mut [u8]) -> usize {
+    if output.len() < OUTPUT_BYTES {
+        return 0;
+    }
+    let printed = run(input);
+    output[..printed.len()].copy_from_slice(&printed);
+    printed.len()
+}
+
 /// What the program prints for its whole input. One byte more than
 /// [`MAX_INPUT`] is enough to see that the input is too long.
 pub fn run(input: &[u8]) -> Vec<u8> {

@@ -10,6 +10,7 @@ use super::sheets::{self, SESSION_FAULTS};
 use super::texts::{damaged_line, CHARACTER_FAULTS, ORDER_FAULTS, SHEET_FAULTS};
 use super::verdicts::{trials, Trial};
 use crate::judge::LEVELS;
+use crate::program::OUTPUT_BYTES;
 use crate::refusal::*;
 use crate::session::Session;
 use crate::sheet::SHEET_BYTES;
@@ -24,6 +25,8 @@ pub enum Expect {
     Broken(u8),
     /// The verdict is Accepted.
     Accepted,
+    /// The program's call prints nothing.
+    Silent,
     /// The last call is not refused.
     Fine,
 }
@@ -38,6 +41,12 @@ pub struct Aim {
 pub fn enough(r: &mut Random, named: usize) -> Vec<u8> {
     let more = if r.one_in(3) { r.from_to(1, 40) } else { 0 };
     r.bytes(named + more)
+}
+
+/// The program's call on an input, with room for what it prints.
+pub fn printing(r: &mut Random, input: Vec<u8>) -> Case {
+    let output = enough(r, OUTPUT_BYTES);
+    Case::Program { input, output }
 }
 
 pub fn too_short(r: &mut Random, named: usize) -> Vec<u8> {
@@ -160,7 +169,8 @@ impl Aims {
         // For the program a B1 line ends the domain.
         if label != "B1 in a domain" {
             self.add(format!("program: {label}"), expect, move |r| {
-                Case::Program { input: text(r) }
+                let input = text(r);
+                printing(r, input)
             });
         }
     }
@@ -186,7 +196,7 @@ impl Aims {
             let agents = r.from_to(1, 16);
             let mut input = Draft::new(agents, &[[0, 9, 5]], &[(1, 1)]).free().text();
             input.extend(text(r, agents));
-            Case::Program { input }
+            printing(r, input)
         });
     }
 
@@ -219,7 +229,7 @@ impl Aims {
             let (draft, sheet) = make(r);
             let mut input = draft.text();
             input.extend(sheet_text(&sheet, draft.agents));
-            Case::Program { input }
+            printing(r, input)
         });
     }
 }

@@ -1,13 +1,16 @@
 //! Cases of each call made for one refusal, or for the edge just before it.
 
-use super::aims::Expect::{self, Fine, Refused};
-use super::aims::{enough, enough_levels, on, over_store, stored, too_few_levels, too_short};
+use super::aims::Expect::{self, Fine, Refused, Silent};
+use super::aims::{
+    enough, enough_levels, on, over_store, printing, stored, too_few_levels, too_short,
+};
 use super::case::{Call, Case};
 use super::draft::{frame, text_of, Draft};
 use super::faults::roomy;
 use super::random::Random;
 use super::sheets;
 use crate::line::line_length;
+use crate::program::OUTPUT_BYTES;
 use crate::refusal::*;
 use crate::sheet::SHEET_BYTES;
 use crate::store::STORE_BYTES;
@@ -329,12 +332,17 @@ pub const CALLS: &[CallAim] = &[
         };
         let length = r.from_to(60_001, 60_003);
         input.resize(length, *r.pick(b"\nA1g"));
-        Case::Program { input }
+        printing(r, input)
     }),
     ("program: input of 60,000 bytes", Refused(LINE), |r| {
         let mut input = Draft::pool().text();
         input.resize(60_000, *r.pick(b"\nAg"));
-        Case::Program { input }
+        printing(r, input)
+    }),
+    ("program: output too short", Silent, |r| {
+        let input = Draft::pool().text();
+        let output = too_short(r, OUTPUT_BYTES);
+        Case::Program { input, output }
     }),
     (
         "program: A line after the first B1 line",
@@ -346,7 +354,7 @@ pub const CALLS: &[CallAim] = &[
                 frame(0xB1, &vec![0; draft.agents]),
                 frame(0xA9, &[0x2A]),
             ]));
-            Case::Program { input }
+            printing(r, input)
         },
     ),
 ];

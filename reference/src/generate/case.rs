@@ -63,6 +63,7 @@ pub enum Case {
     },
     Program {
         input: Vec<u8>,
+        output: Vec<u8>,
     },
 }
 
@@ -172,8 +173,10 @@ pub fn run_reference(case: &Case) -> Outcome {
                 outcome.sessions.push((*session).clone());
             }
         }
-        Case::Program { input } => {
-            let answer = Answer::Printed(program::run(input));
+        Case::Program { input, output } => {
+            outcome.bytes = output.clone();
+            let written = program::answer(input, &mut outcome.bytes);
+            let answer = Answer::Printed(outcome.bytes[..written].to_vec());
             outcome.answers.push(("program", answer));
         }
     }

@@ -34,8 +34,13 @@ const JUDGES: &[&str] = &["judge", "verdict", "program"];
 #[derive(Clone, Copy, PartialEq, Eq, Debug)]
 enum Sense {
     Refused(u8),
-    Broken { kind: u8, step: u8 },
+    Broken {
+        kind: u8,
+        step: u8,
+    },
     Accepted,
+    /// The program's call had no room and printed nothing.
+    Silent,
     Other,
 }
 
@@ -50,6 +55,7 @@ fn sense(answer: &Answer) -> Sense {
         }
         // An unaccepted store is refusal 15 in all calls but this question.
         Answer::Truth(false) => Sense::Refused(15),
+        Answer::Printed(text) if text.is_empty() => Sense::Silent,
         Answer::Printed(text) => {
             let text = String::from_utf8_lossy(text);
             let last: Vec<_> = text.lines().last().unwrap_or("").split(' ').collect();
@@ -106,7 +112,7 @@ impl Coverage {
                     }
                 }
                 Sense::Accepted => *self.accepted.entry(call).or_default() += 1,
-                Sense::Other => {}
+                Sense::Silent | Sense::Other => {}
             }
         }
         let Some((aim, expect)) = aim else { return };
@@ -119,6 +125,7 @@ impl Coverage {
             (Expect::Refused(wanted), Sense::Refused(number)) => wanted == number,
             (Expect::Broken(wanted), Sense::Broken { kind, .. }) => wanted == kind,
             (Expect::Accepted, Sense::Accepted) => true,
+            (Expect::Silent, Sense::Silent) => true,
             (Expect::Fine, Sense::Refused(_)) => false,
             (Expect::Fine, _) => true,
             _ => false,

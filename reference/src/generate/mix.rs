@@ -1,6 +1,6 @@
 //! Cases without aim: random ones of every call, arguments good and bad mixed.
 
-use super::aims::{enough, enough_levels, on, over_store, stored, too_short, Aim};
+use super::aims::{enough, enough_levels, on, over_store, printing, stored, too_short, Aim};
 use super::case::{Call, Case};
 use super::draft::{sheet_text, text_of, Draft};
 use super::random::Random;
@@ -246,7 +246,7 @@ fn program(r: &mut Random, aims: &[Aim]) -> Case {
     if r.one_in(8) {
         input = damaged(r, input, b"0123456789ABCDEF\n\r ag");
     }
-    Case::Program { input }
+    printing(r, input)
 }
 
 /// A session whose sheet some aim gave to the judge.

@@ -10,15 +10,16 @@ use lib.Dec.{leb}
 use lib.ListN.{length, drop, drop-of-length-le, length-drop}
 use lib.Seq.{drop-drop, drop-cons}
 use borrow.Author.Tests.{leb-true, leb-false, lt-ltb, le-ltb, le-leb, lt-leb, ne-eqb}
-use Rattle.bmap.specs.Plain.{if-else}
+use Rattle.bmap.specs.Refusal.{got, refused, need}
 use Rattle.bmap.specs.Tree.{Con, allowedE, allowedC}
 use Rattle.bmap.specs.Code.{Parsed, parseE, parseC}
 use Rattle.bmap.specs.Domain.{Law, executable, effect, must, Scope, static, concurrency, goal}
 use Rattle.bmap.specs.Payload.{byte, only, treeIn, last, below, conIn, exprIn, context, asks, executableIn, effectIn, mustIn, lawIn}
 use Rattle.bmap.specs.declared.limits.Counts.{Counts}
-use Rattle.law.specs.Check.{checked}
+use Rattle.law.specs.Check.{checkedOf, endOf}
 use Rattle.law.specs.declared.checks.Checked.{Checked}
 use Rattle.law.specs.declared.checks.Checked.the-variants.{Next, Refused}
+use Rattle.law.proofs.Theorems.{accepted}
 use Rattle.domain.specs.Check.{isSome}
 
 -- ---- a tree to the end
@@ -42,49 +43,34 @@ module _ {T : Type 0} (allowed : T → Bool) (p : List ℕ) where
       go false = refl
 
 -- by the checker's answer
-module _ {T : Type 0} (allowed : T → Bool) (p : List ℕ) (at : ℕ) (o : Option (Parsed T)) (r : Checked) (e : r ≡ checked allowed at o) where
-  pub end-next : (n : ℕ) → r ≡ Next n → leb (length p) n ≡ isSome (treeIn allowed (drop at p) o last)
-  end-next n k = go o refl
-    where
-      by : (t : Parsed T) (b : Bool) → allowed (t .tree) ≡ b → if-else b (Next (at + t .used)) Refused ≡ Next n → leb (length p) n ≡ isSome (only b (last (t .tree) (drop (t .used) (drop at p))))
-      by t false a q = absurd (let z : _≡_ {A = ℕ} 0 1 = cc in omega arith)
-      by t true a q =
-          let m : at + t .used ≡ n = cc in
-          sym (last-is (t .tree) (drop (t .used) (drop at p)) ∙ ap (λ l. leb (length l) 0) (drop-drop (t .used) at p ∙ ap (λ i. drop i p) m) ∙ fits)
-        where
-          fits : leb (length (drop n p)) 0 ≡ leb (length p) n
-          fits = go (leb (length p) n) refl
-            where
-              go : (b : Bool) → leb (length p) n ≡ b → leb (length (drop n p)) 0 ≡ b
-              go true h = le-leb (length (drop n p)) 0 (omega (arith, length-drop n p, leb-true (length p) n h))
-              go false h = lt-leb (length (drop n p)) 0 (omega (arith, length-drop n p, leb-false (length p) n h))
+module _ {T : Type 0} (allowed : T → Bool) (p : List ℕ) (at : ℕ) where
+  tree-then : {L : Type 0} {n : ℕ} {o : Option (Parsed T)} {t : Parsed T} (k : T → List ℕ → Option L) → o ≡ some t → allowed (t .tree) ≡ true → n ≡ at + t .used → treeIn allowed (drop at p) o k ≡ k (t .tree) (drop n p)
+  tree-then {t = t} k stands passes ends = rw (stands, passes, ends) (ap (k (t .tree)) (drop-drop (t .used) at p))
 
-      go : (q : Option (Parsed T)) → o ≡ q → leb (length p) n ≡ isSome (treeIn allowed (drop at p) q last)
-      go none q = absurd (let z : _≡_ {A = ℕ} 0 1 = cc in omega arith)
-      go (some t) q = by t (allowed (t .tree)) refl (sym (ap (checked allowed at) q) ∙ sym e ∙ k)
-
+module _ {T : Type 0} (allowed : T → Bool) (p : List ℕ) (at : ℕ) (o : Option (Parsed T)) (r : Checked) (e : checkedOf r ≡ endOf allowed at o) where
   -- the tree, and what comes after
   pub next-is : {L : Type 0} (n : ℕ) (k : T → List ℕ → Option L) → r ≡ Next n → (t : T) × (treeIn allowed (drop at p) o k ≡ k t (drop n p))
-  next-is n k h = go o refl
-    where
-      by : (t : Parsed T) (b : Bool) → allowed (t .tree) ≡ b → if-else b (Next (at + t .used)) Refused ≡ Next n → (x : T) × (only b (k (t .tree) (drop (t .used) (drop at p))) ≡ k x (drop n p))
-      by t false a q = absurd (let z : _≡_ {A = ℕ} 0 1 = cc in omega arith)
-      by t true a q = let m : at + t .used ≡ n = cc in (t .tree, ap (k (t .tree)) (drop-drop (t .used) at p ∙ ap (λ i. drop i p) m))
+  next-is n k h =
+      let t = accepted allowed at {n = n} o (sym (ap checkedOf h) ∙ e) in
+      (t .parsed .tree, tree-then allowed p at k (t .stands) (t .passes) (t .ends))
 
-      go : (q : Option (Parsed T)) → o ≡ q → (x : T) × (treeIn allowed (drop at p) q k ≡ k x (drop n p))
-      go none q = absurd (let z : _≡_ {A = ℕ} 0 1 = cc in omega arith)
-      go (some t) q = by t (allowed (t .tree)) refl (sym (ap (checked allowed at) q) ∙ sym e ∙ h)
+  pub end-next : (n : ℕ) → r ≡ Next n → leb (length p) n ≡ isSome (treeIn allowed (drop at p) o last)
+  end-next n k = let t = next-is n last k in sym (ap isSome (t .1) ∙ last-is (t .0) (drop n p) ∙ fits (leb (length p) n) refl)
+    where
+      fits : (b : Bool) → leb (length p) n ≡ b → leb (length (drop n p)) 0 ≡ b
+      fits true h = le-leb (length (drop n p)) 0 (omega (arith, length-drop n p, leb-true (length p) n h))
+      fits false h = lt-leb (length (drop n p)) 0 (omega (arith, length-drop n p, leb-false (length p) n h))
 
   pub refused-is : {L : Type 0} (k : T → List ℕ → Option L) → r ≡ Refused → none ≡ treeIn allowed (drop at p) o k
-  refused-is k h = go o refl
+  refused-is k h = go o (sym (ap checkedOf h) ∙ e)
     where
-      by : (t : Parsed T) (b : Bool) → allowed (t .tree) ≡ b → if-else b (Next (at + t .used)) Refused ≡ Refused → none ≡ only b (k (t .tree) (drop (t .used) (drop at p)))
-      by t false a q = refl
-      by t true a q = absurd (let z : _≡_ {A = ℕ} 0 1 = cc in omega arith)
+      by : (t : Parsed T) (b : Bool) → refused 4 ≡ need b 4 (got (at + t .used)) → none ≡ only b (k (t .tree) (drop (t .used) (drop at p)))
+      by t false q = refl
+      by t true q = absurd (let z : _≡_ {A = ℕ} 0 1 = cc in omega arith)
 
-      go : (q : Option (Parsed T)) → o ≡ q → none ≡ treeIn allowed (drop at p) q k
+      go : (o : Option (Parsed T)) → refused 4 ≡ endOf allowed at o → none ≡ treeIn allowed (drop at p) o k
       go none q = refl
-      go (some t) q = by t (allowed (t .tree)) refl (sym (ap (checked allowed at) q) ∙ sym e ∙ h)
+      go (some t) q = by t (allowed (t .tree)) q
 
 -- ---- a number below a limit, at a place
 
@@ -134,7 +120,7 @@ module _ (n : Counts) (p : List ℕ) where
       unfolding effectIn afterCon
       effect-con = below-at (n .entries) p 0 _ h l
 
-      module _ (r : Checked) (e : r ≡ checked (allowedC (context n true)) 1 (parseC 16 (drop 1 p))) where
+      module _ (r : Checked) (e : checkedOf r ≡ endOf (allowedC (context n true)) 1 (parseC 16 (drop 1 p))) where
         pub effect-refused : r ≡ Refused → false ≡ isSome (effectIn n p)
         effect-refused q = ap isSome (refused-is (allowedC (context n true)) p 1 (parseC 16 (drop 1 p)) r e afterCon q ∙ sym effect-con)
 

@@ -14,7 +14,8 @@ use Rattle.bmap.specs.declared.Operation.{Operation}
 use Rattle.bmap.specs.declared.Single.{Single}
 use Rattle.bmap.specs.declared.Comparison.{Comparison}
 use Rattle.bmap.specs.declared.Junction.{Junction}
-use Rattle.bmap.specs.Plain.{both, all, if-else}
+use Rattle.bmap.specs.Plain.{both, all}
+use Rattle.bmap.specs.Refusal.{Answer, got, refused, need}
 use Rattle.bmap.specs.declared.limits.Context.{Context}
 use Rattle.bmap.specs.Limits.{mostLag}
 use Rattle.bmap.specs.Number.{signedWord}
@@ -25,14 +26,12 @@ use Rattle.law.specs.declared.table.Shape.{Shape}
 use Rattle.law.specs.declared.table.Shape.the-variants as shape
 use Rattle.law.specs.declared.table.Node.the-variants.{Expression, Constraint}
 use Rattle.law.specs.declared.table.Pair.the-variants.{Bytes, Short}
-use Rattle.law.specs.declared.checks.Checked.{Checked}
-use Rattle.law.specs.declared.checks.Checked.the-variants.{Next, Refused}
 use Rattle.law.specs.declared.checks.Test.{Test}
 use Rattle.law.specs.declared.checks.Test.the-variants.{Allowed, Known}
 use Rattle.law.specs.Shape.{opened, pairOf, operationOf, singleOf, comparisonOf, junctionOf}
 use Rattle.law.specs.Mask.{bit}
 use Rattle.law.specs.Names.{namesOnly}
-use Rattle.law.specs.Check.{checked, nextOf, passesE, passesC}
+use Rattle.law.specs.Check.{nextOf, endOf, passesE, passesC}
 use Rattle.law.proofs.Trees.{at-constant, at-fluent, at-reified, at-one, at-two, at-truth, at-occurrence, at-negation, at-junction, at-comparison, no-pair, a-pair}
 
 -- A tree passes where its operands do.
@@ -100,60 +99,60 @@ module _ (t : Test) (n lag : ℕ) where
 
 -- One operand, and two.
 module _ {T A : Type 0} (okA : A → Bool) (okT : T → Bool) where
-  one-checked : (make : A → T) → ((a : A) → okT (make a) ≡ okA a) → (at k : ℕ) (o : Option (Parsed A)) → checked okA (at + k) o ≡ checked okT at (made make k o)
+  one-checked : (make : A → T) → ((a : A) → okT (make a) ≡ okA a) → (at k : ℕ) (o : Option (Parsed A)) → endOf okA (at + k) o ≡ endOf okT at (made make k o)
   one-checked make h at k none = refl
   one-checked make h at k (some p) = rw (h (p .tree), add-assoc at k (p .used))
 
   module _ (make : A → A → T) (h : (a b : A) → okT (make a b) ≡ both (okA a) (okA b)) (pa : Parser A) (s : List ℕ) (at : ℕ) where
-    fails : (a : A) → okA a ≡ false → (k : ℕ) (o : Option (Parsed A)) → Refused ≡ checked okT at (made (make a) k o)
+    fails : (a : A) → okA a ≡ false → (k : ℕ) (o : Option (Parsed A)) → refused 4 ≡ endOf okT at (made (make a) k o)
     fails a f k none = refl
     fails a f k (some p) = rw (h a (p .tree), f)
 
-    abbrev after : Checked → Checked
-    after Refused = Refused
-    after (Next m) = checked okA m (pa (drop m s))
+    abbrev after : Answer ℕ → Answer ℕ
+    after (refused n) = refused n
+    after (got m) = endOf okA m (pa (drop m s))
 
-    two-checked : (o : Option (Parsed A)) → after (checked okA (at + 1) o) ≡ checked okT at (second make pa (drop (at + 1) s) o)
+    two-checked : (o : Option (Parsed A)) → after (endOf okA (at + 1) o) ≡ endOf okT at (second make pa (drop (at + 1) s) o)
     two-checked none = refl
     two-checked (some p) = go (okA (p .tree)) refl
       where
-        go : (b : Bool) → okA (p .tree) ≡ b → after (if-else b (Next (at + 1 + p .used)) Refused) ≡ checked okT at (made (make (p .tree)) (1 + p .used) (pa (drop (p .used) (drop (at + 1) s))))
+        go : (b : Bool) → okA (p .tree) ≡ b → after (need b 4 (got (at + 1 + p .used))) ≡ endOf okT at (made (make (p .tree)) (1 + p .used) (pa (drop (p .used) (drop (at + 1) s))))
         go false f = fails (p .tree) f (1 + p .used) (pa (drop (p .used) (drop (at + 1) s)))
         go true f =
             rw (drop-drop (p .used) (at + 1) s, add-assoc at 1 (p .used))
             (one-checked (make (p .tree)) (λ b. rw (h (p .tree) b, f)) at (1 + p .used) (pa (drop (at + (1 + p .used)) s)))
 
-    pub first-refused : Refused ≡ checked okA (at + 1) (pa (drop (at + 1) s)) → Refused ≡ checked okT at (operands make pa (drop (at + 1) s))
+    pub first-refused : refused 4 ≡ endOf okA (at + 1) (pa (drop (at + 1) s)) → refused 4 ≡ endOf okT at (operands make pa (drop (at + 1) s))
     first-refused e = ap after e ∙ two-checked (pa (drop (at + 1) s))
 
-    pub then-second : {m : ℕ} → Next m ≡ checked okA (at + 1) (pa (drop (at + 1) s)) → checked okA m (pa (drop m s)) ≡ checked okT at (operands make pa (drop (at + 1) s))
+    pub then-second : {m : ℕ} → got m ≡ endOf okA (at + 1) (pa (drop (at + 1) s)) → endOf okA m (pa (drop m s)) ≡ endOf okT at (operands make pa (drop (at + 1) s))
     then-second e = ap after e ∙ two-checked (pa (drop (at + 1) s))
 
 -- no tree ends at 0
-pub nowhere : {n : ℕ} → n ≡ 0 → Refused ≡ nextOf n
+pub nowhere : {n : ℕ} → n ≡ 0 → refused 4 ≡ nextOf n
 nowhere e = rw e
 
-pub there : (n : ℕ) → (n ≡ 0 → ⊥) → Next n ≡ nextOf n
+pub there : (n : ℕ) → (n ≡ 0 → ⊥) → got n ≡ nextOf n
 there zero h = absurd (h refl)
 there (suc n) h = refl
 
-past : (at k : ℕ) → 1 ≤ k → nextOf (at + k) ≡ Next (at + k)
+past : (at k : ℕ) → 1 ≤ k → nextOf (at + k) ≡ got (at + k)
 past at k h = sym (there (at + k) (λ e. omega arith))
 
 -- no tree is refused
-pub refused : {T : Type 0} (ok : T → Bool) (at : ℕ) {o : Option (Parsed T)} → o ≡ none → Refused ≡ checked ok at o
-refused ok at e = rw e
+pub no-tree : {T : Type 0} (ok : T → Bool) (at : ℕ) {o : Option (Parsed T)} → o ≡ none → refused 4 ≡ endOf ok at o
+no-tree ok at e = rw e
 
 -- The leaves.
 module _ {T : Type 0} (ok : T → Bool) (make : ℕ → ℕ → T) (s : List ℕ) (at : ℕ) where
-  pub leaf-short : Short ≡ pairOf (drop (at + 1) s) → Refused ≡ checked ok at (twoBytes make (drop (at + 1) s))
-  leaf-short e = refused ok at (no-pair make (drop (at + 1) s) e)
+  pub leaf-short : Short ≡ pairOf (drop (at + 1) s) → refused 4 ≡ endOf ok at (twoBytes make (drop (at + 1) s))
+  leaf-short e = no-tree ok at (no-pair make (drop (at + 1) s) e)
 
   module _ {a b : ℕ} (e : Bytes a b ≡ pairOf (drop (at + 1) s)) where
-    pub leaf-passes : ok (make a b) ≡ true → nextOf (at + 3) ≡ checked ok at (twoBytes make (drop (at + 1) s))
+    pub leaf-passes : ok (make a b) ≡ true → nextOf (at + 3) ≡ endOf ok at (twoBytes make (drop (at + 1) s))
     leaf-passes h = rw (a-pair make (drop (at + 1) s) e, h) (past at 3 (omega arith))
 
-    pub leaf-fails : ok (make a b) ≡ false → Refused ≡ checked ok at (twoBytes make (drop (at + 1) s))
+    pub leaf-fails : ok (make a b) ≡ false → refused 4 ≡ endOf ok at (twoBytes make (drop (at + 1) s))
     leaf-fails h = rw (a-pair make (drop (at + 1) s) e, h)
 
 -- The tree at a place, by its code.
@@ -161,23 +160,23 @@ module _ (t : Test) (s : List ℕ) (at d : ℕ) (ne : d ≡ 0 → ⊥) (lt : at 
   abbrev code : Code
   code = codeOf (getD s at 0)
 
-  abbrev whole-e : Checked
-  whole-e = checked (passesE t) at (parseE d (drop at s))
+  abbrev whole-e : Answer ℕ
+  whole-e = endOf (passesE t) at (parseE d (drop at s))
 
-  abbrev part-e : ℕ → Checked
-  part-e m = checked (passesE t) m (parseE (d - 1) (drop m s))
+  abbrev part-e : ℕ → Answer ℕ
+  part-e m = endOf (passesE t) m (parseE (d - 1) (drop m s))
 
-  abbrev whole-c : Checked
-  whole-c = checked (passesC t) at (parseC d (drop at s))
+  abbrev whole-c : Answer ℕ
+  whole-c = endOf (passesC t) at (parseC d (drop at s))
 
-  abbrev part-c : ℕ → Checked
-  part-c m = checked (passesC t) m (parseC (d - 1) (drop m s))
+  abbrev part-c : ℕ → Answer ℕ
+  part-c m = endOf (passesC t) m (parseC (d - 1) (drop m s))
 
   module _ {sh : Shape} (p : Expression sh ≡ opened code) where
-    pub check-constant : sh ≡ shape.Value → checked (passesE t) at (twoBytes (λ hi lo. constant (signedWord hi lo)) (drop (at + 1) s)) ≡ whole-e
+    pub check-constant : sh ≡ shape.Value → endOf (passesE t) at (twoBytes (λ hi lo. constant (signedWord hi lo)) (drop (at + 1) s)) ≡ whole-e
     check-constant q = rw (at-constant s at d ne lt p q)
 
-    pub check-fluent : sh ≡ shape.FluentLag → checked (passesE t) at (twoBytes fluent (drop (at + 1) s)) ≡ whole-e
+    pub check-fluent : sh ≡ shape.FluentLag → endOf (passesE t) at (twoBytes fluent (drop (at + 1) s)) ≡ whole-e
     check-fluent q = rw (at-fluent s at d ne lt p q)
 
     pub check-reified : sh ≡ shape.Constraint → part-c (at + 1) ≡ whole-e
@@ -186,41 +185,41 @@ module _ (t : Test) (s : List ℕ) (at d : ℕ) (ne : d ≡ 0 → ⊥) (lt : at 
     pub check-one : sh ≡ shape.Expression → part-e (at + 1) ≡ whole-e
     check-one q = rw (at-one s at d ne lt p q) (one-checked (passesE t) (passesE t) (one (singleOf code)) (passes-one t (singleOf code)) at 1 (parseE (d - 1) (drop (at + 1) s)))
 
-    pub check-two : {m : ℕ} → sh ≡ shape.Expressions → Next m ≡ part-e (at + 1) → part-e m ≡ whole-e
+    pub check-two : {m : ℕ} → sh ≡ shape.Expressions → got m ≡ part-e (at + 1) → part-e m ≡ whole-e
     check-two q e = rw (at-two s at d ne lt p q) (then-second (passesE t) (passesE t) (two (operationOf code)) (passes-two t (operationOf code)) (parseE (d - 1)) s at e)
 
-    pub check-first : sh ≡ shape.Expressions → Refused ≡ part-e (at + 1) → Refused ≡ whole-e
+    pub check-first : sh ≡ shape.Expressions → refused 4 ≡ part-e (at + 1) → refused 4 ≡ whole-e
     check-first q e = rw (at-two s at d ne lt p q) (first-refused (passesE t) (passesE t) (two (operationOf code)) (passes-two t (operationOf code)) (parseE (d - 1)) s at e)
 
   module _ {sh : Shape} (p : Constraint sh ≡ opened code) where
     pub check-truth : sh ≡ shape.Nothing → nextOf (at + 1) ≡ whole-c
     check-truth q = rw (at-truth s at d ne lt p q, passes-always t) (past at 1 (omega arith))
 
-    pub check-occurrence : sh ≡ shape.EntryLag → checked (passesC t) at (twoBytes occurs (drop (at + 1) s)) ≡ whole-c
+    pub check-occurrence : sh ≡ shape.EntryLag → endOf (passesC t) at (twoBytes occurs (drop (at + 1) s)) ≡ whole-c
     check-occurrence q = rw (at-occurrence s at d ne lt p q)
 
     pub check-negation : sh ≡ shape.Constraint → part-c (at + 1) ≡ whole-c
     check-negation q = rw (at-negation s at d ne lt p q) (one-checked (passesC t) (passesC t) negated (passes-negated t) at 1 (parseC (d - 1) (drop (at + 1) s)))
 
-    pub check-junction : {m : ℕ} → sh ≡ shape.Constraints → Next m ≡ part-c (at + 1) → part-c m ≡ whole-c
+    pub check-junction : {m : ℕ} → sh ≡ shape.Constraints → got m ≡ part-c (at + 1) → part-c m ≡ whole-c
     check-junction q e = rw (at-junction s at d ne lt p q) (then-second (passesC t) (passesC t) (joined (junctionOf code)) (passes-joined t (junctionOf code)) (parseC (d - 1)) s at e)
 
-    pub check-first-c : sh ≡ shape.Constraints → Refused ≡ part-c (at + 1) → Refused ≡ whole-c
+    pub check-first-c : sh ≡ shape.Constraints → refused 4 ≡ part-c (at + 1) → refused 4 ≡ whole-c
     check-first-c q e = rw (at-junction s at d ne lt p q) (first-refused (passesC t) (passesC t) (joined (junctionOf code)) (passes-joined t (junctionOf code)) (parseC (d - 1)) s at e)
 
-    pub check-compared : {m : ℕ} → sh ≡ shape.Expressions → Next m ≡ part-e (at + 1) → part-e m ≡ whole-c
+    pub check-compared : {m : ℕ} → sh ≡ shape.Expressions → got m ≡ part-e (at + 1) → part-e m ≡ whole-c
     check-compared q e = rw (at-comparison s at d ne lt p q) (then-second (passesE t) (passesC t) (compared (comparisonOf code)) (passes-compared t (comparisonOf code)) (parseE (d - 1)) s at e)
 
-    pub check-first-e : sh ≡ shape.Expressions → Refused ≡ part-e (at + 1) → Refused ≡ whole-c
+    pub check-first-e : sh ≡ shape.Expressions → refused 4 ≡ part-e (at + 1) → refused 4 ≡ whole-c
     check-first-e q e = rw (at-comparison s at d ne lt p q) (first-refused (passesE t) (passesC t) (compared (comparisonOf code)) (passes-compared t (comparisonOf code)) (parseE (d - 1)) s at e)
 
 -- What the place after a tree says of the fluents that it names.
-pub names-known : (mask at n : ℕ) (o : Option (Parsed Con)) → nextOf n ≡ checked (passesC (Known mask)) at o → not (eqb n 0) ≡ namesOnly mask o
+pub names-known : (mask at n : ℕ) (o : Option (Parsed Con)) → nextOf n ≡ endOf (passesC (Known mask)) at o → not (eqb n 0) ≡ namesOnly mask o
 names-known mask at zero none e = refl
 names-known mask at (suc n) none e = cc
 names-known mask at n (some p) e = go n (passesC (Known mask) (p .tree)) e
   where
-    go : (n : ℕ) (b : Bool) → nextOf n ≡ if-else b (Next (at + p .used)) Refused → not (eqb n 0) ≡ b
+    go : (n : ℕ) (b : Bool) → nextOf n ≡ need b 4 (got (at + p .used)) → not (eqb n 0) ≡ b
     go zero true e = cc
     go zero false e = refl
     go (suc n) true e = rw (ne-eqb (suc n) 0 (λ z. omega arith))

@@ -1,8 +1,9 @@
 -- What the checker answers.
 use Prim.Native.Nat.{ℕ, zero, suc, _+_}
 use mathlib.Core.Bool.{Bool}
-use mathlib.Core.Option.{Option, none, some}
-use Rattle.bmap.specs.Plain.{if-else, all}
+use mathlib.Core.Option.{Option}
+use Rattle.bmap.specs.Plain.{all}
+use Rattle.bmap.specs.Refusal.{Answer, got, refused, need, known, then}
 use Rattle.bmap.specs.Tree.{Expr, Con, allowedE, allowedC, namedE, namedC}
 use Rattle.bmap.specs.Code.{Parsed}
 use Rattle.law.specs.Mask.{bit}
@@ -11,16 +12,19 @@ use Rattle.law.specs.declared.checks.Checked.the-variants.{Next, Refused
 use Rattle.law.specs.declared.checks.Test.{Test}
 use Rattle.law.specs.declared.checks.Test.the-variants.{Allowed, Known}
 
--- the place just after the tree that stands at `at`, where one stands there and passes
-module _ {T : Type 0} where
-  abbrev pub checked : (T → Bool) → ℕ → Option (Parsed T) → Checked
-  checked passes at none = Refused
-  checked passes at (some p) = if-else (passes (p .tree)) (Next (at + p .used)) Refused
+-- the code's type: a place, or refusal 4, "payload not as described"
+abbrev pub checkedOf : Checked → Answer ℕ
+checkedOf (Next n) = got n
+checkedOf Refused = refused 4
 
 -- the same by a number: at place 0 no tree ends
-abbrev pub nextOf : ℕ → Checked
-nextOf zero = Refused
-nextOf (suc n) = Next (suc n)
+abbrev pub nextOf : ℕ → Answer ℕ
+nextOf zero = refused 4
+nextOf (suc n) = got (suc n)
+
+-- the place just after the tree that stands at `at`, where one stands there and passes
+abbrev pub endOf : {T : Type 0} → (T → Bool) → ℕ → Option (Parsed T) → Answer ℕ
+endOf passes at parsed = then (known 4 parsed) (λ p. need (passes (p .tree)) 4 (got (at + p .used)))
 
 -- the two tests that a tree may be put to
 abbrev pub passesE : Test → Expr → Bool

@@ -9,7 +9,7 @@ ghost use Rattle.bmap.specs.Limits.{mostDepth, mostLag};
 ghost use Rattle.bmap.specs.Tree.{allowedE, allowedC, constant, fluent, occurs};
 ghost use Rattle.bmap.specs.Number.{signedWord};
 ghost use Rattle.bmap.specs.Code.{parseE, parseC, twoBytes};
-ghost use Rattle.law.specs.Check.{checked, nextOf, passesE, passesC};
+ghost use Rattle.law.specs.Check.{checkedOf, nextOf, endOf, passesE, passesC};
 use crate::mask::has_bit;
 use crate::table::Node;
 use crate::table::Pair;
@@ -72,7 +72,7 @@ fn entry_passes(test: Test, e: u8, lag: u8) -> bool
 
 // The leaves, whose code stands at a place.
 fn constant_at(s: &[u8], at: usize, test: Test) -> usize
-    ensures { λ r. ⌜ nextOf r ≡ checked (passesE test) at (twoBytes (λ hi lo. constant (signedWord hi lo)) (drop (at + 1) (now (s .entry)))) ⌝ }
+    ensures { λ r. ⌜ nextOf r ≡ endOf (passesE test) at (twoBytes (λ hi lo. constant (signedWord hi lo)) (drop (at + 1) (now (s .entry)))) ⌝ }
 {
     match pair_after(s, at) {
         Pair::Bytes(_, _) => at + 3,
@@ -81,7 +81,7 @@ fn constant_at(s: &[u8], at: usize, test: Test) -> usize
 }
 
 fn fluent_at(s: &[u8], at: usize, test: Test) -> usize
-    ensures { λ r. ⌜ nextOf r ≡ checked (passesE test) at (twoBytes fluent (drop (at + 1) (now (s .entry)))) ⌝ }
+    ensures { λ r. ⌜ nextOf r ≡ endOf (passesE test) at (twoBytes fluent (drop (at + 1) (now (s .entry)))) ⌝ }
 {
     match pair_after(s, at) {
         Pair::Bytes(f, lag) => {
@@ -96,7 +96,7 @@ fn fluent_at(s: &[u8], at: usize, test: Test) -> usize
 }
 
 fn entry_at(s: &[u8], at: usize, test: Test) -> usize
-    ensures { λ r. ⌜ nextOf r ≡ checked (passesC test) at (twoBytes occurs (drop (at + 1) (now (s .entry)))) ⌝ }
+    ensures { λ r. ⌜ nextOf r ≡ endOf (passesC test) at (twoBytes occurs (drop (at + 1) (now (s .entry)))) ⌝ }
 {
     match pair_after(s, at) {
         Pair::Bytes(e, lag) => {
@@ -111,7 +111,7 @@ fn entry_at(s: &[u8], at: usize, test: Test) -> usize
 }
 
 fn expression_in(s: &[u8], at: usize, depth: usize, test: Test) -> usize
-    ensures { λ r. ⌜ nextOf r ≡ checked (passesE test) at (parseE depth (drop at (now (s .entry)))) ⌝ }
+    ensures { λ r. ⌜ nextOf r ≡ endOf (passesE test) at (parseE depth (drop at (now (s .entry)))) ⌝ }
 {
     if depth == 0 {
         return REFUSED;
@@ -139,7 +139,7 @@ fn expression_in(s: &[u8], at: usize, depth: usize, test: Test) -> usize
 }
 
 pub(crate) fn constraint_in(s: &[u8], at: usize, depth: usize, test: Test) -> usize
-    ensures { λ r. ⌜ nextOf r ≡ checked (passesC test) at (parseC depth (drop at (now (s .entry)))) ⌝ }
+    ensures { λ r. ⌜ nextOf r ≡ endOf (passesC test) at (parseC depth (drop at (now (s .entry)))) ⌝ }
 {
     if depth == 0 {
         return REFUSED;
@@ -173,7 +173,7 @@ pub(crate) fn constraint_in(s: &[u8], at: usize, depth: usize, test: Test) -> us
 }
 
 fn next_of(end: usize) -> Checked
-    ensures { λ r. ⌜ r ≡ nextOf end ⌝ }
+    ensures { λ r. ⌜ checkedOf r ≡ nextOf end ⌝ }
 {
     if end == REFUSED {
         return Checked::Refused;
@@ -183,14 +183,14 @@ fn next_of(end: usize) -> Checked
 
 // An expression that a law may hold in this context.
 pub fn check_expression(s: &[u8], at: usize, context: Context) -> Checked
-    ensures { λ r. ⌜ r ≡ checked (allowedE context) at (parseE mostDepth (drop at (now (s .entry)))) ⌝ }
+    ensures { λ r. ⌜ checkedOf r ≡ endOf (allowedE context) at (parseE mostDepth (drop at (now (s .entry)))) ⌝ }
 {
     next_of(expression_in(s, at, bmap::DEPTH, Test::Allowed(context)))
 }
 
 // A constraint that a law may hold in this context.
 pub fn check_constraint(s: &[u8], at: usize, context: Context) -> Checked
-    ensures { λ r. ⌜ r ≡ checked (allowedC context) at (parseC mostDepth (drop at (now (s .entry)))) ⌝ }
+    ensures { λ r. ⌜ checkedOf r ≡ endOf (allowedC context) at (parseC mostDepth (drop at (now (s .entry)))) ⌝ }
 {
     next_of(constraint_in(s, at, bmap::DEPTH, Test::Allowed(context)))
 }

@@ -1,6 +1,6 @@
 use Rattle.domain.proofs.LawLaws.{effect-empty, effect-entry, effect-refused, effect-end, effect-fluent, effect-law}
 use Rattle.domain.specs.Check.{isSome}
-use Rattle.law.specs.Check.{checked}
+use Rattle.law.specs.Check.{endOf}
 use Rattle.bmap.specs.declared.limits.Context.{Context}
 use Rattle.bmap.specs.Payload.{exprIn, last}
 use Rattle.bmap.specs.Code.{parseC}
@@ -42,14 +42,14 @@ returns-3 c =
     let k = c .before .before in
     let a = k .before .before .before .before .before .before .before .args in
     effect-refused (a .n) (a .p .now) (omega arith) (k .before .before .if2 .left) (k .check-constraint .result)
-    (k .check-constraint .ensures ∙ ap (λ (x : Context). checked (allowedC x) 1 (parseC 16 (drop 1 (a .p .now)))) (k .before .context-of .ensures)) (c .enum-told .given .1)
+    (k .check-constraint .ensures ∙ ap (λ (x : Context). endOf (allowedC x) 1 (parseC 16 (drop 1 (a .p .now)))) (k .before .context-of .ensures)) (c .enum-told .given .1)
 
 returns-4 : tie.Need-returns-4
 returns-4 c =
     let k = c .before .before .before .before in
     let a = k .before .before .before .before .before .before .before .args in
     effect-end (a .n) (a .p .now) (omega arith) (k .before .before .if2 .left) (k .check-constraint .result)
-    (k .check-constraint .ensures ∙ ap (λ (x : Context). checked (allowedC x) 1 (parseC 16 (drop 1 (a .p .now)))) (k .before .context-of .ensures))
+    (k .check-constraint .ensures ∙ ap (λ (x : Context). endOf (allowedC x) 1 (parseC 16 (drop 1 (a .p .now)))) (k .before .context-of .ensures))
     (c .before .before .next .given .0 .0) (c .before .before .next .given .1) (c .if3 .taken)
 
 shared-slice-read-if4 : tie.Need-shared-slice-read-if4
@@ -71,7 +71,7 @@ returns-5 c =
     let a = k .before .before .before .before .before .before .before .args in
     c .expression-to-end .ensures ∙ ap (λ (x : Context). isSome (exprIn x (drop (m .next .given .0 .0 + 1) (a .p .now)) last)) (k .before .context-of .ensures)
     ∙ effect-law (a .n) (a .p .now) (omega arith) (k .before .before .if2 .left) (k .check-constraint .result)
-    (k .check-constraint .ensures ∙ ap (λ (x : Context). checked (allowedC x) 1 (parseC 16 (drop 1 (a .p .now)))) (k .before .context-of .ensures))
+    (k .check-constraint .ensures ∙ ap (λ (x : Context). endOf (allowedC x) 1 (parseC 16 (drop 1 (a .p .now)))) (k .before .context-of .ensures))
     (m .next .given .0 .0) (m .next .given .1) (c .before .before .before .before .if3 .left) (c .before .if4 .taken)
 
 returns-6 : tie.Need-returns-6
@@ -80,7 +80,7 @@ returns-6 c =
     let k = m .before .before in
     let a = k .before .before .before .before .before .before .before .args in
     effect-fluent (a .n) (a .p .now) (omega arith) (k .before .before .if2 .left) (k .check-constraint .result)
-    (k .check-constraint .ensures ∙ ap (λ (x : Context). checked (allowedC x) 1 (parseC 16 (drop 1 (a .p .now)))) (k .before .context-of .ensures))
+    (k .check-constraint .ensures ∙ ap (λ (x : Context). endOf (allowedC x) 1 (parseC 16 (drop 1 (a .p .now)))) (k .before .context-of .ensures))
     (m .next .given .0 .0) (m .next .given .1) (c .before .before .before .if3 .left) (c .if4 .left)
 
 pub effect-fits-spec : {M : Type 1} → statement M

@@ -7,7 +7,7 @@ use borrow.Fn.Kinds.{In}
 use borrow.Fn.PlainCycle.{Measures, is, falls, and}
 use Rattle.law.specs.Check.{passesE, passesC}
 use Rattle.law.proofs.Trees.{deep-e, deep-c, end-e, end-c, no-expression, no-constraint, other-e, other-c}
-use Rattle.law.proofs.CheckLaws.{nowhere, there, refused, check-constant, check-fluent, check-reified, check-one, check-two, check-first}
+use Rattle.law.proofs.CheckLaws.{nowhere, there, no-tree, check-constant, check-fluent, check-reified, check-one, check-two, check-first}
 use Rattle.law.proofs.CheckLaws.{check-truth, check-occurrence, check-negation, check-junction, check-first-c, check-compared, check-first-e}
 use Rattle.law.proofs.checks.constraint_in.Reads as constraint-in
 use Rattle.law.proofs.checks.constraint_in.Kinds as constraint-in-kinds
@@ -51,17 +51,17 @@ module _ (t : ℕ) where
   constraint-in-returns : constraint-in-lts.Need-returns by-constraint-in constraint-in-at constraint-in.Post
   constraint-in-returns c =
       let a = c .before .before .args in
-      refused (passesC (a .test)) (a .at) (deep-c (a .s .now) (a .at) (a .depth) (c .if1 .taken))
+      no-tree (passesC (a .test)) (a .at) (deep-c (a .s .now) (a .at) (a .depth) (c .if1 .taken))
 
   constraint-in-returns-2 : constraint-in-lts.Need-returns-2 by-constraint-in constraint-in-at constraint-in.Post
   constraint-in-returns-2 c =
       let a = c .before .before .before .args in
-      refused (passesC (a .test)) (a .at) (end-c (a .s .now) (a .at) (a .depth) (c .if2 .taken))
+      no-tree (passesC (a .test)) (a .at) (end-c (a .s .now) (a .at) (a .depth) (c .if2 .taken))
 
   constraint-in-returns-3 : constraint-in-lts.Need-returns-3 by-constraint-in constraint-in-at constraint-in.Post
   constraint-in-returns-3 c =
       let a = c .before .before .before .before .before .before .args in
-      refused (passesC (a .test)) (a .at) (no-constraint (a .s .now) (a .at) (a .depth) (c .before .before .before .before .if1 .left) (c .before .before .before .if2 .left) _ (c .before .opens .ensures) (c .match .keys2))
+      no-tree (passesC (a .test)) (a .at) (no-constraint (a .s .now) (a .at) (a .depth) (c .before .before .before .before .if1 .left) (c .before .before .before .if2 .left) _ (c .before .opens .ensures) (c .match .keys2))
 
   constraint-in-returns-4 : constraint-in-lts.Need-returns-4 by-constraint-in constraint-in-at constraint-in.Post
   constraint-in-returns-4 c =
@@ -101,22 +101,22 @@ module _ (t : ℕ) where
   constraint-in-returns-11 : constraint-in-lts.Need-returns-11 by-constraint-in constraint-in-at constraint-in.Post
   constraint-in-returns-11 c =
       let a = c .before .before .before .before .before .before .before .before .before .args in
-      refused (passesC (a .test)) (a .at) (other-c (a .s .now) (a .at) (a .depth) (c .before .before .before .before .before .before .before .if1 .left) (c .before .before .before .before .before .before .if2 .left) (sym (c .before .before .shape .given .1) ∙ c .before .before .before .before .opens .ensures) (c .match2 .keys6))
+      no-tree (passesC (a .test)) (a .at) (other-c (a .s .now) (a .at) (a .depth) (c .before .before .before .before .before .before .before .if1 .left) (c .before .before .before .before .before .before .if2 .left) (sym (c .before .before .shape .given .1) ∙ c .before .before .before .before .opens .ensures) (c .match2 .keys6))
 
   expression-in-returns : expression-in-lts.Need-returns by-expression-in expression-in-at expression-in.Post
   expression-in-returns c =
       let a = c .before .before .args in
-      refused (passesE (a .test)) (a .at) (deep-e (a .s .now) (a .at) (a .depth) (c .if1 .taken))
+      no-tree (passesE (a .test)) (a .at) (deep-e (a .s .now) (a .at) (a .depth) (c .if1 .taken))
 
   expression-in-returns-2 : expression-in-lts.Need-returns-2 by-expression-in expression-in-at expression-in.Post
   expression-in-returns-2 c =
       let a = c .before .before .before .args in
-      refused (passesE (a .test)) (a .at) (end-e (a .s .now) (a .at) (a .depth) (c .if2 .taken))
+      no-tree (passesE (a .test)) (a .at) (end-e (a .s .now) (a .at) (a .depth) (c .if2 .taken))
 
   expression-in-returns-3 : expression-in-lts.Need-returns-3 by-expression-in expression-in-at expression-in.Post
   expression-in-returns-3 c =
       let a = c .before .before .before .before .before .before .args in
-      refused (passesE (a .test)) (a .at) (no-expression (a .s .now) (a .at) (a .depth) (c .before .before .before .before .if1 .left) (c .before .before .before .if2 .left) _ (c .before .opens .ensures) (c .match .keys2))
+      no-tree (passesE (a .test)) (a .at) (no-expression (a .s .now) (a .at) (a .depth) (c .before .before .before .before .if1 .left) (c .before .before .before .if2 .left) _ (c .before .opens .ensures) (c .match .keys2))
 
   expression-in-returns-4 : expression-in-lts.Need-returns-4 by-expression-in expression-in-at expression-in.Post
   expression-in-returns-4 c =
@@ -151,7 +151,7 @@ module _ (t : ℕ) where
   expression-in-returns-10 : expression-in-lts.Need-returns-10 by-expression-in expression-in-at expression-in.Post
   expression-in-returns-10 c =
       let a = c .before .before .before .before .before .before .before .before .before .args in
-      refused (passesE (a .test)) (a .at) (other-e (a .s .now) (a .at) (a .depth) (c .before .before .before .before .before .before .before .if1 .left) (c .before .before .before .before .before .before .if2 .left) (sym (c .before .before .shape .given .1) ∙ c .before .before .before .before .opens .ensures) (c .match2 .keys6))
+      no-tree (passesE (a .test)) (a .at) (other-e (a .s .now) (a .at) (a .depth) (c .before .before .before .before .before .before .before .if1 .left) (c .before .before .before .before .before .before .if2 .left) (sym (c .before .before .shape .given .1) ∙ c .before .before .before .before .opens .ensures) (c .match2 .keys6))
 
 pub +constraint-in+expression-in-spec : {M : Type 1} → statement M
 +constraint-in+expression-in-spec =

@@ -9,9 +9,8 @@ use lib.IntN.{ℤ, pos, negsuc}
 use lib.Signed.{mag}
 use borrow.Author.Tests.{lt-ltb, le-ltb}
 use Rattle.bmap.specs.Plain.{if-else}
-use Rattle.bmap.specs.Number.{value, no-value, with2, bounded, operate, join, word, signed, signedWord, bits, bytesOf}
-use Rattle.bmap.specs.declared.Operation.the-variants.{Sum, Quotient, Remainder}
-use Rattle.bmap.specs.declared.Junction.the-variants.{Or}
+use Rattle.bmap.specs.Number.{value, no-value, bounded, operate, word, signed, signedWord, bits, bytesOf}
+use Rattle.bmap.specs.declared.Operation.the-variants.{Sum}
 use Rattle.number.specs.declared.Value.{Value}
 use Rattle.number.specs.declared.Value.the-variants.{Number, NoValue}
 use Rattle.number.specs.declared.Truth.{Truth}
@@ -56,19 +55,7 @@ same-truth (Is x) NoTruth e = cc
 same-truth NoTruth (Is y) e = cc
 same-truth NoTruth NoTruth e = refl
 
--- ---- cases: the definitions compute
-
--- "Quotient truncates toward zero; the remainder has the dividend's sign"
-minus-seven-by-two : operate Quotient (negsuc 6) (pos 2) ≡ value (negsuc 2)
-unfolding bounded
-minus-seven-by-two = refl
-
-minus-seven-left-over : operate Remainder (negsuc 6) (pos 2) ≡ value (negsuc 0)
-unfolding bounded
-minus-seven-left-over = refl
-
-five-by-zero : operate Quotient (pos 5) (pos 0) ≡ no-value
-five-by-zero = refl
+-- ---- cases: the definitions compute, at the bound and for the least word
 
 at-the-bound : operate Sum (pos 999_999_999) (pos 1) ≡ value (pos 1_000_000_000)
 unfolding bounded
@@ -77,10 +64,6 @@ at-the-bound = refl
 past-the-bound : operate Sum (pos 1_000_000_000) (pos 1) ≡ no-value
 unfolding bounded
 past-the-bound = refl
-
--- '"and" and "or" read both sides'
-true-or-none : with2 (λ x y. value (join Or x y)) (value true) no-value ≡ no-value
-true-or-none = refl
 
 -- "two's complement", "high byte first"
 least-word : signedWord 128 0 ≡ negsuc 32_767

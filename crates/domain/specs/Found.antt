@@ -8,7 +8,7 @@ use lib.ListN.{length, getD, replicate}
 use Rattle.bmap.specs.Plain.{both, if-else, maybe, all, numbers}
 use Rattle.bmap.specs.Limits.{mostFluents, mostKnowledge, mostEntries, mostLaws}
 use Rattle.bmap.specs.Refusal.{Answer, got, refused}
-use Rattle.bmap.specs.Line.{Frame, stored}
+use Rattle.bmap.specs.Line.{Frame, stored, agentsKind, fluentKind, knowledgeKind, entryKind, executableKind}
 use Rattle.bmap.specs.Domain.{Domain, Fluent, Knows, Entry}
 use Rattle.bmap.specs.Accept.{nothing, countsOf}
 use Rattle.bmap.specs.Store.{framesIn, domainIn}
@@ -24,7 +24,7 @@ row size z l = l ++ replicate (size - length l) z
 unfoldable pub lawPlaces : ℕ → List Frame → List ℕ
 lawPlaces at [] = []
 lawPlaces at (f ∷ frames) =
-    let rest : List ℕ = lawPlaces (at + length (stored f)) frames in if-else (leb 0xA5 (f .kind)) (at ∷ rest) rest
+    let rest : List ℕ = lawPlaces (at + length (stored f)) frames in if-else (leb executableKind (f .kind)) (at ∷ rest) rest
 
 -- a domain's numbers in their order, and the places of its laws
 unfoldable pub indexWith : Domain → List ℕ → Index
@@ -56,11 +56,11 @@ foundIn s = foundOf (maybe (framesIn s) [] (lawPlaces 0)) (domainIn s)
 -- the counts with one frame more, of a kind, whose payload begins with x
 unfoldable pub counted : Counts → ℕ → ℕ → Counts
 counted n kind x = record {
-  agents = if-else (eqb kind 0xA1) x (n .agents);
-  fluents = if-else (eqb kind 0xA2) (n .fluents + 1) (n .fluents);
-  knowledge = if-else (eqb kind 0xA3) (n .knowledge + 1) (n .knowledge);
-  entries = if-else (eqb kind 0xA4) (n .entries + 1) (n .entries);
-  laws = if-else (leb 0xA5 kind) (n .laws + 1) (n .laws);
+  agents = if-else (eqb kind agentsKind) x (n .agents);
+  fluents = if-else (eqb kind fluentKind) (n .fluents + 1) (n .fluents);
+  knowledge = if-else (eqb kind knowledgeKind) (n .knowledge + 1) (n .knowledge);
+  entries = if-else (eqb kind entryKind) (n .entries + 1) (n .entries);
+  laws = if-else (leb executableKind kind) (n .laws + 1) (n .laws);
 }
 
 -- `complete`, asked of the counts and of a mark for each entry that has an executability law

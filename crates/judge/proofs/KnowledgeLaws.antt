@@ -18,7 +18,6 @@ use Rattle.bmap.specs.Code.{Parsed, parseC}
 use Rattle.bmap.specs.Domain.{Domain, Knows, Law, executable, effect, must, has, knows, knownTo, readable, entryAt}
 use Rattle.bmap.specs.Payload.{context}
 use Rattle.bmap.specs.Accept.{countsOf}
-use Rattle.law.specs.Mask.{bit}
 use Rattle.law.specs.Names.{namesOnly}
 use Rattle.judge.specs.Masks.{unionFrom, maskFrom}
 use Rattle.judge.specs.Told.{Says, Knowing, ownerOf}
@@ -56,10 +55,10 @@ module _ (d : Domain) (table : List ℕ) (w : ℕ) (crews : List ℕ) (agents : 
   -- a constraint names only known fluents
   pub readable-is : (c : Con) (used : ℕ) {o : Option (Parsed Con)} {mask : ℕ} → o ≡ some (record { tree = c; used = used }) → allowedC (context (countsOf d) true) c ≡ true
       → mask ≡ maskFrom (shared cut table) 0 w → namesOnly mask o ≡ readable d (entryAt d e) c
-  unfolding readable bit
+  unfolding readable
   readable-is c used {o} {mask} q fit m =
       ap (namesOnly mask) q
-      ∙ same-named (context (countsOf d) true) (bit mask) (knownTo d (entryAt d e))
+      ∙ same-named (context (countsOf d) true) (has mask) (knownTo d (entryAt d e))
       (λ f p. let h : f < w = subst (λ (k : ℕ). f < k) (knowing .fluents) p in ap (λ (k : ℕ). has k f) m ∙ (mask-bit (shared cut table) 0 w f h ∙ (ap (shared cut table) (let z : 0 + f ≡ f = omega arith in z) ∙ known-is f h))) c fit
 
 -- the owner of a law, by its kind

@@ -8,22 +8,13 @@ use native.Mathlib.Omega.{arith}
 use lib.Bits.{bitAnd, bitOr, or-shr, or-step, and-step, and-zero-l}
 use lib.Dec.{eqb}
 use lib.ListN.{getD}
-use lib.Arith.{lt-one}
-use lib.Pow.{pow-add, pow-mono, shr-shr, shr-lt, shr-le, field, mod-mod-pow, shl-exact, pow-pos}
+use lib.Pow.{pow-add, pow-mono, shr-shr, field, mod-mod-pow, shl-exact, pow-pos}
 use native.Mathlib.Nat.{mod-le}
 use borrow.Author.Tests.{ne-eqb}
 use Rattle.bmap.specs.Plain.{either, both, if-else, any, numbers}
 use Rattle.bmap.specs.Domain.{has}
+use Rattle.law.proofs.Bits.{no-bit}
 use Rattle.judge.specs.Masks.{flagOf, maskFrom, unionFrom}
-
--- a number below 2 ^ 64 has no bit past 63
-pub no-bit : (mask i : ℕ) → mask < 2 ^ 64 → 64 ≤ i → false ≡ has mask i
-no-bit mask i h p =
-    let z : mask / 2 ^ i ≡ 0 = lt-one (shr-lt {n = mask} 0 i (lt-of-lt mask i h p)) in
-    sym (ap (λ (k : ℕ). eqb (k % 2) 1) z)
-  where
-    lt-of-lt : (mask i : ℕ) → mask < 2 ^ 64 → 64 ≤ i → mask < 2 ^ (0 + i)
-    lt-of-lt mask i h p = let y : 0 + i ≡ i = omega arith in rw y (omega (arith, pow-mono {i = 64} {j = i} p))
 
 pub pow-suc : (n : ℕ) → 2 ^ suc n ≡ 2 ^ n * 2
 pow-suc n = ap (λ (k : ℕ). 2 ^ k) (sym (add-one n)) ∙ pow-add 2 n 1
@@ -110,7 +101,7 @@ or-bit x y a =
     low-bit q r h = omega arith
 
 pub no-bits : (a : ℕ) → has 0 a ≡ false
-no-bits a = let z : 0 / 2 ^ a ≡ 0 = omega (arith, shr-le 0 a) in ap (λ (k : ℕ). eqb (k % 2) 1) z
+no-bits a = sym (no-bit 0 0 a (omega arith) (omega arith))
 
 either-comm : (s t : Bool) → either s t ≡ either t s
 either-comm true true = refl

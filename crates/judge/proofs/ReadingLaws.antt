@@ -18,7 +18,6 @@ use Rattle.bmap.specs.Domain.{Domain, Names, Law, executable, effect, must, has
 use Rattle.bmap.specs.Payload.{context}
 use Rattle.bmap.specs.Accept.{countsOf}
 use Rattle.bmap.specs.Judge.{setsIf, sets}
-use Rattle.law.specs.Mask.{bit}
 use Rattle.law.specs.Evaluate.{historyOf, Meant, malformed, gives, valueAt, truthAt, evaluated, judged}
 use Rattle.law.specs.declared.eval.Evaluated.{Evaluated}
 use Rattle.law.specs.declared.eval.Evaluated.the-variants as value-as
@@ -46,7 +45,6 @@ stands d frame (must s c) w = says d frame (must s c) w .1
 
 module _ (d : Domain) (asked : Bool) (h : History) (levels : List ℤ) (occurred : List ℕ) (j : ℕ) (seen : Seen asked d h levels occurred j) where
   agreed : Agree (context (countsOf d) asked) j (historyOf levels occurred) h
-  unfolding bit
   agreed = record { levels = λ k f p q. sym (seen .level k f p q); steps = λ a e k r p q. sym (seen .acted a k e p q r) }
 
   pub con-seen : (c : Con) → allowedC (context (countsOf d) asked) c ≡ true → evalC c (historyOf levels occurred) j ≡ evalC c h j

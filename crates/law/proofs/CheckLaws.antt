@@ -22,6 +22,7 @@ use Rattle.bmap.specs.Number.{signedWord}
 use Rattle.bmap.specs.Tree.{Expr, Con, constant, fluent, two, one, reified, compared, joined, negated, occurs, always, allowedE, allowedC, namedE, namedC}
 use Rattle.bmap.proofs.PlainLaws.{both-end, all-append}
 use Rattle.bmap.specs.Code.{Code, Parsed, Parser, codeOf, made, second, operands, twoBytes, parseE, parseC}
+use Rattle.bmap.specs.Domain.{has}
 use Rattle.law.specs.declared.table.Shape.{Shape}
 use Rattle.law.specs.declared.table.Shape.the-variants as shape
 use Rattle.law.specs.declared.table.Node.the-variants.{Expression, Constraint}
@@ -29,7 +30,6 @@ use Rattle.law.specs.declared.table.Pair.the-variants.{Bytes, Short}
 use Rattle.law.specs.declared.checks.Test.{Test}
 use Rattle.law.specs.declared.checks.Test.the-variants.{Allowed, Known}
 use Rattle.law.specs.Shape.{opened, pairOf, operationOf, singleOf, comparisonOf, junctionOf}
-use Rattle.law.specs.Mask.{bit}
 use Rattle.law.specs.Names.{namesOnly}
 use Rattle.law.specs.Check.{nextOf, endOf, passesE, passesC}
 use Rattle.law.proofs.Trees.{at-constant, at-fluent, at-reified, at-one, at-two, at-truth, at-occurrence, at-negation, at-junction, at-comparison, no-pair, a-pair}
@@ -43,7 +43,7 @@ passes-constant (Known m) hi lo = refl
 passes-two : (t : Test) (o : Operation) (a b : Expr) → passesE t (two o a b) ≡ both (passesE t a) (passesE t b)
 unfolding allowedE namedE
 passes-two (Allowed x) o a b = refl
-passes-two (Known m) o a b = all-append (bit m) (namedE a) (namedE b)
+passes-two (Known m) o a b = all-append (has m) (namedE a) (namedE b)
 
 passes-one : (t : Test) (o : Single) (a : Expr) → passesE t (one o a) ≡ passesE t a
 unfolding allowedE namedE
@@ -58,12 +58,12 @@ passes-reified (Known m) a = refl
 passes-compared : (t : Test) (o : Comparison) (a b : Expr) → passesC t (compared o a b) ≡ both (passesE t a) (passesE t b)
 unfolding allowedC namedC
 passes-compared (Allowed x) o a b = refl
-passes-compared (Known m) o a b = all-append (bit m) (namedE a) (namedE b)
+passes-compared (Known m) o a b = all-append (has m) (namedE a) (namedE b)
 
 passes-joined : (t : Test) (o : Junction) (a b : Con) → passesC t (joined o a b) ≡ both (passesC t a) (passesC t b)
 unfolding allowedC namedC
 passes-joined (Allowed x) o a b = refl
-passes-joined (Known m) o a b = all-append (bit m) (namedC a) (namedC b)
+passes-joined (Known m) o a b = all-append (has m) (namedC a) (namedC b)
 
 passes-negated : (t : Test) (a : Con) → passesC t (negated a) ≡ passesC t a
 unfolding allowedC namedC
@@ -81,9 +81,9 @@ module _ (t : Test) (n lag : ℕ) where
   unfolding allowedE
   fluent-allowed e = rw e
 
-  pub fluent-known : {m : ℕ} → t ≡ Known m → bit m n ≡ passesE t (fluent n lag)
+  pub fluent-known : {m : ℕ} → t ≡ Known m → has m n ≡ passesE t (fluent n lag)
   unfolding namedE all
-  fluent-known {m} e = rw e (sym (both-end (bit m n)))
+  fluent-known {m} e = rw e (sym (both-end (has m n)))
 
   pub entry-allowed : {x : Context} → t ≡ Allowed x → x .occurrences ≡ true → both (ltb n (x .entries)) (leb lag mostLag) ≡ passesC t (occurs n lag)
   unfolding allowedC

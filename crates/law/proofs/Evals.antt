@@ -17,11 +17,11 @@ use Rattle.bmap.specs.Number.{Valued, value, with1, with2, operate, change, com
 use Rattle.bmap.specs.Tree.{Expr, Con, constant, fluent, two, one, reified, compared, joined, negated, occurs}
 use Rattle.bmap.specs.Meaning.{evalE, evalC}
 use Rattle.bmap.specs.Code.{Code, Parsed, Parser, codeOf, made, second, operand, operands, twoBytes, parseE, parseC}
+use Rattle.bmap.specs.Domain.{has}
 use Rattle.law.specs.declared.table.Shape.{Shape}
 use Rattle.law.specs.declared.table.Shape.the-variants as shape
 use Rattle.law.specs.declared.table.Node.the-variants.{Expression, Constraint}
 use Rattle.law.specs.Shape.{opened, operationOf, singleOf, comparisonOf, junctionOf}
-use Rattle.law.specs.Mask.{bit}
 use Rattle.law.specs.Evaluate.{Meant, malformed, gives, meant, onward, historyOf, valueAt, truthAt}
 use Rattle.law.proofs.Trees.{at-constant, at-fluent, at-reified, at-one, at-two, at-truth, at-occurrence, at-negation, at-junction, at-comparison, pair-short, pair-long, no-pair, a-pair}
 use Rattle.law.proofs.Bits.{no-bit}
@@ -31,17 +31,17 @@ use Rattle.law.proofs.Codes.{code-10, code-11}
 pub no-level : (l : List ℤ) (k f : ℕ) → length l ≤ mostFluents * k + f → pos 0 ≡ getD l (mostFluents * k + f) (pos 0)
 no-level l k f h = sym (List·getD-eq-default l (pos 0) h)
 
-pub no-step : (o : List ℕ) (k e : ℕ) → length o ≤ k → false ≡ bit (getD o k 0) e
+pub no-step : (o : List ℕ) (k e : ℕ) → length o ≤ k → false ≡ has (getD o k 0) e
 no-step o k e h = rw (List·getD-eq-default o 0 h) (no-bit 0 0 e (omega arith) (omega arith))
 
 module _ (o : List ℕ) (j e t : ℕ) where
-  pub before-steps : j < t → false ≡ both (leb t j) (bit (getD o (j + 1 - t) 0) e)
+  pub before-steps : j < t → false ≡ both (leb t j) (has (getD o (j + 1 - t) 0) e)
   before-steps h = rw (lt-leb t j h)
 
-  pub past-steps : t ≤ j → length o ≤ j - t + 1 → false ≡ both (leb t j) (bit (getD o (j + 1 - t) 0) e)
+  pub past-steps : t ≤ j → length o ≤ j - t + 1 → false ≡ both (leb t j) (has (getD o (j + 1 - t) 0) e)
   past-steps h out = rw (le-leb t j h) (no-step o (j + 1 - t) e (omega arith))
 
-  pub at-step : t ≤ j → bit (getD o (j - t + 1) 0) e ≡ both (leb t j) (bit (getD o (j + 1 - t) 0) e)
+  pub at-step : t ≤ j → has (getD o (j - t + 1) 0) e ≡ both (leb t j) (has (getD o (j + 1 - t) 0) e)
   at-step h = let k : j + 1 - t ≡ j - t + 1 = omega arith in rw (le-leb t j h, k)
 
 -- The leaves.
@@ -154,7 +154,7 @@ module _ (s : List ℕ) (at d : ℕ) (l : List ℤ) (o : List ℕ) (j : ℕ) (ne
     unfolding evalC
     eval-truth q = rw (at-truth s at d ne lt p q)
 
-    pub eval-occurrence : sh ≡ shape.EntryLag → meant (λ v. v) at (twoBytes (λ e t. value (both (leb t j) (bit (getD o (j + 1 - t) 0) e))) (drop (at + 1) s)) ≡ whole-c
+    pub eval-occurrence : sh ≡ shape.EntryLag → meant (λ v. v) at (twoBytes (λ e t. value (both (leb t j) (has (getD o (j + 1 - t) 0) e))) (drop (at + 1) s)) ≡ whole-c
     unfolding evalC
     eval-occurrence q = rw (at-occurrence s at d ne lt p q) (leaf-meant fc occurs at (drop (at + 1) s))
 

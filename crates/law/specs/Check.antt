@@ -6,7 +6,7 @@ use Rattle.bmap.specs.Plain.{all}
 use Rattle.bmap.specs.Refusal.{Answer, got, refused, need, known, then}
 use Rattle.bmap.specs.Tree.{Expr, Con, allowedE, allowedC, namedE, namedC}
 use Rattle.bmap.specs.Code.{Parsed}
-use Rattle.law.specs.Mask.{bit}
+use Rattle.bmap.specs.Domain.{has}
 use Rattle.law.specs.declared.checks.Checked.{Checked}
 use Rattle.law.specs.declared.checks.Checked.the-variants.{Next, Refused}
 use Rattle.law.specs.declared.checks.Test.{Test}
@@ -29,8 +29,8 @@ endOf passes at parsed = then (known 4 parsed) (λ p. need (passes (p .tree)) 4 
 -- the two tests that a tree may be put to
 abbrev pub passesE : Test → Expr → Bool
 passesE (Allowed x) t = allowedE x t
-passesE (Known mask) t = all (bit mask) (namedE t)
+passesE (Known mask) t = all (has mask) (namedE t)
 
 abbrev pub passesC : Test → Con → Bool
 passesC (Allowed x) t = allowedC x t
-passesC (Known mask) t = all (bit mask) (namedC t)
+passesC (Known mask) t = all (has mask) (namedC t)

@@ -10,8 +10,8 @@ use Rattle.bmap.specs.Limits.{mostFluents, mostSteps, storeSize, levelsSize}
 use Rattle.bmap.specs.Number.{Valued}
 use Rattle.bmap.specs.Meaning.{History, evalE, evalC}
 use Rattle.bmap.specs.Code.{Parsed, parseE, parseC}
+use Rattle.bmap.specs.Domain.{has}
 use Rattle.number.specs.Answer.{valuedOf, truthOf}
-use Rattle.law.specs.Mask.{bit}
 use Rattle.law.specs.declared.eval.Evaluated.{Evaluated}
 use Rattle.law.specs.declared.eval.Evaluated.the-variants as value-as
 use Rattle.law.specs.declared.eval.Judged.{Judged}
@@ -23,7 +23,7 @@ abbrev pub levelAt : List ℤ → ℕ → ℕ → ℤ
 levelAt levels k f = getD levels (mostFluents * k + f) (pos 0)
 
 abbrev pub inStep : List ℕ → ℕ → ℕ → Bool
-inStep occurred e k = bit (getD occurred k 0) e
+inStep occurred e k = has (getD occurred k 0) e
 
 abbrev pub historyOf : List ℤ → List ℕ → History
 historyOf levels occurred = record {

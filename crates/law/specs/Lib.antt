@@ -1,6 +1,5 @@
 -- What the functions over law bytes answer.
 pub mod Shape
-pub mod Mask
 pub mod Check
 pub mod Names
 pub mod Evaluate

@@ -1,5 +1,5 @@
 use borrow.Author.Needs.{needs}
-use Rattle.judge.proofs.MaskLaws.{no-bit}
+use Rattle.law.proofs.Bits.{no-bit}
 use Rattle.judge.proofs.acting.has_entry.Statement.{statement}
 use Rattle.judge.proofs.acting.has_entry.Tie as tie
 
@@ -10,7 +10,7 @@ returns : tie.Need-returns
 returns c = search needs
 
 returns-2 : tie.Need-returns-2
-returns-2 c = no-bit (c .before .args .mask) (c .before .args .i) (c .before .fits .mask .fits) (c .if1 .left)
+returns-2 c = no-bit 64 (c .before .args .mask) (c .before .args .i) (c .before .fits .mask .fits) (c .if1 .left)
 
 pub has-entry-spec : {M : Type 1} → statement M
 has-entry-spec =

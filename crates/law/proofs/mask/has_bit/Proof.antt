@@ -1,7 +1,6 @@
 use native.Mathlib.Omega.{arith}
 use borrow.Author.Needs.{needs}
 use mathlib.Core.Path.{refl}
-use Rattle.law.specs.Mask.{bit}
 use Rattle.law.proofs.Bits.{no-bit}
 use Rattle.law.proofs.mask.has_bit.Statement.{statement}
 use Rattle.law.proofs.mask.has_bit.Tie as tie
@@ -10,7 +9,6 @@ shr-result : tie.Need-shr-result
 shr-result c = search needs
 
 returns : tie.Need-returns
-unfolding bit
 returns c = refl
 
 returns-2 : tie.Need-returns-2

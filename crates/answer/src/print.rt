@@ -10,7 +10,7 @@ ghost use Rattle.bmap.specs.Program.{decimal, decimalZ, spaced, lineOf, stateLi
 ghost use Rattle.answer.specs.Put.{Put};
 
 // Bytes as they are.
-pub(crate) fn put_text(out: &mut [u8], at: usize, word: &[u8]) -> usize
+fn put_text(out: &mut [u8], at: usize, word: &[u8]) -> usize
     requires { ⌜ at + length (now word) ≤ length (now out) ⌝ }
     ensures { λ r. ⌜ Put (now (out .entry)) at (now (word .entry)) r (now (out .exit)) ⌝ }
 {
@@ -23,7 +23,7 @@ pub(crate) fn put_text(out: &mut [u8], at: usize, word: &[u8]) -> usize
 }
 
 // The decimal digits of n.
-pub(crate) fn put_digits(out: &mut [u8], at: usize, n: usize) -> usize
+fn put_digits(out: &mut [u8], at: usize, n: usize) -> usize
     requires { ⌜ at + length (decimal n) ≤ length (now out) ⌝ }
     ensures { λ r. ⌜ Put (now (out .entry)) at (decimal n) r (now (out .exit)) ⌝ }
 {
@@ -37,7 +37,7 @@ pub(crate) fn put_digits(out: &mut [u8], at: usize, n: usize) -> usize
 }
 
 // A space, and the decimal digits of a number.
-pub(crate) fn put_number(out: &mut [u8], at: usize, n: usize) -> usize
+fn put_number(out: &mut [u8], at: usize, n: usize) -> usize
     requires { ⌜ at + 21 ≤ length (now out) ⌝ }
     ensures { λ r. ⌜ Put (now (out .entry)) at (spaced (decimal n ∷ [])) r (now (out .exit)) ⌝ }
     ensures { λ r. ⌜ r ≤ at + 21 ⌝ }
@@ -47,7 +47,7 @@ pub(crate) fn put_number(out: &mut [u8], at: usize, n: usize) -> usize
 }
 
 // A space, and a level with its sign: two's complement bits from 32,768 on stand for what is missing to 65,536.
-pub(crate) fn put_level(out: &mut [u8], at: usize, level: i16) -> usize
+fn put_level(out: &mut [u8], at: usize, level: i16) -> usize
     requires { ⌜ at + 7 ≤ length (now out) ⌝ }
     ensures { λ r. ⌜ Put (now (out .entry)) at (spaced (decimalZ level ∷ [])) r (now (out .exit)) ⌝ }
     ensures { λ r. ⌜ r ≤ at + 7 ⌝ }
@@ -75,7 +75,7 @@ fn level(levels: &[i16], i: usize) -> i16
 }
 
 // Levels, each after a space.
-pub(crate) fn put_levels(out: &mut [u8], at: usize, levels: &[i16]) -> usize
+fn put_levels(out: &mut [u8], at: usize, levels: &[i16]) -> usize
     requires { ⌜ at + 7 * length (now levels) ≤ length (now out) ⌝ }
     ensures { λ r. ⌜ Put (now (out .entry)) at (spaced (map decimalZ (now (levels .entry)))) r (now (out .exit)) ⌝ }
     ensures { λ r. ⌜ r ≤ at + 7 * length (now (levels .entry)) ⌝ }
@@ -90,7 +90,7 @@ pub(crate) fn put_levels(out: &mut [u8], at: usize, levels: &[i16]) -> usize
 }
 
 // "S", the number of a state and its levels.
-pub(crate) fn put_state(out: &mut [u8], at: usize, k: usize, levels: &[i16]) -> usize
+fn put_state(out: &mut [u8], at: usize, k: usize, levels: &[i16]) -> usize
     requires { ⌜ at + 24 + 7 * length (now levels) ≤ length (now out) ⌝ }
     ensures { λ r. ⌜ Put (now (out .entry)) at (lineOf (text "S") (decimal k ∷ map decimalZ (now (levels .entry)))) r (now (out .exit)) ⌝ }
     ensures { λ r. ⌜ r ≤ at + (24 + 7 * length (now (levels .entry))) ⌝ }

@@ -12,19 +12,19 @@ ghost use Rattle.desk.specs.Numbers.{halves, writtenNumber, doneNumber};
 const HALF: u64 = 1 << 32;
 
 // Nothing is refused.
-pub fn counted(count: usize) -> u64
+pub(crate) fn counted(count: usize) -> u64
     ensures { λ r. ⌜ r ≡ halves 0 count ⌝ }
 {
     count as u64 % HALF
 }
 
-pub fn refused_at(why: Refusal, line: usize) -> u64
+pub(crate) fn refused_at(why: Refusal, line: usize) -> u64
     ensures { λ r. ⌜ r ≡ halves (numberOf why) line ⌝ }
 {
     why.number() as u64 * HALF + line as u64 % HALF
 }
 
-pub fn written(answer: Written) -> u64
+pub(crate) fn written(answer: Written) -> u64
     ensures { λ r. ⌜ r ≡ writtenNumber (write.answerOf answer) ⌝ }
 {
     match answer {
@@ -33,7 +33,7 @@ pub fn written(answer: Written) -> u64
     }
 }
 
-pub fn done(outcome: Outcome) -> u8
+pub(crate) fn done(outcome: Outcome) -> u8
     ensures { λ r. ⌜ r ≡ doneNumber (answerOf outcome) ⌝ }
 {
     match outcome {

@@ -27,7 +27,7 @@ pub enum Settled {
     Count(usize),
 }
 
-pub(crate) fn same_level(a: i32, b: i32) -> bool
+fn same_level(a: i32, b: i32) -> bool
     ensures { λ r. ⌜ r ≡ same a b ⌝ }
 {
     if a <= b {

@@ -147,7 +147,7 @@ fn end_of(held: &[u8; STORE], n: usize, kind: u8) -> usize
     i
 }
 
-pub(crate) fn run_of(held: &[u8; STORE], n: usize, kind: u8) -> Run
+fn run_of(held: &[u8; STORE], n: usize, kind: u8) -> Run
     requires { ⌜ n ≤ mostLaws ⌝ }
     ensures { λ r. ⌜ Within (now (held .entry)) n kind (r .from) (r .to) ⌝ }
 {

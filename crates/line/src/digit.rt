@@ -4,10 +4,10 @@ ghost use Prim.Native.Nat.{_/_, _%_, _<_};
 ghost use Rattle.bmap.specs.Line.{digit, digitFor};
 ghost use Rattle.line.specs.Within.{pairOf, worth};
 
-pub const LINE_FEED: u8 = 10;
+pub(crate) const LINE_FEED: u8 = 10;
 
 // The byte that two digits spell; above 255 where one is no digit.
-pub fn pair(high: u8, low: u8) -> u16
+pub(crate) fn pair(high: u8, low: u8) -> u16
     ensures { λ r. ⌜ r ≡ pairOf high low ⌝ }
 {
     value(high) * 16 + value(low)
@@ -40,13 +40,13 @@ fn value(c: u8) -> u16
 }
 
 // The two digits of a byte.
-pub fn high_digit(b: u8) -> u8
+pub(crate) fn high_digit(b: u8) -> u8
     ensures { λ r. ⌜ r ≡ digitFor (b / 16) ⌝ }
 {
     digit_for(b / 16)
 }
 
-pub fn low_digit(b: u8) -> u8
+pub(crate) fn low_digit(b: u8) -> u8
     ensures { λ r. ⌜ r ≡ digitFor (b % 16) ⌝ }
 {
     digit_for(b % 16)

@@ -22,7 +22,7 @@ pub(crate) const AMEND: u8 = 3;
 const NAMES: usize = 2;
 
 // Where an edit's names are laid in a sheet, and the number of steps after it.
-pub(crate) enum Place {
+enum Place {
     Nowhere,
     Step(usize, usize),
 }
@@ -73,7 +73,7 @@ pub(crate) fn write_entry(log: &mut [u8], at: usize, kind: u8, number: u8, names
 }
 
 // The place of an edit in a sheet of so many steps.
-pub(crate) fn edit_place(kind: u8, number: usize, steps: usize) -> Place
+fn edit_place(kind: u8, number: usize, steps: usize) -> Place
     ensures { λ r. ⌜ r ≡ placeOf kind number steps ⌝ }
 {
     if kind == ENTER {
@@ -103,7 +103,7 @@ pub(crate) fn edit_place(kind: u8, number: usize, steps: usize) -> Place
 }
 
 // Where an entry's names end: a strike has none.
-pub(crate) fn names_end(agents: usize, kind: u8) -> usize
+fn names_end(agents: usize, kind: u8) -> usize
     requires { ⌜ agents ≤ mostAgents ⌝ }
     ensures { λ r. ⌜ r ≡ namesEnd agents kind ⌝ }
 {
@@ -114,7 +114,7 @@ pub(crate) fn names_end(agents: usize, kind: u8) -> usize
 }
 
 // The place of an entry's edit, where zeros follow what the entry has.
-pub(crate) fn target(agents: usize, entry: &[u8], steps: usize) -> Place
+fn target(agents: usize, entry: &[u8], steps: usize) -> Place
     requires { ⌜ (agents ≤ mostAgents) × (length (now entry) ≡ editSize) ⌝ }
     ensures { λ r. ⌜ r ≡ targetOf agents (now (entry .entry)) steps ⌝ }
 {

@@ -8,6 +8,7 @@ use lib.IntN.{ℤ, pos}
 use lib.ListN.{length, getD, take, drop}
 use Rattle.bmap.specs.Plain.{any, if-else}
 use Rattle.bmap.specs.Limits.{mostFluents, mostEntries, mostLaws, storeSize}
+use Rattle.bmap.specs.Line.{effectKind, staticKind, concurrencyKind, goalKind}
 use Rattle.bmap.specs.Tree.{Con, always}
 use Rattle.bmap.specs.Meaning.{History}
 use Rattle.bmap.specs.Domain.{Domain, Names, Law, executable, effect, must, Scope, static, concurrency, goal, entryAt, has, occursIn, knows, readable}
@@ -30,9 +31,9 @@ asksOf (effect e c f x) = true
 asksOf (must s c) = asks s
 
 abbrev pub scopeKind : Scope → ℕ
-scopeKind static = 0xA7
-scopeKind concurrency = 0xA8
-scopeKind goal = 0xA9
+scopeKind static = staticKind
+scopeKind concurrency = concurrencyKind
+scopeKind goal = goalKind
 
 abbrev pub lawNumber : Domain → ℕ → Law
 lawNumber d i = getD (d .laws) i (must static always)
@@ -50,13 +51,13 @@ pub record Says (d : Domain) (bytes : List ℕ) (l : Law) : Type 0 where
   pub stands : drop 2 bytes ≡ payload ++ more
   pub law : lawIn (countsOf d) (getD bytes 0 0) payload ≡ some l
 
--- a frame is a kind, a count and at most 255 bytes
-abbrev pub frameSize : ℕ
-frameSize = 257
+-- law i is held at i times this: a frame is a kind, a count and at most 255 bytes
+abbrev pub stride : ℕ
+stride = 257
 
 -- the bytes from law i on, where laws are held
 abbrev pub frameOf : List ℕ → ℕ → List ℕ
-frameOf held i = drop (frameSize * i) held
+frameOf held i = drop (stride * i) held
 
 -- the frames at these places of a store are held
 abbrev pub Held : List ℕ → List ℕ → ℕ → List ℕ → Type 0
@@ -113,10 +114,10 @@ Owns owners n first last = (i : ℕ) → i < mostEntries → Own owners n i (get
 
 pub record Ordered (held owners : List ℕ) (n : ℕ) (runs : Runs) : Type 0 where
   pub executable : Owns owners n (runs .first) (runs .last)
-  pub effect : Within held n 0xA6 (runs .effect .from) (runs .effect .to)
-  pub fixed : Within held n 0xA7 (runs .fixed .from) (runs .fixed .to)
-  pub concurrency : Within held n 0xA8 (runs .concurrency .from) (runs .concurrency .to)
-  pub goal : Within held n 0xA9 (runs .goal .from) (runs .goal .to)
+  pub effect : Within held n effectKind (runs .effect .from) (runs .effect .to)
+  pub fixed : Within held n staticKind (runs .fixed .from) (runs .fixed .to)
+  pub concurrency : Within held n concurrencyKind (runs .concurrency .from) (runs .concurrency .to)
+  pub goal : Within held n goalKind (runs .goal .from) (runs .goal .to)
 
 -- the numbers of laws keep their limit
 abbrev pub Few : Runs → Type 0

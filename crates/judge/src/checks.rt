@@ -14,7 +14,7 @@ ghost use Rattle.judge.specs.Told.{Belonging, Occurring, Says, Lawful, O
 use crate::acting::has_agent;
 use crate::acting::has_entry;
 use crate::acting::wide;
-use crate::held::FRAME;
+use crate::held::STRIDE;
 use crate::reading::constraint_of;
 use crate::verdict::Check;
 use crate::verdict::Fault;
@@ -59,7 +59,7 @@ fn try_law(
     if wide(owners[l]) != i {
         return Truth::Is(false);
     }
-    constraint_of(held, FRAME * l + 3, levels, occurred, j)
+    constraint_of(held, STRIDE * l + 3, levels, occurred, j)
 }
 
 // "its A5 laws in order until one is true": entry i.
@@ -179,7 +179,7 @@ pub(crate) fn check_laws(
     while l < to {
         if let Check::Failed(found, n) = check_law(
             held,
-            FRAME * l,
+            STRIDE * l,
             kind,
             fault,
             levels,

@@ -6,13 +6,14 @@ ghost use mathlib.Core.List.{[]};
 ghost use Prim.Native.Nat.{ℕ, _≤_};
 ghost use lib.ListN.{length};
 ghost use Rattle.bmap.specs.Limits.{mostLaws};
+ghost use Rattle.bmap.specs.Line.{effectKind};
 ghost use Rattle.bmap.specs.Number.{same};
 ghost use Rattle.bmap.specs.Domain.{Domain, Names};
 ghost use Rattle.bmap.specs.Meaning.{History};
 ghost use Rattle.bmap.specs.Judge.{settled};
 ghost use Rattle.judge.specs.Told.{Lawful, Within, Occurring, Seen};
 ghost use Rattle.judge.specs.Settings.{settledOf, countOf};
-use crate::held::FRAME;
+use crate::held::STRIDE;
 use crate::reading::Wants;
 use crate::reading::wanted;
 use crate::verdict::Fault;
@@ -50,14 +51,14 @@ pub(crate) fn settle(
     values: &mut [i32; Counts::LAWS],
 ) -> Settled
     requires { ⌜ (to ≤ mostLaws) × ((length (now fluents) ≡ mostLaws) × (length (now values) ≡ mostLaws)) ⌝ }
-    ensures { λ r. ⌜ (countOf r ≤ mostLaws) × ((d : Domain) (h : History) (n : ℕ) (names : Names) → Lawful d (now (held .entry)) n → Within (now (held .entry)) n 0xA6 from to
+    ensures { λ r. ⌜ (countOf r ≤ mostLaws) × ((d : Domain) (h : History) (n : ℕ) (names : Names) → Lawful d (now (held .entry)) n → Within (now (held .entry)) n effectKind from to
         → Occurring d names entries → Seen true d h (now (levels .entry)) (now (occurred .entry)) j → settledOf r (now (fluents .exit)) (now (values .exit)) ≡ settled d h j names 0 [] (d .laws)) ⌝ }
 {
     let mut bad = to;
     let mut m = 0;
     let mut l = from;
     'laws: while l < to {
-        match wanted(held, FRAME * l, entries, levels, occurred, j) {
+        match wanted(held, STRIDE * l, entries, levels, occurred, j) {
             Wants::Blank => {
                 return Settled::Clash(Fault::NoValue, l);
             }

@@ -11,7 +11,7 @@ use bmap::STORE;
 use index::law_at;
 
 // A frame is a kind, a count and at most 255 bytes: law l stands at l times this.
-pub(crate) const FRAME: usize = 257;
+pub(crate) const STRIDE: usize = 257;
 
 fn hold(held: &mut [u8; STORE], at: usize, frame: &[u8])
     requires { ⌜ (length (now held) ≡ storeSize) × (at + length (now frame) ≤ storeSize) ⌝ }
@@ -30,7 +30,7 @@ pub(crate) fn hold_laws(held: &mut [u8; STORE], store: &[u8], laws: &[u16; Count
 {
     let mut i = 0;
     while i < n {
-        hold(held, FRAME * i, law_at(store, laws, i));
+        hold(held, STRIDE * i, law_at(store, laws, i));
         i += 1;
     }
 }

@@ -13,7 +13,7 @@ ghost use Rattle.judge.specs.Told.{Says, Lawful, Owned, Knowing, ownerOf
 use crate::acting::pushed;
 use crate::acting::share;
 use crate::acting::taken_in;
-use crate::held::FRAME;
+use crate::held::STRIDE;
 use crate::reading::EXECUTABLE;
 use bmap::Counts;
 use bmap::STORE;
@@ -124,7 +124,7 @@ pub(crate) fn all_owners(
     let mut owners = [NOBODY; Counts::LAWS];
     let mut i = 0;
     while i < n {
-        owners[i] = owner_of(held, FRAME * i, table, w, crews, agents);
+        owners[i] = owner_of(held, STRIDE * i, table, w, crews, agents);
         i += 1;
     }
     owners

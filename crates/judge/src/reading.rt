@@ -14,7 +14,7 @@ ghost use Rattle.judge.specs.Told.{Says, Seen, Occurring, Within, Ordere
 ghost use Rattle.judge.specs.Answer.{wantsOf};
 use crate::acting::has_entry;
 use crate::acting::wide;
-use crate::held::FRAME;
+use crate::held::STRIDE;
 use crate::knowledge::end_own;
 use crate::knowledge::first_own;
 use bmap::Counts;
@@ -125,7 +125,7 @@ fn first_of(held: &[u8; STORE], n: usize, kind: u8) -> usize
 {
     let mut i = 0;
     while i < n {
-        if held[FRAME * i] == kind {
+        if held[STRIDE * i] == kind {
             return i;
         }
         i += 1;
@@ -139,7 +139,7 @@ fn end_of(held: &[u8; STORE], n: usize, kind: u8) -> usize
 {
     let mut i = n;
     while 0 < i {
-        if held[FRAME * (i - 1)] == kind {
+        if held[STRIDE * (i - 1)] == kind {
             return i;
         }
         i -= 1;

@@ -283,7 +283,6 @@ pub(crate) fn run_sheet(
         return ran;
     };
     // "After the last step n each A9 law in order is read at position n."
-    let last = n;
     let goal = runs.goal;
     if let Check::Failed(fault, number) = check_laws(
         held,
@@ -293,7 +292,7 @@ pub(crate) fn run_sheet(
         Fault::Goal,
         levels,
         &occurred,
-        last,
+        n,
     ) {
         return Ran {
             verdict: Verdict::Broken {

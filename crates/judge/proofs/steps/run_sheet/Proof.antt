@@ -62,8 +62,8 @@ check-laws-requires-2 c κs = c .before .before .before .before .before .before 
 enum-known-fault-2 : tie.Need-enum-known-fault-2
 enum-known-fault-2 c = search needs
 
-add-t40 : tie.Need-add-t40
-add-t40 c = omega (arith, c .before .before .before .before .before .before .before .before .before .before .before .before .before .before .before .before .before .before .before .before .before .before .pre .0 .0)
+add-t39 : tie.Need-add-t39
+add-t39 c = omega (arith, c .before .before .before .before .before .before .before .before .before .before .before .before .before .before .before .before .before .before .before .before .before .before .pre .0 .0)
 
 returns-3 : tie.Need-returns-3
 returns-3 c = let s = c .before .before .before .before .before .before .before .before .before .before .before .before .before .before .before .before .before .before .before .before .before .before .args in let l₁ = c .before .before .before .before .before .before .before .before .before .before .before .before .before .before .before .before .before .before .copy-levels .last .1 .1 .1 .0 in let l₂ = c .before .before .before .before .before .before .before .before .before .run-steps .last .1 .1 .1 .1 .1 .1 .1 .1 .1 .1 .1 .0 in
@@ -110,7 +110,7 @@ run-sheet-spec =
     returns-2
     check-laws-requires-2
     enum-known-fault-2
-    add-t40
+    add-t39
     returns-3
     enum-told-4
     returns-4)

@@ -5,6 +5,7 @@ ghost use mathlib.Core.Path.{_≡_};
 ghost use lib.IntN.{pos};
 ghost use lib.ListN.{length, getD};
 ghost use Rattle.bmap.specs.Plain.{text};
+ghost use Rattle.bmap.specs.Limits.{mostFluents, mostSteps};
 ghost use Rattle.bmap.specs.Sheet.{rows};
 ghost use Rattle.bmap.specs.Program.{decimal, decimalZ, spaced, lineOf, stateLines, refusedText};
 ghost use Rattle.answer.specs.Put.{Put};
@@ -62,6 +63,7 @@ fn put_level(out: &mut [u8], at: usize, level: i16) -> usize
     put_digits(out, at + 2, 65_536 - bits)
 }
 
+// A call, so that a proof has the byte's range by the call's answer.
 fn wide(x: u8) -> usize
     ensures { λ r. ⌜ r ≡ x ⌝ }
 {
@@ -104,7 +106,7 @@ fn put_state(out: &mut [u8], at: usize, k: usize, levels: &[i16]) -> usize
 
 // One line for each of the first states of a levels buffer.
 pub(crate) fn put_states(out: &mut [u8], levels: &[i16], width: usize, count: usize) -> usize
-    requires { ⌜ (width ≤ 32) × (count ≤ 65) × (count * width ≤ length (now levels)) × (248 * count ≤ length (now out)) ⌝ }
+    requires { ⌜ (width ≤ mostFluents) × (count ≤ mostSteps + 1) × (count * width ≤ length (now levels)) × (248 * count ≤ length (now out)) ⌝ }
     ensures { λ r. ⌜ Put (now (out .entry)) 0 (stateLines 0 (rows width count (now (levels .entry)))) r (now (out .exit)) ⌝ }
     ensures { λ r. ⌜ r ≤ 248 * count ⌝ }
 {

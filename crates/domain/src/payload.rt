@@ -55,6 +55,7 @@ fn agents_fit(p: &[u8]) -> bool
     (p[0] as usize) <= Counts::AGENTS
 }
 
+// A call, so that each test of `fluent_fits` is one equation with `leZ`.
 fn at_most(a: i16, b: i16) -> bool
     ensures { λ r. ⌜ r ≡ leZ a b ⌝ }
 {

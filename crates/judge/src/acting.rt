@@ -19,6 +19,7 @@ pub struct Acting {
     pub agents: u16,
 }
 
+// A byte of a lent array as a number. A call, so that a proof has its range by the call's answer.
 pub(crate) fn wide(x: u8) -> usize
     ensures { λ r. ⌜ r ≡ x ⌝ }
 {

@@ -28,6 +28,7 @@ pub enum Settled {
     Count(usize),
 }
 
+// By order twice, as `same` is defined; a call, so that the loop has one test and one equation.
 fn same_level(a: i32, b: i32) -> bool
     ensures { λ r. ⌜ r ≡ same a b ⌝ }
 {

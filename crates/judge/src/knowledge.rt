@@ -21,6 +21,7 @@ use bmap::STORE;
 // The owner of a law that does not count.
 const NOBODY: u8 = 255;
 
+// A call, so that the loop takes its answer by one equation and has no cases.
 fn same_fluent(a: u8, f: usize) -> bool
     ensures { λ r. ⌜ r ≡ eqb a f ⌝ }
 {

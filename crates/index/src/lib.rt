@@ -1,5 +1,5 @@
 // What a judge reads of an accepted store, found once: the numbers of its fluents, knowledge and entries, and where each law
-// stands. `domain` makes an index and `judge` reads it.
+// stands. `domain` makes an index and `judge` reads it; `session` and `answer` ask it for its counts.
 use bmap::Counts;
 ghost use mathlib.Core.Path.{_≡_};
 ghost use lib.ListN.{getD};
@@ -22,6 +22,7 @@ pub struct Index {
 }
 
 // The frame of law i as it stands in the store: its kind, its count and its payload. Everything that reads a law asks here.
+// For a law that is not there it is the frame at place 0.
 pub fn law_at<'a>(store: &'a [u8], laws: &[u16], i: usize) -> &'a [u8]
     ensures { λ r. ⌜ now r ≡ frameBytes (now (store .entry)) (getD (now (laws .entry)) i 0) ⌝ }
 {

@@ -1,5 +1,6 @@
 // The judge: the six checks of a step in the paper's order, the run over the steps, the goals, and the states that were reached.
-// It reads a store through `index` (made by `domain`), laws through `law`; `session`, the program and the desk stand on it.
+// It reads a store through `index` (made by `domain`), laws through `law`, values as `number` has them; `session`, `answer`,
+// `desk` and `river_cases` stand on it.
 mod acting;
 mod checks;
 mod effects;

@@ -1,6 +1,6 @@
 // The operators of the law language on numbers and truths that may have no value, and the two bytes of a value.
 // "Everything built on a part without value has none": each function answers for all its arguments, and asks nothing.
-// `law` stands on it for its operators, `judge` and `answer` for values and their bytes.
+// `law` stands on it for its operators, `domain`, `judge`, `answer` and `river_cases` for values and their bytes.
 ghost use mathlib.Core.Bool.{not};
 ghost use mathlib.Core.Path.{_≡_};
 ghost use Rattle.bmap.specs.Number.{value, with1, with2, bounded, operate, change, compare, join, flag};

@@ -1,4 +1,5 @@
 // Document 01's cases of domain P, through the code: for each sheet the levels written, then the verdict.
+// It stands on `judge`, and on `number` for the bytes of a level.
 use bmap::LEVELS;
 use judge::Judgement;
 use judge::Verdict;

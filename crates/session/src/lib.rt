@@ -1,7 +1,7 @@
 // The editing session: open, enter, strike, amend, undo, redo, verdict. log.rt reads a log back into a sheet; kept.rt decides
 // refusal 17; value.rt has the five changes by value, lent.rt those that alter the session itself; opening.rt takes the number
 // of agents from a store, judging.rt hands the sheet to the judge.
-// It stands on `line` for zeros, on `domain` for a store and on `judge`; the desk stands on it.
+// It stands on `line` for zeros, on `domain` for a store, on `index` for its counts and on `judge`; `desk` stands on it.
 mod judging;
 mod kept;
 mod lent;

@@ -1,4 +1,4 @@
-// Sheets as hex lines: the reader and the writer. Both stand on `line`; `session` and the program stand on them.
+// Sheets as hex lines: the reader and the writer. Both stand on `line`; `answer` and `desk` stand on them.
 mod reader;
 mod writer;
 

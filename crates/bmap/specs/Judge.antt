@@ -120,17 +120,17 @@ abbrev pub settle : ℕ → List Setting → Option Setting → Checked (List Se
 settle n done none = fine done
 settle n done (some new) = if-else (all (agrees new) done) (fine (new ∷ done)) (fault 4 n)
 
+-- "Fluents that no law set keep their value"; the settings of one fluent all agree, so the first found is its value
+unfoldable pub levelAfter : List Setting → ℕ → ℤ → ℤ
+levelAfter [] f old = old
+levelAfter (s ∷ rest) f old = if-else (eqb (s .fluent) f) (s .level) (levelAfter rest f old)
+
 unfoldable pub settled : Domain → History → ℕ → Names → ℕ → List Setting → List Law → Checked (List Setting)
 settled d h j names n done [] = fine done
 settled d h j names n done (l ∷ laws) =
     next (reads n (sets d h j names l)) (λ new.
     next (settle n done new) (λ done′.
     settled d h j names (suc n) done′ laws))
-
--- "Fluents that no law set keep their value"; the settings of one fluent all agree, so the first found is its value
-unfoldable pub levelAfter : List Setting → ℕ → ℤ → ℤ
-levelAfter [] f old = old
-levelAfter (s ∷ rest) f old = if-else (eqb (s .fluent) f) (s .level) (levelAfter rest f old)
 
 unfoldable pub stateAfter : Domain → List Setting → State → State
 stateAfter d settings old = map (λ f. levelAfter settings f (getD old f (pos 0))) (numbers 0 (length (d .fluents)))

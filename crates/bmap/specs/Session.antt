@@ -8,7 +8,7 @@ use lib.IntN.{ℤ}
 use lib.ListN.{length, getD, take, drop, set}
 use Rattle.bmap.specs.Plain.{both, if-else, flat}
 use Rattle.bmap.specs.Limits.{mostAgents, mostSteps, mostEdits, sheetSize, levelsSize}
-use Rattle.bmap.specs.Refusal.{Answer, got, refused, need, then}
+use Rattle.bmap.specs.Refusal.{Answer, got, refused, need, then, isGot, orElse}
 use Rattle.bmap.specs.Domain.{Domain, Names}
 use Rattle.bmap.specs.Buffer.{padded}
 use Rattle.bmap.specs.Store.{domainIn}
@@ -48,10 +48,6 @@ pub record Model : Type 0 where
   pub agents : ℕ
   pub standing : List Edit
   pub undone : List Edit
-
-abbrev pub orElse : {A : Type 0} → A → Answer A → A
-orElse a (refused n) = a
-orElse a (got b) = b
 
 -- what an empty sheet becomes when the standing edits are done in order
 unfoldable pub standingSheet : Model → List Names
@@ -189,10 +185,6 @@ sameSession s t =
     (both (sameBytes (s .sheet .names) (t .sheet .names))
     (both (eqb (s .standing) (t .standing))
     (both (eqb (s .total) (t .total)) (sameBytes (s .log) (t .log))))))
-
-abbrev pub isGot : {A : Type 0} → Answer A → Bool
-isGot (got a) = true
-isGot (refused n) = false
 
 -- every edit of the log can be done in its turn
 abbrev pub replays : Model → Bool

@@ -6,11 +6,10 @@ use mathlib.Core.Bool.{true, false}
 use mathlib.Core.List.{List, []}
 use mathlib.Core.Option.{Option, none}
 use lib.ListN.{length, take, drop}
-use Rattle.bmap.specs.Refusal.{Answer, got, refused}
+use Rattle.bmap.specs.Refusal.{Answer, got, refused, isGot}
 use Rattle.bmap.specs.Plain.{maybe}
 use Rattle.bmap.specs.Line.{Frame, stored}
 use Rattle.bmap.specs.Domain.{Domain}
-use Rattle.bmap.specs.Session.{isGot}
 use Rattle.bmap.specs.Store.{frameAt, domainIn, start, Next, nextFrame}
 use Rattle.domain.specs.Frames.{refusalIn, standingOn, partAt, placeAfter}
 use Rattle.domain.proofs.Held.{Framed}

@@ -11,11 +11,10 @@ use lib.ListN.{length, getD, take, drop, length-append, length-drop, take-append
 use lib.Seq.{length-take-le, take-at, drop-at, drop-drop}
 use borrow.Author.Tests.{le-leb, lt-leb}
 use Rattle.bmap.specs.Plain.{if-else, maybe, flat}
-use Rattle.bmap.specs.Refusal.{Answer, got, refused, then}
+use Rattle.bmap.specs.Refusal.{Answer, got, refused, then, isGot}
 use Rattle.bmap.specs.Line.{Frame, stored, lineFor}
 use Rattle.bmap.specs.Domain.{Domain}
 use Rattle.bmap.specs.Buffer.{over, written}
-use Rattle.bmap.specs.Session.{isGot}
 use Rattle.bmap.specs.Store.{frameAt, zeros, framesFrom, textOf, domainIn, writeDomain}
 use Rattle.line.specs.Write.{lineWritten}
 use Rattle.line.proofs.Lists.{part-to-end}

@@ -16,7 +16,7 @@ use line::is_zero_from;
 ghost use mathlib.Core.Path.{_≡_};
 ghost use Prim.Native.Nat.{_≤_};
 ghost use Rattle.bmap.specs.Limits.{mostEntries};
-ghost use Rattle.bmap.specs.Session.{isGot};
+ghost use Rattle.bmap.specs.Refusal.{isGot};
 ghost use Rattle.bmap.specs.Store.{domainIn};
 ghost use Rattle.domain.specs.Found.{completeOn, nothingFound, foundIn};
 

@@ -9,11 +9,11 @@ use lib.Dec.{ltb}
 use lib.ListN.{length, take, drop, set, replicate, length-append, length-drop, length-set, length-replicate, replicate-append-replicate, take-append-drop}
 use lib.Seq.{take-at, length-take-le}
 use borrow.Author.Tests.{ltb-true, ltb-false, eq-eqb, ne-eqb, lt-ltb, le-ltb, le-leb, lt-leb}
-use Rattle.bmap.specs.Refusal.{Answer, got, refused, need, numberOf}
+use Rattle.bmap.specs.Refusal.{Answer, got, refused, need, numberOf, orElse}
 use Rattle.bmap.specs.declared.refusal.Refusal.{Refusal}
 use Rattle.bmap.specs.Domain.{Names}
 use Rattle.bmap.specs.Buffer.{padded}
-use Rattle.bmap.specs.Session.{Edit, enter, strike, amend, Model, orElse, standingSheet, edited, edit, moved, undo, redo, replayed, logged, loggedAll, editsFrom, modelOf, layout, changed, isOpen, editSession, undoSession, redoSession}
+use Rattle.bmap.specs.Session.{Edit, enter, strike, amend, Model, standingSheet, edited, edit, moved, undo, redo, replayed, logged, loggedAll, editsFrom, modelOf, layout, changed, isOpen, editSession, undoSession, redoSession}
 use Rattle.bmap.specs.declared.session.Session.{Session}
 use Rattle.session.specs.Log.{laid, Sound, Reached}
 use Rattle.session.specs.Calls.{answerOf, mayEdit, done, standingAt, withEdit}

@@ -9,10 +9,10 @@ use lib.Dec.{ltb}
 use lib.ListN.{length, take, drop, replicate, length-append, take-append-drop}
 use lib.Seq.{take-at, drop-at}
 use borrow.Author.Tests.{ltb-true, lt-ltb}
-use Rattle.bmap.specs.Refusal.{Answer, got, refused, then}
+use Rattle.bmap.specs.Refusal.{Answer, got, refused, then, isGot, orElse}
 use Rattle.bmap.specs.Domain.{Names}
 use Rattle.bmap.specs.Buffer.{padded}
-use Rattle.bmap.specs.Session.{Edit, enter, strike, amend, Model, orElse, standingSheet, edited, edit, moved, undo, redo, replayed, Call, editing, undoing, redoing, judging, turned, turn, after, logged, loggedAll, editsFrom, modelOf, layout, isGot, replays, isOpen}
+use Rattle.bmap.specs.Session.{Edit, enter, strike, amend, Model, standingSheet, edited, edit, moved, undo, redo, replayed, Call, editing, undoing, redoing, judging, turned, turn, after, logged, loggedAll, editsFrom, modelOf, layout, replays, isOpen}
 use Rattle.bmap.specs.declared.session.Session.{Session}
 use Rattle.line.proofs.Answers.{need-got}
 use Rattle.session.proofs.SheetLaws.{got-inj, enter-asks, amend-asks, one-more, prefix-got}

@@ -10,10 +10,10 @@ use lib.ListN.{length, take, drop, replicate, length-drop, take-append-drop}
 use lib.Seq.{take-at, drop-at}
 use borrow.Author.Tests.{eq-eqb, eqb-true, leb-true, le-leb}
 use Rattle.bmap.specs.Plain.{both}
-use Rattle.bmap.specs.Refusal.{Answer, got, refused}
+use Rattle.bmap.specs.Refusal.{Answer, got, refused, isGot, orElse}
 use Rattle.bmap.specs.Buffer.{padded}
 use Rattle.bmap.specs.Store.{zeros}
-use Rattle.bmap.specs.Session.{Edit, Model, orElse, standingSheet, replayed, loggedAll, editsFrom, modelOf, layout, sameBytes, sameSession, isGot, replays, isOpen}
+use Rattle.bmap.specs.Session.{Edit, Model, standingSheet, replayed, loggedAll, editsFrom, modelOf, layout, sameBytes, sameSession, replays, isOpen}
 use Rattle.bmap.specs.declared.session.Session.{Session}
 use Rattle.session.specs.Log.{Sound, Holds, Reached}
 use Rattle.session.proofs.ListLaws.{is-false, same-refl, same-eq}

@@ -22,9 +22,11 @@ judgement levels (refused n) = record { answer = refused n; levels = levels }
 judgement levels (got j) = record { answer = got (j .verdict); levels = over (flat (j .states)) levels }
 
 -- "Judge: 10, 15, 8, 9"
-unfoldable pub judgeSheet : List ℕ → List ℕ → List ℤ → Judgement
-judgeSheet store sheet levels =
-    judgement levels
-    (need (leb levelsSize (length levels)) 10
+abbrev pub sheetJudged : List ℕ → List ℕ → List ℤ → Answer Judged
+sheetJudged store sheet levels =
+    need (leb levelsSize (length levels)) 10
     (then (domainIn store) (λ d.
-    then (sheetOf (d .agents) sheet) (λ steps. got (judge d steps)))))
+    then (sheetOf (d .agents) sheet) (λ steps. got (judge d steps))))
+
+unfoldable pub judgeSheet : List ℕ → List ℕ → List ℤ → Judgement
+judgeSheet store sheet levels = judgement levels (sheetJudged store sheet levels)

@@ -1,17 +1,14 @@
 -- The paper's number and values of each answer.
 use Prim.Native.Nat.{ℕ}
-use lib.Dec.{leb}
 use lib.ListN.{length}
-use Rattle.bmap.specs.Limits.{levelsSize}
-use Rattle.bmap.specs.Refusal.{Answer, got, refused, need, then, numberOf}
-use Rattle.bmap.specs.Store.{domainIn}
-use Rattle.bmap.specs.Sheet.{sheetOf}
+use Rattle.bmap.specs.Refusal.{Answer, got, refused, numberOf}
 use mathlib.Core.List.{List}
 use lib.IntN.{ℤ}
 use mathlib.Core.Option.{Option, none, some}
 use Rattle.bmap.specs.Number.{Valued, value, no-value}
-use Rattle.bmap.specs.Judge.{judge, Pass, pass, fault, Setting, accepted, broken}
+use Rattle.bmap.specs.Judge.{Pass, pass, fault, Setting, accepted, broken}
 use Rattle.bmap.specs.Judge as paper
+use Rattle.bmap.specs.Verdict.{sheetJudged}
 use Rattle.judge.specs.declared.verdict.Fault.{Fault}
 use Rattle.judge.specs.declared.verdict.Fault.the-variants.{Misplaced, Barred, Concurrency, Conflict, Range, Static, NoValue, Goal}
 use Rattle.judge.specs.declared.verdict.Verdict.{Verdict}
@@ -60,8 +57,4 @@ statesIn (got j) = length (j .states)
 
 -- those of `judgeSheet`: none where it refuses
 unfoldable pub statesWritten : List ℕ → List ℕ → List ℤ → ℕ
-statesWritten store sheet levels =
-    statesIn
-    (need (leb levelsSize (length levels)) 10
-    (then (domainIn store) (λ d.
-    then (sheetOf (d .agents) sheet) (λ steps. got (judge d steps)))))
+statesWritten store sheet levels = statesIn (sheetJudged store sheet levels)

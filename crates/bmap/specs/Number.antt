@@ -31,7 +31,7 @@ module _ {A B C : Type 0} where
   with2 f (value a) no-value = no-value
   with2 f (value a) (value b) = f a b
 
--- "any result outside −1,000,000,000 to 1,000,000,000 gives no value"
+-- "any result outside −1,000,000,000 to 1,000,000,000, gives no value"
 abbrev pub inBounds : ℤ → Bool
 inBounds z = both (leZ (negℤ (pos mostValue)) z) (leZ z (pos mostValue))
 

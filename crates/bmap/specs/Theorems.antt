@@ -56,8 +56,8 @@ SheetReturns =
 abbrev pub OpenExactly : Type 0
 OpenExactly = (s : Session) → (isOpen s ≡ true) ↔ CouldBeLeft s
 
--- "The session's sheet is what an empty sheet becomes when the standing edits are done in order, and its verdict is the judge's":
--- after any accepted opening and any calls, refused ones among them
+-- demand 3 in words: the session's sheet is what an empty sheet becomes when the standing edits are done in order, and its verdict
+-- is the judge's, after any accepted opening and any calls, refused ones among them
 pub record SheetStands (store : List ℕ) (d : Domain) (calls : List Call) : Type 0 where
   -- the session that they leave, their replies, and its sheet
   pub opens : openSession store .answer ≡ got tt

@@ -77,7 +77,7 @@ pub(crate) fn is_complete(n: Counts, ready: &[u8; Counts::ENTRIES]) -> bool
     true
 }
 
-// "store is … an accepted domain followed by zeros", and its index: one look at each frame.
+// Whether the store is an accepted domain followed by zeros, and its index: one look at each frame.
 pub fn index_of(store: &[u8]) -> Found
     ensures { λ r. ⌜ r ≡ foundIn (now (store .entry)) ⌝ }
 {

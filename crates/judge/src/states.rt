@@ -22,7 +22,7 @@ pub(crate) fn copy_levels(source: &[i16], from: usize, w: usize, levels: &mut [i
     }
 }
 
-// "The levels buffer receives the states reached, fluent by fluent; numbers after them are untouched."
+// "The levels buffer … receives the states reached, fluent by fluent"; "Numbers after them are untouched".
 pub(crate) fn copy_states(history: &[i16], n: usize, w: usize, levels: &mut [i16])
     requires { ⌜ (n ≤ mostSteps + 1) × ((w ≤ mostFluents) × ((length (now history) ≡ levelsSize) × (levelsSize ≤ length (now levels)))) ⌝ }
     ensures { λ _. ⌜ now (levels .exit) ≡ over (flat (statesOf w n (now (history .entry)))) (now (levels .entry)) ⌝ }

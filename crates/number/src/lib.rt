@@ -32,7 +32,7 @@ impl Value {
     pub const LEAST: i64 = -Value::MOST;
 }
 
-// "any result outside −1,000,000,000 to 1,000,000,000 gives no value". What is inside fits 32 bits, so what one
+// "any result outside −1,000,000,000 to 1,000,000,000, gives no value". What is inside fits 32 bits, so what one
 // operator makes of two numbers fits the 64 bits in which it is made.
 fn kept(z: i64) -> Value
     ensures { λ r. ⌜ valuedOf r ≡ bounded z ⌝ }

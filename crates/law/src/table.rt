@@ -1,5 +1,6 @@
 // "The number of operands of each code is kept as one table, code by code": the checker, the evaluator and the
-// search for fluents read it, and none of them knows a count or a sort of its own.
+// search for fluents read it. Of the counts in it the evaluator knows two itself, those of an expression's leaves: they
+// are most of a tree, and it looks at their codes first.
 ghost use mathlib.Core.Path.{_≡_};
 ghost use Prim.Native.Nat.{_+_, _≤_, _<_};
 ghost use lib.ListN.{drop};
@@ -72,7 +73,7 @@ fn shape_of(code: u8) -> Shape
 }
 
 // "Every other code from 00 to FF is refused."
-pub fn opens(code: u8) -> Node
+pub(crate) fn opens(code: u8) -> Node
     ensures { λ r. ⌜ r ≡ opened (codeOf code) ⌝ }
 {
     match code {
@@ -88,7 +89,7 @@ pub enum Pair {
     Short,
 }
 
-pub fn pair_after(s: &[u8], at: usize) -> Pair
+pub(crate) fn pair_after(s: &[u8], at: usize) -> Pair
     ensures { λ r. ⌜ r ≡ pairOf (drop (at + 1) (now (s .entry))) ⌝ }
 {
     if s.len() <= at {

@@ -14,7 +14,7 @@ use Rattle.bmap.specs.Refusal.{Answer, got, refused, need, then}
 use Rattle.bmap.specs.Domain.{Domain, Fluent, Names, State, static, concurrency, goal}
 use Rattle.bmap.specs.Store.{domainIn}
 use Rattle.bmap.specs.Sheet.{rows, sheetOf}
-use Rattle.bmap.specs.Judge.{Checked, fine, fault, Pass, next, each, placed, mayOccur, allHold, settled, Setting, levelAfter, stateAfter, inRange, history, step, Verdict, accepted, broken, Judged, judgedAt, passed, carried, startOf, ran, goalsAfter, judge}
+use Rattle.bmap.specs.Judge.{Checked, fine, fault, Pass, next, each, placed, mayOccur, allHold, settled, Setting, levelAfter, stateAfter, inRange, history, step, Verdict, accepted, broken, Judged, judgedAt, passed, carried, startOf, ran, goalsAfter, judge, landed}
 use Rattle.line.proofs.Answers.{need-got}
 use Rattle.sheet.proofs.RoundTrip.{Rows, none, more, length-rows}
 use Rattle.judge.specs.Answer.{statesIn, statesWritten}
@@ -41,7 +41,7 @@ module _ (d : Domain) where
       length-map (numbers 0 (length (d .fluents))) (λ f. levelAfter settings f (getD old f (pos 0))) ∙ numbers-length 0 (length (d .fluents))
 
   step-whole : (sheet : List Names) (states : List State) (j : ℕ) (names : Names) → Finds Whole (step d sheet states j names)
-  unfolding step
+  unfolding step landed
   step-whole sheet states j names =
       then-finds Whole (each (placed d names) names) _ (λ _.
       then-finds Whole (each (mayOccur d (history d sheet states) j names) (d .entries)) _ (λ _.

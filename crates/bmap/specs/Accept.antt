@@ -48,13 +48,14 @@ alike a b = both (eqb (a .name) (b .name)) (eqb (a .crew) (b .crew))
 unfoldable pub fresh : List Entry → Frame → Bool
 fresh earlier f = implies (eqb (f .kind) entryKind) (not (any (alike (entryIn (f .payload))) earlier))
 
--- "line by line 1, 2, 3, 5, 4, 6": 1 and 2 are the line's own
-unfoldable pub checked : Partial → Frame → Answer Item
-checked p f =
-    need (inOrder (p .latest) (f .kind)) 3
-    (need (room (countsOf (p .domain)) (f .kind)) 5
-    (then (known 4 (itemIn (countsOf (p .domain)) (f .kind) (f .payload))) (λ item.
-    need (fresh (p .domain .entries) f) 6 (got item))))
+-- "line by line 1, 2, 3, 5, 4, 6": 1 and 2 are the line's own. The frame is held against the latest kind, the counts of
+-- what was taken so far, and the entries
+unfoldable pub checked : ℕ → Counts → List Entry → Frame → Answer Item
+checked latest n earlier f =
+    need (inOrder latest (f .kind)) 3
+    (need (room n (f .kind)) 5
+    (then (known 4 (itemIn n (f .kind) (f .payload))) (λ item.
+    need (fresh earlier f) 6 (got item))))
 
 -- "Agents, fluents and entries are numbered from 0 in order of appearance"
 abbrev pub add : Item → Domain → Domain
@@ -65,7 +66,7 @@ add (entry x) d = record { agents = d .agents; fluents = d .fluents; knowledge =
 add (law x) d = record { agents = d .agents; fluents = d .fluents; knowledge = d .knowledge; entries = d .entries; laws = d .laws ++ (x ∷ []) }
 
 unfoldable pub accept : Partial → Frame → Answer Partial
-accept p f = then (checked p f) (λ item. got (record { latest = f .kind; domain = add item (p .domain) }))
+accept p f = then (checked (p .latest) (countsOf (p .domain)) (p .domain .entries) f) (λ item. got (record { latest = f .kind; domain = add item (p .domain) }))
 
 -- an executability law of entry i
 abbrev pub executes : ℕ → Law → Bool

@@ -139,6 +139,15 @@ stateAfter d settings old = map (λ f. levelAfter settings f (getD old f (pos 0)
 unfoldable pub inRange : State → ℕ → Fluent → Pass
 inRange new f x = unless 5 f (both (leZ (x .lowest) (getD new f (pos 0))) (leZ (getD new f (pos 0)) (x .highest)))
 
+-- checks 4 to 6 of the step from state j: the effects, the new state within its ranges, the static laws on it
+unfoldable pub landed : Domain → List Names → List State → ℕ → Names → Checked State
+landed d sheet states j names =
+    next (settled d (history d sheet states) j names 0 [] (d .laws)) (λ settings.
+    let new : State = stateAfter d settings (getD states j []) in
+    next (each (inRange new) (d .fluents)) (λ _.
+    next (allHold static 6 d (history d sheet (states ++ (new ∷ []))) (suc j)) (λ _.
+    fine new)))
+
 -- "Step k leads from state k−1 to state k; its laws are read at position k−1, static laws at position k": the step
 -- from state j, with the states 0 to j that were reached
 unfoldable pub step : Domain → List Names → List State → ℕ → Names → Checked State
@@ -147,11 +156,7 @@ step d sheet states j names =
     next (each (placed d names) names) (λ _.
     next (each (mayOccur d h j names) (d .entries)) (λ _.
     next (allHold concurrency 3 d h j) (λ _.
-    next (settled d h j names 0 [] (d .laws)) (λ settings.
-    let new : State = stateAfter d settings (getD states j []) in
-    next (each (inRange new) (d .fluents)) (λ _.
-    next (allHold static 6 d (history d sheet (states ++ (new ∷ []))) (suc j)) (λ _.
-    fine new))))))
+    landed d sheet states j names)))
 
 -- "A verdict is Accepted, or Broken with kind, step and number"
 pub data Verdict : Type 0 where

@@ -13,9 +13,9 @@ use Rattle.bmap.specs.Refusal.{got, need, known, then}
 use Rattle.bmap.specs.Line.{Frame}
 use Rattle.bmap.specs.Domain.{Entry}
 use Rattle.bmap.specs.Payload.{Item, byte, wordAt, entryIn, only, lawIn, lawItem, agentsFit, fluentFits, knowledgeFits, entryFits, itemIn}
-use Rattle.bmap.specs.Accept.{inOrder, room, alike, fresh}
+use Rattle.bmap.specs.Accept.{inOrder, room, alike, fresh, checked}
 use Rattle.bmap.specs.declared.limits.Counts.{Counts}
-use Rattle.domain.specs.Check.{isSome, checkedOn, refusedIn}
+use Rattle.domain.specs.Check.{isSome, refusedIn}
 
 -- ---- 3
 
@@ -93,18 +93,18 @@ module _ (n : Counts) (kind : ℕ) (p : List ℕ) where
 -- ---- the refusals in their order
 
 module _ (latest : ℕ) (n : Counts) (es : List Entry) (f : Frame) where
-  pub check-3 : false ≡ inOrder latest (f .kind) → some 3 ≡ refusedIn (checkedOn latest n es f)
-  unfolding checkedOn
+  pub check-3 : false ≡ inOrder latest (f .kind) → some 3 ≡ refusedIn (checked latest n es f)
+  unfolding checked
   check-3 a = rw (← a)
 
   module _ (a : true ≡ inOrder latest (f .kind)) where
-    pub check-5 : false ≡ room n (f .kind) → some 5 ≡ refusedIn (checkedOn latest n es f)
-    unfolding checkedOn
+    pub check-5 : false ≡ room n (f .kind) → some 5 ≡ refusedIn (checked latest n es f)
+    unfolding checked
     check-5 b = rw (← a, ← b)
 
     module _ (b : true ≡ room n (f .kind)) where
-      pub check-4 : false ≡ isSome (itemIn n (f .kind) (f .payload)) → some 4 ≡ refusedIn (checkedOn latest n es f)
-      unfolding checkedOn
+      pub check-4 : false ≡ isSome (itemIn n (f .kind) (f .payload)) → some 4 ≡ refusedIn (checked latest n es f)
+      unfolding checked
       check-4 i = rw (← a, ← b) (go (itemIn n (f .kind) (f .payload)) i)
         where
           go : (o : Option Item) → false ≡ isSome o → some 4 ≡ refusedIn (then (known 4 o) (λ item. need (fresh es f) 6 (got item)))
@@ -112,8 +112,8 @@ module _ (latest : ℕ) (n : Counts) (es : List Entry) (f : Frame) where
           go (some x) q = absurd (let z : _≡_ {A = ℕ} 0 1 = cc in omega arith)
 
       module _ (i : true ≡ isSome (itemIn n (f .kind) (f .payload))) where
-        only-fresh : (t : Bool) → fresh es f ≡ t → refusedIn (need t 6 (got (tt {0}))) ≡ refusedIn (checkedOn latest n es f)
-        unfolding checkedOn
+        only-fresh : (t : Bool) → fresh es f ≡ t → refusedIn (need t 6 (got (tt {0}))) ≡ refusedIn (checked latest n es f)
+        unfolding checked
         only-fresh t e = rw (← a, ← b, e) (go (itemIn n (f .kind) (f .payload)) i t)
           where
             go : (o : Option Item) → true ≡ isSome o → (t : Bool) → refusedIn (need t 6 (got (tt {0}))) ≡ refusedIn (then (known 4 o) (λ item. need t 6 (got item)))
@@ -121,15 +121,15 @@ module _ (latest : ℕ) (n : Counts) (es : List Entry) (f : Frame) where
             go (some x) q true = refl
             go (some x) q false = refl
 
-        pub check-other : (f .kind ≡ 0xA4 → ⊥) → none ≡ refusedIn (checkedOn latest n es f)
+        pub check-other : (f .kind ≡ 0xA4 → ⊥) → none ≡ refusedIn (checked latest n es f)
         unfolding fresh
         check-other q = only-fresh true (simp (ne-eqb (f .kind) 0xA4 q))
 
-        pub check-6 : f .kind ≡ 0xA4 → true ≡ any (alike (entryIn (f .payload))) es → some 6 ≡ refusedIn (checkedOn latest n es f)
+        pub check-6 : f .kind ≡ 0xA4 → true ≡ any (alike (entryIn (f .payload))) es → some 6 ≡ refusedIn (checked latest n es f)
         unfolding fresh
         check-6 q s = only-fresh false (simp (q, ← s))
 
-        pub check-new : f .kind ≡ 0xA4 → false ≡ any (alike (entryIn (f .payload))) es → none ≡ refusedIn (checkedOn latest n es f)
+        pub check-new : f .kind ≡ 0xA4 → false ≡ any (alike (entryIn (f .payload))) es → none ≡ refusedIn (checked latest n es f)
         unfolding fresh
         check-new q s = only-fresh true (simp (q, ← s))
 

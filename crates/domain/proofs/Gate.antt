@@ -14,10 +14,10 @@ use Rattle.bmap.specs.Plain.{both, either, if-else, any, numbers}
 use Rattle.bmap.specs.Line.{Frame}
 use Rattle.bmap.specs.Domain.{Domain, Fluent, Knows, Entry, Law}
 use Rattle.bmap.specs.Payload.{Item, agents, knowledge, byte, wordAt, fluentIn, knowledgeIn, entryIn}
-use Rattle.bmap.specs.Accept.{Partial, nothing, countsOf, room, add, executes, complete}
+use Rattle.bmap.specs.Accept.{Partial, nothing, countsOf, room, add, executes, complete, checked}
 use Rattle.bmap.specs.declared.limits.Counts.{Counts}
 use Rattle.bmap.proofs.PlainLaws.{either-end}
-use Rattle.domain.specs.Check.{entryOf, entriesOf, checkedOn}
+use Rattle.domain.specs.Check.{entryOf, entriesOf}
 use Rattle.domain.specs.Found.{row, counted, completeOn}
 use Rattle.domain.proofs.Rows.{length-snoc, any-snoc, push-by, row-push, row-back, numbers-all, all-same}
 use Rattle.domain.proofs.CheckLaws.{room-fluents, room-knowledge, room-entries, room-laws}
@@ -143,11 +143,11 @@ module _ {p : Partial} {latest : ℕ} {n : Counts} {names crews ready : List ℕ
       ∙ ap (λ (a : ℕ). record { name = getD es i noEntry .name; crew = a }) (row-back (λ (x : Entry). x .crew) 64 es noEntry i h))
 
   -- what the check of a frame says of the frames so far
-  pub gate-check : (f : Frame) → checkedOn latest n (entriesOf (n .entries) names crews) f ≡ checkedOn (p .latest) (countsOf (p .domain)) (p .domain .entries) f
+  pub gate-check : (f : Frame) → checked latest n (entriesOf (n .entries) names crews) f ≡ checked (p .latest) (countsOf (p .domain)) (p .domain .entries) f
   gate-check f =
-      ap (λ (k : ℕ). checkedOn k n (entriesOf (n .entries) names crews) f) (g .kind)
-      ∙ ap (λ (m : Counts). checkedOn (p .latest) m (entriesOf (n .entries) names crews) f) (g .counts)
-      ∙ ap (λ (es : List Entry). checkedOn (p .latest) (countsOf (p .domain)) es f) gate-entries
+      ap (λ (k : ℕ). checked k n (entriesOf (n .entries) names crews) f) (g .kind)
+      ∙ ap (λ (m : Counts). checked (p .latest) m (entriesOf (n .entries) names crews) f) (g .counts)
+      ∙ ap (λ (es : List Entry). checked (p .latest) (countsOf (p .domain)) es f) gate-entries
 
   -- nothing is missing
   pub gate-complete : length (p .domain .entries) ≤ 64 → completeOn n ready ≡ complete (p .domain)

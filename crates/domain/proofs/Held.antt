@@ -12,11 +12,11 @@ use Rattle.bmap.specs.Plain.{if-else, maybe}
 use Rattle.bmap.specs.Line.{Frame, stored}
 use Rattle.bmap.specs.Domain.{Domain, Fluent, Knows}
 use Rattle.bmap.specs.Payload.{byte, wordAt, valueAt}
-use Rattle.bmap.specs.Accept.{Partial, nothing, countsOf, room, finished}
+use Rattle.bmap.specs.Accept.{Partial, nothing, countsOf, room, finished, checked}
 use Rattle.bmap.specs.Store.{frameAt, zeros}
 use Rattle.bmap.specs.declared.limits.Counts.{Counts}
 use Rattle.line.specs.Frame.{frameSizeAt}
-use Rattle.domain.specs.Check.{entriesOf, checkedOn, refusedIn}
+use Rattle.domain.specs.Check.{entriesOf, refusedIn}
 use Rattle.domain.specs.declared.found.Found.{Found}
 use Rattle.domain.specs.Found.{row, counted, completeOn, indexWith, nothingFound, foundOf, foundIn}
 use Rattle.domain.proofs.Rows.{length-mapped}
@@ -145,14 +145,14 @@ module _ {s : List ℕ} {latest : ℕ} {n : Counts} {lowest highest start : List
 
   module _ (f : Frame) (e : frameAt s at ≡ some f) where
     -- the check's answer is that of the frames so far
-    says : (o : Option ℕ) → o ≡ refusedIn (checkedOn latest n (entriesOf (n .entries) names crews) f)
-        → o ≡ refusedIn (checkedOn (h .so-far .latest) (countsOf (h .so-far .domain)) (h .so-far .domain .entries) f)
+    says : (o : Option ℕ) → o ≡ refusedIn (checked latest n (entriesOf (n .entries) names crews) f)
+        → o ≡ refusedIn (checked (h .so-far .latest) (countsOf (h .so-far .domain)) (h .so-far .domain .entries) f)
     says o q = q ∙ ap refusedIn (gate-check (h .gate) f)
 
-    pub held-refused : (m : ℕ) → some m ≡ refusedIn (checkedOn latest n (entriesOf (n .entries) names crews) f) → nothingFound ≡ foundIn s
+    pub held-refused : (m : ℕ) → some m ≡ refusedIn (checked latest n (entriesOf (n .entries) names crews) f) → nothingFound ≡ foundIn s
     held-refused m q = sym (run-on ∙ found-refused (some-look .0) (h .so-far) (h .places) s at f e m (accept-refused (h .so-far) f m (says (some m) q)))
 
-    module _ (q : none ≡ refusedIn (checkedOn latest n (entriesOf (n .entries) names crews) f)) where
+    module _ (q : none ≡ refusedIn (checked latest n (entriesOf (n .entries) names crews) f)) where
       pass : Passed (h .so-far .latest) (countsOf (h .so-far .domain)) (h .so-far .domain .entries) f
       pass = passed (h .so-far .latest) (countsOf (h .so-far .domain)) (h .so-far .domain .entries) f (says none q)
 

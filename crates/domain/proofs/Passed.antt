@@ -14,11 +14,11 @@ use Rattle.bmap.specs.Line.{Frame}
 use Rattle.bmap.specs.Code.{parseE, parseC}
 use Rattle.bmap.specs.Domain.{Entry, Law, executable, effect, must, Scope, static, concurrency, goal}
 use Rattle.bmap.specs.Payload.{Item, agents, fluent, knowledge, entry, law, byte, only, agentsFit, fluentFits, knowledgeFits, entryFits, fluentIn, knowledgeIn, entryIn, last, below, conIn, exprIn, context, executableIn, effectIn, mustIn, lawIn, lawItem, itemIn}
-use Rattle.bmap.specs.Accept.{inOrder, room, fresh, executes}
+use Rattle.bmap.specs.Accept.{inOrder, room, fresh, executes, checked}
 use Rattle.bmap.specs.declared.limits.Counts.{Counts}
 use Rattle.bmap.proofs.PlainLaws.{both-true}
 use Rattle.bmap.proofs.PayloadLaws.{only-some, last-some, taken-some}
-use Rattle.domain.specs.Check.{checkedOn, refusedIn}
+use Rattle.domain.specs.Check.{refusedIn}
 
 only-is : {A : Type 0} (b : Bool) (a x : A) → only b (some a) ≡ some x → (b ≡ true) × (x ≡ a)
 only-is b a x e = let t = only-some b (some a) e in (t .0, let q = t .1 in cc)
@@ -68,7 +68,7 @@ item-case n k p i lo q = go (eqb k 0xA1) (eqb k 0xA2) (eqb k 0xA3) (eqb k 0xA4) 
 
 pub record Passed (latest : ℕ) (n : Counts) (es : List Entry) (f : Frame) : Type 0 where
   pub item : Item
-  pub checks : checkedOn latest n es f ≡ got item
+  pub checks : checked latest n es f ≡ got item
   pub case : Case n (f .kind) (f .payload) item
   pub order : latest ≤ f .kind
   pub fits : room n (f .kind) ≡ true
@@ -77,8 +77,8 @@ need-got : {A : Type 0} (b : Bool) (m : ℕ) (r : Answer A) → none ≡ refused
 need-got true m r e = (refl, e)
 need-got false m r e = absurd (let z : _≡_ {A = ℕ} 0 1 = cc in omega arith)
 
-pub passed : (latest : ℕ) (n : Counts) (es : List Entry) (f : Frame) → none ≡ refusedIn (checkedOn latest n es f) → Passed latest n es f
-unfolding checkedOn inOrder
+pub passed : (latest : ℕ) (n : Counts) (es : List Entry) (f : Frame) → none ≡ refusedIn (checked latest n es f) → Passed latest n es f
+unfolding checked inOrder
 passed latest n es f e =
     let a = need-got (inOrder latest (f .kind)) 3 _ e in
     let b = need-got (room n (f .kind)) 5 _ (a .1) in

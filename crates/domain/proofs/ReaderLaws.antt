@@ -15,14 +15,14 @@ use Rattle.bmap.specs.Refusal.{got, refused, need, numberOf, Reading, read, ref
 use Rattle.bmap.specs.Line.{Frame, stored, linesOf, decode}
 use Rattle.bmap.specs.Domain.{Domain}
 use Rattle.bmap.specs.Payload.{byte, wordAt}
-use Rattle.bmap.specs.Accept.{Partial, nothing, countsOf, room, accept, complete, finished, takenFrom}
+use Rattle.bmap.specs.Accept.{Partial, nothing, countsOf, room, accept, complete, finished, takenFrom, checked}
 use Rattle.bmap.specs.Buffer.{padded, Filled, fill}
 use Rattle.bmap.specs.Store.{framesOf, storedOf, reading, readDomain}
 use Rattle.bmap.specs.declared.limits.Counts.{Counts}
 use Rattle.line.specs.Read.{lineRead, bytesRead}
 use Rattle.line.proofs.Lists.{part-to-end}
 use Rattle.line.proofs.LineLaws.{line-nothing, Refuses, line-refused, Takes, line-taken}
-use Rattle.domain.specs.Check.{entriesOf, checkedOn, refusedIn}
+use Rattle.domain.specs.Check.{entriesOf, refusedIn}
 use Rattle.domain.specs.Found.{counted, completeOn}
 use Rattle.bmap.specs.declared.refusal.Refusal.{Refusal}
 use Rattle.domain.specs.declared.reader.ReadDomain.{ReadDomain}
@@ -202,11 +202,11 @@ module _ {text store rest : List ℕ} {latest : ℕ} {n : Counts} {names crews r
         h .run ∙ first-taken rest takes lines (h .so-far)
         ∙ ap (λ f. atLine (suc lines) (accept (h .so-far) f) (λ q. takenFrom (suc lines) q (framesOf (drop k rest)))) (sym frame-is)
 
-    says : (o : Option ℕ) → o ≡ refusedIn (checkedOn latest n (entriesOf (n .entries) names crews) (cut (renewed store used p) used size))
-        → o ≡ refusedIn (checkedOn (h .so-far .latest) (countsOf (h .so-far .domain)) (h .so-far .domain .entries) (cut (renewed store used p) used size))
+    says : (o : Option ℕ) → o ≡ refusedIn (checked latest n (entriesOf (n .entries) names crews) (cut (renewed store used p) used size))
+        → o ≡ refusedIn (checked (h .so-far .latest) (countsOf (h .so-far .domain)) (h .so-far .domain .entries) (cut (renewed store used p) used size))
     says o q = q ∙ ap refusedIn (gate-check (h .gate) (cut (renewed store used p) used size))
 
-    pub reads-refused : (m : ℕ) → some m ≡ refusedIn (checkedOn latest n (entriesOf (n .entries) names crews) (cut (renewed store used p) used size))
+    pub reads-refused : (m : ℕ) → some m ≡ refusedIn (checked latest n (entriesOf (n .entries) names crews) (cut (renewed store used p) used size))
         → (refusedAt m (lines + 1) ≡ usedIn text) × Unit {0}
     unfolding usedIn
     reads-refused m q = (
@@ -216,7 +216,7 @@ module _ {text store rest : List ℕ} {latest : ℕ} {n : Counts} {names crews r
       tt,
     )
 
-    module _ (q : none ≡ refusedIn (checkedOn latest n (entriesOf (n .entries) names crews) (cut (renewed store used p) used size))) where
+    module _ (q : none ≡ refusedIn (checked latest n (entriesOf (n .entries) names crews) (cut (renewed store used p) used size))) where
       abbrev frame : Frame
       frame = cut (renewed store used p) used size
 

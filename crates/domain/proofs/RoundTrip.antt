@@ -15,14 +15,14 @@ use Rattle.bmap.specs.Refusal.{Answer, got, refused, then, Reading, read, refus
 use Rattle.bmap.specs.Line.{Frame, Line, stored, linesOf, decode, lineFor}
 use Rattle.bmap.specs.Domain.{Domain}
 use Rattle.bmap.specs.Payload.{Item}
-use Rattle.bmap.specs.Accept.{Partial, nothing, countsOf, accept, takenFrom, taken}
+use Rattle.bmap.specs.Accept.{Partial, nothing, countsOf, accept, takenFrom, taken, checked}
 use Rattle.bmap.specs.Buffer.{padded, over, Filled, fill, Written, written}
 use Rattle.bmap.specs.Store.{framesOf, storedOf, reading, standsAt, frameAt, zeros, framesFrom, framesIn, domainIn, textOf, readDomain, writeDomain}
 use Rattle.bmap.proofs.PlainLaws.{both-false}
 use Rattle.line.proofs.Lists.{zeros-replicate, zeros-are}
 use Rattle.line.proofs.Lists.{Bytes, bytes-take, bytes-drop}
 use Rattle.line.proofs.LineLaws.{lines-first, decodes, decode-line, lines-line, text-line}
-use Rattle.domain.specs.Check.{checkedOn, refusedIn}
+use Rattle.domain.specs.Check.{refusedIn}
 use Rattle.domain.specs.Read.{bytesIn}
 use Rattle.domain.proofs.Passed.{Case, is-agents, is-fluent, is-knowledge, is-entry, is-law, passed}
 use Rattle.domain.proofs.Stands.{Here, here, with, accept-is}
@@ -43,7 +43,7 @@ pub data Fines : List Frame → Type 0 where
 
 -- a kind that is taken is none of the unknown
 taken-kind : (p : Partial) (f : Frame) (q : Partial) → accept p f ≡ got q → f .kind ≡ 0 → ⊥
-taken-kind p f q e z = go (checkedOn (p .latest) (countsOf (p .domain)) (p .domain .entries) f) refl (sym (accept-is p f) ∙ e)
+taken-kind p f q e z = go (checked (p .latest) (countsOf (p .domain)) (p .domain .entries) f) refl (sym (accept-is p f) ∙ e)
   where
     by : {i : Item} → Case (countsOf (p .domain)) (f .kind) (f .payload) i → ⊥
     by (is-agents k lo hi x) = omega arith
@@ -52,7 +52,7 @@ taken-kind p f q e z = go (checkedOn (p .latest) (countsOf (p .domain)) (p .doma
     by (is-entry k x) = omega arith
     by (is-law k l w x) = omega arith
 
-    go : (a : Answer Item) → checkedOn (p .latest) (countsOf (p .domain)) (p .domain .entries) f ≡ a → then a (λ i. got (with p f i)) ≡ got q → ⊥
+    go : (a : Answer Item) → checked (p .latest) (countsOf (p .domain)) (p .domain .entries) f ≡ a → then a (λ i. got (with p f i)) ≡ got q → ⊥
     go (refused n) c t = let y : _≡_ {A = ℕ} 0 1 = cc in omega arith
     go (got i) c t = by (passed (p .latest) (countsOf (p .domain)) (p .domain .entries) f (sym (ap refusedIn c)) .case)
 

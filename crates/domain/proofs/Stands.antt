@@ -20,7 +20,7 @@ use Rattle.bmap.specs.Store.{standsAt, frameAt, zeros, framesFrom}
 use Rattle.bmap.specs.declared.limits.Counts.{Counts}
 use Rattle.bmap.proofs.PlainLaws.{both-true}
 use Rattle.index.specs.Index.{frameBytes}
-use Rattle.domain.specs.Check.{checkedOn, refusedIn}
+use Rattle.domain.specs.Check.{refusedIn}
 use Rattle.domain.specs.Found.{lawPlaces}
 use Rattle.domain.proofs.Rows.{length-snoc, map-snoc, map-same}
 use Rattle.domain.proofs.CheckLaws.{room-agents, room-fluents, room-knowledge, room-entries, room-laws}
@@ -278,12 +278,12 @@ stands-first s = record { few = few-first; there = refl; late = λ h. absurd (om
 
 -- ---- all the frames of a store
 
-pub accept-is : (p : Partial) (f : Frame) → accept p f ≡ then (checkedOn (p .latest) (countsOf (p .domain)) (p .domain .entries) f) (λ i. got (with p f i))
-unfolding accept checked checkedOn
+pub accept-is : (p : Partial) (f : Frame) → accept p f ≡ then (checked (p .latest) (countsOf (p .domain)) (p .domain .entries) f) (λ i. got (with p f i))
+unfolding accept
 accept-is p f = refl
 
-pub accept-refused : (p : Partial) (f : Frame) (m : ℕ) → some m ≡ refusedIn (checkedOn (p .latest) (countsOf (p .domain)) (p .domain .entries) f) → accept p f ≡ refused m
-accept-refused p f m e = accept-is p f ∙ go (checkedOn (p .latest) (countsOf (p .domain)) (p .domain .entries) f) e
+pub accept-refused : (p : Partial) (f : Frame) (m : ℕ) → some m ≡ refusedIn (checked (p .latest) (countsOf (p .domain)) (p .domain .entries) f) → accept p f ≡ refused m
+accept-refused p f m e = accept-is p f ∙ go (checked (p .latest) (countsOf (p .domain)) (p .domain .entries) f) e
   where
     go : (a : Answer Item) → some m ≡ refusedIn a → then a (λ i. got (with p f i)) ≡ refused m
     go (got i) z = absurd (let y : _≡_ {A = ℕ} 0 1 = cc in omega arith)
@@ -325,7 +325,7 @@ module _ (looks lines : ℕ) (s : List ℕ) (p : Partial) (places : List ℕ) (a
 
   -- a frame that passes, and the rest
   taken : (f : Frame) (rest : List Frame) → frameAt s at ≡ some f → framesFrom looks s (at + length (stored f)) ≡ some rest → fs ≡ f ∷ rest
-      → (a : Answer Item) → checkedOn (p .latest) (countsOf (p .domain)) (p .domain .entries) f ≡ a
+      → (a : Answer Item) → checked (p .latest) (countsOf (p .domain)) (p .domain .entries) f ≡ a
       → atLine (suc lines) (then a (λ i. got (with p f i))) (λ q. takenFrom (suc lines) q (map got rest)) ≡ read d → Whole s d (places ++ lawPlaces at fs)
   unfolding lawPlaces
   taken f rest fe re fr (refused n) c t = absurd (let z : _≡_ {A = ℕ} 0 1 = cc in omega arith)
@@ -346,7 +346,7 @@ module _ (looks lines : ℕ) (s : List ℕ) (p : Partial) (places : List ℕ) (a
       more f fe none re q = absurd (let z : _≡_ {A = ℕ} 0 1 = cc in omega arith)
       more f fe (some rest) re q =
           let fr : fs ≡ f ∷ rest = cc in
-          taken f rest fe re fr (checkedOn (p .latest) (countsOf (p .domain)) (p .domain .entries) f) refl
+          taken f rest fe re fr (checked (p .latest) (countsOf (p .domain)) (p .domain .entries) f) refl
           (ap (λ a. atLine (suc lines) a (λ q. takenFrom (suc lines) q (map got rest))) (sym (accept-is p f)) ∙ ap (λ l. takenFrom lines p (map got l)) (sym fr) ∙ r)
 
       go : (o : Option Frame) → frameAt s at ≡ o

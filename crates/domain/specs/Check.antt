@@ -5,12 +5,8 @@ use mathlib.Core.List.{List, map}
 use mathlib.Core.Option.{Option, none, some}
 use lib.ListN.{getD}
 use Rattle.bmap.specs.Plain.{numbers}
-use Rattle.bmap.specs.Refusal.{Answer, got, refused, need, known, then, numberOf}
-use Rattle.bmap.specs.Line.{Frame}
+use Rattle.bmap.specs.Refusal.{Answer, got, refused, numberOf}
 use Rattle.bmap.specs.Domain.{Entry}
-use Rattle.bmap.specs.Payload.{Item, itemIn}
-use Rattle.bmap.specs.Accept.{inOrder, room, fresh}
-use Rattle.bmap.specs.declared.limits.Counts.{Counts}
 use Rattle.domain.specs.declared.checks.Check.{Check}
 use Rattle.domain.specs.declared.checks.Check.the-variants.{Passed, Refused}
 
@@ -24,14 +20,6 @@ entryOf names crews i = record { name = getD names i 0; crew = getD crews i 0 }
 
 unfoldable pub entriesOf : ℕ → List ℕ → List ℕ → List Entry
 entriesOf n names crews = map (entryOf names crews) (numbers 0 n)
-
--- `checked`, asked of the latest kind, the counts and the entries instead of the frames so far
-unfoldable pub checkedOn : ℕ → Counts → List Entry → Frame → Answer Item
-checkedOn latest n earlier f =
-    need (inOrder latest (f .kind)) 3
-    (need (room n (f .kind)) 5
-    (then (known 4 (itemIn n (f .kind) (f .payload))) (λ item.
-    need (fresh earlier f) 6 (got item))))
 
 -- the refusal's number, where there is one
 abbrev pub refusedIn : {A : Type 0} → Answer A → Option ℕ

@@ -9,8 +9,8 @@ ghost use Prim.Native.Nat.{_≤_};
 ghost use Rattle.bmap.specs.Plain.{any};
 ghost use Rattle.bmap.specs.Limits.{mostEntries};
 ghost use Rattle.bmap.specs.Payload.{entryIn};
-ghost use Rattle.bmap.specs.Accept.{inOrder, room, alike};
-ghost use Rattle.domain.specs.Check.{entriesOf, checkedOn, refusalOf, refusedIn};
+ghost use Rattle.bmap.specs.Accept.{inOrder, room, alike, checked};
+ghost use Rattle.domain.specs.Check.{entriesOf, refusalOf, refusedIn};
 
 // "A domain's kinds never decrease from line to line": A1 to A9.
 fn in_order(latest: u8, kind: u8) -> bool
@@ -76,7 +76,7 @@ pub(crate) fn check_frame(
     p: &[u8],
 ) -> Check
     requires { ⌜ n .entries ≤ mostEntries ⌝ }
-    ensures { λ r. ⌜ refusalOf r ≡ refusedIn (checkedOn latest n (entriesOf (n .entries) (now (names .entry)) (now (crews .entry))) (record { kind = kind; payload = now (p .entry) })) ⌝ }
+    ensures { λ r. ⌜ refusalOf r ≡ refusedIn (checked latest n (entriesOf (n .entries) (now (names .entry)) (now (crews .entry))) (record { kind = kind; payload = now (p .entry) })) ⌝ }
 {
     if !in_order(latest, kind) {
         return Check::Refused(Refusal::BadKind);

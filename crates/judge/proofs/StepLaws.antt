@@ -9,12 +9,11 @@ use lib.IntN.{ℤ, pos}
 use lib.ListN.{length, getD}
 use Rattle.bmap.specs.Limits.{mostFluents}
 use Rattle.bmap.specs.Domain.{Domain, Names, State, static, concurrency}
-use Rattle.bmap.specs.Judge.{Checked, fine, fault, Pass, pass, next, each, inRange, Setting, settled, stateAfter, history, allHold, placed, mayOccur, step}
+use Rattle.bmap.specs.Judge.{Checked, fine, fault, Pass, pass, next, each, inRange, Setting, settled, stateAfter, history, allHold, placed, mayOccur, step, landed}
 use Rattle.judge.specs.Answer.{passOf, kindOf}
 use Rattle.judge.specs.States.{statesOf, leaving}
 use Rattle.judge.specs.Landing.{ranged}
 use Rattle.judge.specs.Told.{Seen, Acted}
-use Rattle.judge.specs.Prepared.{landed}
 use Rattle.judge.specs.declared.verdict.Check.{Check}
 use Rattle.judge.specs.declared.verdict.Check.the-variants.{Passed, Failed}
 use Rattle.judge.specs.declared.verdict.Fault.{Fault}
@@ -94,5 +93,5 @@ module _ (d : Domain) (sheet : List Names) (states : List State) (j : ℕ) (name
       step-laws e = rw (e₁, e₂, e)
 
       pub step-on : allHold concurrency 3 d (history d sheet states) j ≡ pass → landed d sheet states j names ≡ step d sheet states j names
-      unfolding step landed
+      unfolding step
       step-on e = rw (e₁, e₂, e)

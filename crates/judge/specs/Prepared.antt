@@ -1,12 +1,12 @@
 -- What is found once for a judgement, and what a judgement leaves.
-use Prim.Native.Nat.{ℕ, suc}
+use Prim.Native.Nat.{ℕ}
 use mathlib.Core.Path.{_≡_}
-use mathlib.Core.List.{List, [], _∷_, _++_, map}
+use mathlib.Core.List.{List, map}
 use lib.IntN.{ℤ}
 use lib.ListN.{length, getD}
 use Rattle.bmap.specs.Plain.{numbers}
-use Rattle.bmap.specs.Domain.{Domain, Names, State, static}
-use Rattle.bmap.specs.Judge.{Checked, fine, next, each, inRange, settled, stateAfter, history, allHold, Judged}
+use Rattle.bmap.specs.Domain.{Domain}
+use Rattle.bmap.specs.Judge.{Judged}
 use Rattle.judge.specs.Answer.{verdictOf}
 use Rattle.judge.specs.States.{statesOf}
 use Rattle.judge.specs.Landing.{Ranged}
@@ -25,15 +25,6 @@ pub record Prepared (d : Domain) (held owners : List ℕ) (n : ℕ) (runs : Runs
 -- the names and crews of a domain's entries
 abbrev pub Entered : Domain → List ℕ → List ℕ → ℕ → Type 0
 Entered d actions crews count = d .entries ≡ map (λ i. record { name = getD actions i 0; crew = getD crews i 0 }) (numbers 0 count)
-
--- checks 4 to 6 of the step from state j
-unfoldable pub landed : Domain → List Names → List State → ℕ → Names → Checked State
-landed d sheet states j names =
-    next (settled d (history d sheet states) j names 0 [] (d .laws)) (λ settings.
-    let new : State = stateAfter d settings (getD states j []) in
-    next (each (inRange new) (d .fluents)) (λ _.
-    next (allHold static 6 d (history d sheet (states ++ (new ∷ []))) (suc j)) (λ _.
-    fine new)))
 
 -- what a run leaves: its verdict, and the states that it reached in the history
 abbrev pub judgedOf : ℕ → Ran → List ℤ → Judged

@@ -1,6 +1,7 @@
 -- `domain::found::index_of` meets its contract: after each frame the code holds what those frames make. Assumes nothing.
 use Rattle.domain.proofs.Held.{Held, Framed, cut, framed, no-frame, held-first, held-junk, held-missing, held-done, held-few, held-most, held-refused, held-room, held-entry, held-next}
-use Rattle.domain.specs.Check.{refusalOf, refusedIn, entriesOf, checkedOn}
+use Rattle.bmap.specs.Accept.{checked}
+use Rattle.domain.specs.Check.{refusalOf, refusedIn, entriesOf}
 use Rattle.domain.specs.Found.{counted}
 use Rattle.bmap.specs.Payload.{byte}
 use mathlib.Core.Bool.{true}
@@ -36,7 +37,7 @@ abbrev frame : tie.After-enum-told2 Inv-loop μ-loop → Frame
 frame c = cut (head c .before .before .args .store .now) (head c .loop .at) (c .before .before .before .before .before .before .before .before .size .given .0 .0)
 
 passes : (c : tie.After-enum-told2 Inv-loop μ-loop)
-    → none ≡ refusedIn (checkedOn (head c .loop .latest) (head c .loop .n) (entriesOf (head c .loop .n .entries) (head c .loop .names) (head c .loop .crews)) (frame c))
+    → none ≡ refusedIn (checked (head c .loop .latest) (head c .loop .n) (entriesOf (head c .loop .n .entries) (head c .loop .names) (head c .loop .crews)) (frame c))
 passes c = sym (ap refusalOf (c .enum-told2 .given .1)) ∙ c .before .before .check-frame .ensures
 
 room : (c : tie.After-enum-told2 Inv-loop μ-loop) → accept.room (head c .loop .n) (frame c .kind) ≡ true

@@ -2,7 +2,8 @@
 use Rattle.domain.proofs.ReaderLaws.{renewed, out, Reads, Sizes, reads-first, reads-few, reads-used, reads-lines, reads-done, reads-missing, reads-bad, reads-sizes, reads-refused, reads-room, reads-entry, reads-next}
 use Rattle.domain.proofs.Held.{cut}
 use Rattle.domain.specs.Found.{counted}
-use Rattle.domain.specs.Check.{refusalOf, refusedIn, entriesOf, checkedOn}
+use Rattle.bmap.specs.Accept.{checked}
+use Rattle.domain.specs.Check.{refusalOf, refusedIn, entriesOf}
 use Rattle.line.proofs.Lists.{length-back, part-to-end}
 use Rattle.line.specs.Read.{said, lineRead}
 use Rattle.bmap.specs.Refusal.{got}
@@ -73,7 +74,7 @@ abbrev head : tie.After-enum-told2 Inv-loop μ-loop → tie.At-loop Inv-loop μ-
 head c = arm c .before .before .before .before .before .before
 
 passes : (c : tie.After-enum-told2 Inv-loop μ-loop)
-    → (let l = head c in none ≡ refusedIn (checkedOn (l .loop .latest) (l .loop .n) (entriesOf (l .loop .n .entries) (l .loop .names) (l .loop .crews)) (frame (arm c))))
+    → (let l = head c in none ≡ refusedIn (checked (l .loop .latest) (l .loop .n) (entriesOf (l .loop .n .entries) (l .loop .names) (l .loop .crews)) (frame (arm c))))
 passes c = sym (ap refusalOf (c .enum-told2 .given .1)) ∙ c .before .before .check-frame .ensures
 
 room : (c : tie.After-enum-told2 Inv-loop μ-loop) → accept.room (head c .loop .n) (frame (arm c) .kind) ≡ true

@@ -2,9 +2,6 @@
  * that the calls keep, and the paper's river of one pool comes out of a day's calls as it should. */
 #include "waroth.h"
 
-#include <stdio.h>
-#include <string.h>
-
 /* "A river of one pool", a line each. */
 enum { LINES = 10 };
 
@@ -22,65 +19,85 @@ static const char domain[] =
 
 static const char sheet[] = "B1020100\nB1020002\n";
 
-static int failed;
+enum { DOMAIN = sizeof domain - 1, NAMES = 2, SHEET = sizeof sheet - 1 };
 
-static void expect(const char *what, uint64_t found, uint64_t wanted)
+static uint8_t store[WAROTH_STORE], names[WAROTH_SHEET], text[WAROTH_STORE], output[WAROTH_OUTPUT];
+static int16_t levels[WAROTH_LEVELS];
+static struct waroth_session session;
+
+static const uint8_t *bytes(const char *characters)
 {
-    if (found == wanted)
-        return;
-    printf("header: %s is %llu, not %llu\n", what, (unsigned long long)found, (unsigned long long)wanted);
-    failed = 1;
+    return (const uint8_t *)characters;
 }
 
-static const uint8_t *bytes(const char *text)
+static int starts(const uint8_t *found, const char *wanted, size_t size)
 {
-    return (const uint8_t *)text;
+    for (size_t i = 0; i < size; i++)
+        if (found[i] != (uint8_t)wanted[i])
+            return 0;
+    return 1;
 }
 
-int main(void)
+#define EXPECT(what)         \
+    do {                     \
+        if (!(what))         \
+            return __LINE__; \
+    } while (0)
+
+static int texts(void)
 {
-    static uint8_t store[WAROTH_STORE], names[WAROTH_SHEET], text[WAROTH_STORE], output[WAROTH_OUTPUT];
-    static int16_t levels[WAROTH_LEVELS];
-    static struct waroth_session session;
-    const size_t domain_size = strlen(domain), sheet_size = strlen(sheet);
+    EXPECT(WAROTH_REFUSAL(waroth_read_domain(bytes(domain), DOMAIN, store, WAROTH_STORE - 1)) == 10);
+    EXPECT(waroth_read_domain(bytes(domain), DOMAIN, store, WAROTH_STORE) == (DOMAIN - LINES) / 2);
+    EXPECT(waroth_write_domain(store, WAROTH_STORE, text, sizeof text) == DOMAIN);
+    EXPECT(starts(text, domain, DOMAIN));
+    EXPECT(waroth_frame(store, WAROTH_STORE, 0) == 3);
+    EXPECT(WAROTH_REFUSAL(waroth_read_sheet(bytes(sheet), SHEET, NAMES, names, WAROTH_SHEET - 1)) == 10);
+    EXPECT(WAROTH_REFUSAL(waroth_read_sheet(bytes(sheet), SHEET, WAROTH_AGENTS + 1, names, WAROTH_SHEET)) == 4);
+    EXPECT(waroth_read_sheet(bytes(sheet), SHEET, NAMES, names, WAROTH_SHEET) == 2);
+    EXPECT(waroth_write_sheet(names, 2 * NAMES, NAMES, text, sizeof text) == SHEET);
+    EXPECT(starts(text, sheet, SHEET));
+    EXPECT(WAROTH_REFUSAL(waroth_write_sheet(names, WAROTH_STEPS + 1, 1, text, sizeof text)) == 9);
+    return 0;
+}
 
-    expect("a store one byte short", WAROTH_REFUSAL(waroth_read_domain(bytes(domain), domain_size, store, WAROTH_STORE - 1)), 10);
-    uint64_t used = waroth_read_domain(bytes(domain), domain_size, store, WAROTH_STORE);
-    expect("the domain's frames", used, (domain_size - LINES) / 2);
-    expect("the domain's text", waroth_write_domain(store, WAROTH_STORE, text, sizeof text), domain_size);
-    expect("the text again", (uint64_t)memcmp(text, domain, domain_size), 0);
-    expect("the first frame", waroth_frame(store, WAROTH_STORE, 0), 3);
+static int verdicts(void)
+{
+    EXPECT(WAROTH_REFUSAL(waroth_judge(store, WAROTH_STORE, names, 2 * NAMES, levels, WAROTH_LEVELS - 1)) == 10);
+    EXPECT(waroth_judge(store, WAROTH_STORE, names, 2 * NAMES, levels, WAROTH_LEVELS) == 0);
+    EXPECT(levels[0] == 300 && levels[1] == 286 && levels[2] == 280);
+    EXPECT(waroth_answer(bytes(sheet), SHEET, output, WAROTH_OUTPUT - 1) == 0);
+    EXPECT(waroth_answer(bytes(sheet), SHEET, output, WAROTH_OUTPUT) == 12);
+    EXPECT(starts(output, "REFUSED 7 0\n", 12));
+    return 0;
+}
 
-    expect("a buffer one byte short", WAROTH_REFUSAL(waroth_read_sheet(bytes(sheet), sheet_size, 2, names, WAROTH_SHEET - 1)), 10);
-    expect("17 agents", WAROTH_REFUSAL(waroth_read_sheet(bytes(sheet), sheet_size, WAROTH_AGENTS + 1, names, WAROTH_SHEET)), 4);
-    expect("the sheet's steps", waroth_read_sheet(bytes(sheet), sheet_size, 2, names, WAROTH_SHEET), 2);
-    expect("the sheet's text", waroth_write_sheet(names, 4, 2, text, sizeof text), sheet_size);
-    expect("65 steps", WAROTH_REFUSAL(waroth_write_sheet(names, WAROTH_STEPS + 1, 1, text, sizeof text)), 9);
-
-    expect("levels one short", WAROTH_REFUSAL(waroth_judge(store, WAROTH_STORE, names, 4, levels, WAROTH_LEVELS - 1)), 10);
-    expect("the verdict", waroth_judge(store, WAROTH_STORE, names, 4, levels, WAROTH_LEVELS), 0);
-    expect("state 1", (uint64_t)levels[1], 286);
-    expect("state 2", (uint64_t)levels[2], 280);
-
-    expect("opening", waroth_open(&session, store, WAROTH_STORE), 0);
-    expect("enter", waroth_enter(&session, names, 2), 0);
-    expect("amend", waroth_amend(&session, 1, names + 2, 2), 0);
-    expect("undo", waroth_undo(&session), 0);
-    expect("redo", waroth_redo(&session), 0);
-    expect("strike", waroth_strike(&session), 0);
-    expect("edits that stand", session.standing, 3);
-    expect("edits in all", session.total, 3);
-    expect("agents", session.agents, 2);
-    expect("steps", session.steps, 0);
-    expect("the third edit's kind", session.log[2 * (WAROTH_AGENTS + 2)], 2);
-    expect("the session's verdict", waroth_verdict(session, store, WAROTH_STORE, levels, WAROTH_LEVELS), 0);
-    expect("another step", waroth_enter(&session, names, 2), 0);
+static int edits(void)
+{
+    EXPECT(waroth_open(&session, store, WAROTH_STORE) == 0);
+    EXPECT(waroth_enter(&session, names, NAMES) == 0);
+    EXPECT(waroth_amend(&session, 1, names + NAMES, NAMES) == 0);
+    EXPECT(waroth_undo(&session) == 0);
+    EXPECT(waroth_redo(&session) == 0);
+    EXPECT(waroth_strike(&session) == 0);
+    EXPECT(session.agents == NAMES && session.steps == 0 && session.standing == 3 && session.total == 3);
+    EXPECT(session.log[2 * (WAROTH_AGENTS + 2)] == 2);
+    EXPECT(waroth_verdict(session, store, WAROTH_STORE, levels, WAROTH_LEVELS) == 0);
+    EXPECT(waroth_enter(&session, names, NAMES) == 0);
     for (int edit = 5; edit <= WAROTH_EDITS; edit++)
-        expect("an edit that the log has room for", waroth_amend(&session, 1, names, 2), 0);
-    expect("one edit more", waroth_amend(&session, 1, names, 2), 14);
+        EXPECT(waroth_amend(&session, 1, names, NAMES) == 0);
+    EXPECT(waroth_amend(&session, 1, names, NAMES) == 14);
+    return 0;
+}
 
-    expect("an output one byte short", waroth_answer(bytes(sheet), sheet_size, output, WAROTH_OUTPUT - 1), 0);
-    expect("what is printed for a sheet alone", waroth_answer(bytes(sheet), sheet_size, output, WAROTH_OUTPUT), 12);
-    expect("its words", (uint64_t)memcmp(output, "REFUSED 7 0\n", 12), 0);
-    return failed;
+/* The line of what does not hold, 0 where all does. */
+int header_fails(void);
+
+int header_fails(void)
+{
+    int line = texts();
+    if (line == 0)
+        line = verdicts();
+    if (line == 0)
+        line = edits();
+    return line;
 }

@@ -125,6 +125,7 @@ unfoldable pub levelAfter : List Setting → ℕ → ℤ → ℤ
 levelAfter [] f old = old
 levelAfter (s ∷ rest) f old = if-else (eqb (s .fluent) f) (s .level) (levelAfter rest f old)
 
+-- the laws in turn, from law n on, with the settings so far: all of them are read on the one history
 unfoldable pub settled : Domain → History → ℕ → Names → ℕ → List Setting → List Law → Checked (List Setting)
 settled d h j names n done [] = fine done
 settled d h j names n done (l ∷ laws) =
@@ -132,6 +133,7 @@ settled d h j names n done (l ∷ laws) =
     next (settle n done new) (λ done′.
     settled d h j names (suc n) done′ laws))
 
+-- the new state, fluent by fluent
 unfoldable pub stateAfter : Domain → List Setting → State → State
 stateAfter d settings old = map (λ f. levelAfter settings f (getD old f (pos 0))) (numbers 0 (length (d .fluents)))
 

@@ -1,5 +1,5 @@
 -- The frame reader's start and its next frame. Assumes nothing.
-use Prim.Native.Nat.{ℕ, _+_, _-_}
+use Prim.Native.Nat.{ℕ, _+_}
 use native.Mathlib.Omega.{arith}
 use mathlib.Core.Path.{_≡_, refl, sym, ap, _∙_}
 use mathlib.Core.Bool.{true, false}
@@ -61,17 +61,15 @@ module _ (s : List ℕ) where
     unfolding nextFrame
     next-is e = ap (λ o. maybe o (record { part = []; at = at }) (λ f. record { part = take (length (stored f)) (drop at s); at = at + length (stored f) })) e
 
-    pub no-part : frameAt s at ≡ none → [] ≡ partAt s at
+    pub no-part : frameAt s at ≡ none → take 0 (drop at s) ≡ partAt s at
     no-part e = sym (ap (λ (n : Next). n .part) (next-is e))
 
     pub no-move : frameAt s at ≡ none → at ≡ placeAfter s at
     no-move e = sym (ap (λ (n : Next). n .at) (next-is e))
 
     module _ (size : ℕ) (f : Framed s at size) where
-      pub a-part : take (at + size - at) (drop at s) ≡ partAt s at
-      a-part =
-          let k : at + size - at ≡ size = omega arith in
-          ap (λ (n : ℕ). take n (drop at s)) (k ∙ f .is) ∙ sym (ap (λ (n : Next). n .part) (next-is (f .stands)))
+      pub a-part : take size (drop at s) ≡ partAt s at
+      a-part = ap (λ (n : ℕ). take n (drop at s)) (f .is) ∙ sym (ap (λ (n : Next). n .part) (next-is (f .stands)))
 
       pub a-move : at + size ≡ placeAfter s at
       a-move = ap (λ (n : ℕ). at + n) (f .is) ∙ sym (ap (λ (n : Next). n .at) (next-is (f .stands)))

@@ -1,9 +1,9 @@
 // The check of one frame after those before it: refusals 3, 5, 4, 6, in this order.
-use crate::payload::byte_at;
 use crate::payload::payload_fits;
 use crate::payload::word_at;
 use bmap::Counts;
 use bmap::Refusal;
+use index::byte_at;
 ghost use mathlib.Core.Path.{_≡_};
 ghost use Prim.Native.Nat.{_≤_};
 ghost use Rattle.bmap.specs.Plain.{any};

@@ -1,8 +1,8 @@
 // What one frame that passed its check adds to the numbers found so far.
-use crate::payload::byte_at;
 use crate::payload::value_at;
 use crate::payload::word_at;
 use bmap::Counts;
+use index::byte_at;
 ghost use mathlib.Core.Bool.{true};
 ghost use mathlib.Core.Path.{_≡_};
 ghost use Prim.Native.Nat.{_<_};

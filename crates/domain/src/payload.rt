@@ -1,18 +1,13 @@
 // Whether a payload is as its kind describes it: what refusal 4 asks.
 use crate::laws::law_fits;
 use bmap::Counts;
+use index::byte_at;
 ghost use mathlib.Core.Path.{_≡_};
 ghost use Prim.Native.Nat.{_<_};
 ghost use lib.Signed.{leZ};
 ghost use Rattle.bmap.specs.Limits.{mostPayload};
 ghost use Rattle.bmap.specs.Payload.{byte, wordAt, valueAt, maskFits, agentsFit, fluentFits, knowledgeFits, entryFits, itemIn};
 ghost use Rattle.domain.specs.Check.{isSome};
-
-pub(crate) fn byte_at(p: &[u8], i: usize) -> u8
-    ensures { λ r. ⌜ r ≡ byte (now (p .entry)) i ⌝ }
-{
-    if i < p.len() { p[i] } else { 0 }
-}
 
 // Two bytes, high byte first.
 pub(crate) fn word_at(p: &[u8], i: usize) -> u16

@@ -2,8 +2,10 @@
 // stands. `domain` makes an index and `judge` reads it; `session` and `answer` ask it for its counts.
 use bmap::Counts;
 ghost use mathlib.Core.Path.{_≡_};
-ghost use lib.ListN.{getD};
+ghost use Prim.Native.Nat.{_-_, _≤_};
+ghost use lib.ListN.{length, getD, take, drop};
 ghost use Rattle.index.specs.Index.{frameBytes};
+ghost use Rattle.index.specs.Place.{StandsAt};
 
 pub struct Index {
     pub counts: Counts,
@@ -24,7 +26,7 @@ pub struct Index {
 // The frame of law i as it stands in the store: its kind, its count and its payload. Everything that reads a law asks here.
 // For a law that is not there it is the frame at place 0.
 pub fn law_at<'a>(store: &'a [u8], laws: &[u16], i: usize) -> &'a [u8]
-    ensures { λ r. ⌜ now r ≡ frameBytes (now (store .entry)) (getD (now (laws .entry)) i 0) ⌝ }
+    ensures { λ r. ⌜ StandsAt (store .entry) (getD (now (laws .entry)) i 0) (frameBytes (now (store .entry)) (getD (now (laws .entry)) i 0)) r ⌝ }
 {
     if i >= laws.len() {
         return frame_from(store, 0);
@@ -34,19 +36,37 @@ pub fn law_at<'a>(store: &'a [u8], laws: &[u16], i: usize) -> &'a [u8]
 
 // The bytes of the frame at a place: as many as its count says and the store has.
 pub fn frame_from<'a>(store: &'a [u8], at: usize) -> &'a [u8]
-    ensures { λ r. ⌜ now r ≡ frameBytes (now (store .entry)) at ⌝ }
+    ensures { λ r. ⌜ StandsAt (store .entry) at (frameBytes (now (store .entry)) at) r ⌝ }
+{
+    if store.len() <= at {
+        return part(store, at, 0);
+    }
+    part(store, at, byte_at(store, at + 1) as usize + 2)
+}
+
+// So many bytes of a store from a place on, or as many as it has, where they stand: every part that is handed out is cut here.
+pub fn part<'a>(store: &'a [u8], at: usize, size: usize) -> &'a [u8]
+    ensures { λ r. ⌜ StandsAt (store .entry) at (take size (drop at (now (store .entry)))) r ⌝ }
 {
     if store.len() <= at {
         return &store[..0];
     }
-    let left = store.len() - at;
-    if left < 2 {
-        return &store[at..];
+    if store.len() - at < size {
+        return cut(store, at, store.len());
     }
-    let size = store[at + 1] as usize + 2;
-    if left < size {
-        return &store[at..];
-    }
-    let end = at + size;
+    cut(store, at, at + size)
+}
+
+fn cut<'a>(store: &'a [u8], at: usize, end: usize) -> &'a [u8]
+    requires { ⌜ (at ≤ end) × (end ≤ length (now store)) ⌝ }
+    ensures { λ r. ⌜ StandsAt (store .entry) at (take (end - at) (drop at (now (store .entry)))) r ⌝ }
+{
     &store[at..end]
+}
+
+// A byte of any bytes, 0 past their end.
+pub fn byte_at(bytes: &[u8], i: usize) -> u8
+    ensures { λ r. ⌜ r ≡ getD (now (bytes .entry)) i 0 ⌝ }
+{
+    if i < bytes.len() { bytes[i] } else { 0 }
 }

@@ -1,9 +1,11 @@
 -- `index::law_at` meets its contract. Assumes nothing.
+use Prim.Native.Nat.{ℕ}
 use native.Mathlib.Omega.{arith}
-use mathlib.Core.Path.{sym, ap, _∙_}
+use mathlib.Core.Path.{sym, subst}
 use lib.ListN.{List·getD-eq-default}
 use borrow.Author.Needs.{needs}
 use Rattle.index.specs.Index.{frameBytes}
+use Rattle.index.specs.Place.{StandsAt}
 use Rattle.index.proofs.law_at.Statement.{statement}
 use Rattle.index.proofs.law_at.Tie as tie
 
@@ -11,7 +13,9 @@ frame-from-requires : tie.Need-frame-from-requires
 frame-from-requires c κs = search needs
 
 returns : tie.Need-returns
-returns c = let a = c .before .before .before .before .args in c .frame-from .ensures ∙ ap (frameBytes (a .store .now)) (sym (List·getD-eq-default (a .laws .now) 0 (c .before .if1 .taken)))
+returns c =
+    let a = c .before .before .before .before .args in
+    subst (λ (k : ℕ). StandsAt (a .store) k (frameBytes (a .store .now) k) (c .frame-from .result)) (sym (List·getD-eq-default (a .laws .now) 0 (c .before .if1 .taken))) (c .frame-from .ensures)
 
 mul-frame-from : tie.Need-mul-frame-from
 mul-frame-from c = search needs

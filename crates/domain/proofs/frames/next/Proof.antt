@@ -44,6 +44,7 @@ use denote.Triple.Spec.{Meets, tripleOf}
 use denote.Triple.Statement.{Contract, Triple}
 use denote.Triple.Table.{entered, cited}
 use denote.Triple.Walked.{says, Stays, stay-ref, walkOf, goes-ref, Walks, ends-at, walked, walk-meets}
+use Rattle.index.specs.Place.{StandsAt}
 use Rattle.domain.specs.Frames.{partAt, placeAfter}
 use Rattle.domain.specs.declared.frames.FrameReader.{FrameReader}
 use Rattle.domain.proofs.frames.FrameReader as T
@@ -152,17 +153,21 @@ module _ {M : Type 1} (𝓤 : URA M) (H : Heap 𝓤) (A : Atoms 𝓤) (W : Given
   said-at : (r : ℕ) → ent 𝓤 (ensured 𝓤 H A next-at.ended (next-at.clauses 𝓤 H A at-mem run) (κ′, tt) args tt r) (fact 𝓤 (r ≡ placeAfter (now (h .store)) (h .at)))
   said-at r = exE 𝓤 _ (λ ws. snd∗ 𝓤 (sem 𝓤 H A (lasts next-at.ended (κ′, tt) args ws)) (fact 𝓤 (r ≡ placeAfter (now (h .store)) (h .at))))
 
-  said-part : (p : RefT (List ℕ)) → ent 𝓤 (ensured 𝓤 H A frame-part.ended (frame-part.clauses 𝓤 H A at-mem run) (κ′, tt) args tt p) (fact 𝓤 (now p ≡ partAt (now (h .store)) (h .at)))
-  said-part p = exE 𝓤 _ (λ ws. snd∗ 𝓤 (sem 𝓤 H A (lasts frame-part.ended (κ′, tt) args ws)) (fact 𝓤 (now p ≡ partAt (now (h .store)) (h .at))))
+  -- what `frame_part` says of its result
+  abbrev Told : RefT (List ℕ) → Type 0
+  Told p = StandsAt (h .store) (h .at) (partAt (now (h .store)) (h .at)) p
+
+  said-part : (p : RefT (List ℕ)) → ent 𝓤 (ensured 𝓤 H A frame-part.ended (frame-part.clauses 𝓤 H A at-mem run) (κ′, tt) args tt p) (fact 𝓤 (Told p))
+  said-part p = exE 𝓤 _ (λ ws. snd∗ 𝓤 (sem 𝓤 H A (lasts frame-part.ended (κ′, tt) args ws)) (fact 𝓤 (Told p)))
 
   abbrev Part : RefT (List ℕ) → Val → Fml
   Part p u = ShrSlice (named 1) κ′ u8 .own p (u ∷ [])
 
-  exits : (r : ℕ) (p : RefT (List ℕ)) (u : Val) → r ≡ placeAfter (now (h .store)) (h .at) → now p ≡ partAt (now (h .store)) (h .at)
+  exits : (r : ℕ) (p : RefT (List ℕ)) (u : Val) → r ≡ placeAfter (now (h .store)) (h .at) → Told p
       → ent 𝓤 (⋆ 𝓤 H A (‵ (Part p u) ∷ ‵ (fobs γ (B κ′ .coded .code (moved r))) ∷ ‵ (fbor κ (Body (mem (B κ′)) b o γ)) ∷ ‵ (flft κ q) ∷ (‵ (flft κ′ q′) ⊛ ‵ ftrue) ∷ [])) (Post u)
   exits r p u er ep =
       qed W (‵ (Part p u) ∷ ‵ (fobs γ (B κ′ .coded .code (moved r))) ∷ ‵ (fbor κ (Body (mem (B κ′)) b o γ)) ∷ ‵ (flft κ q) ∷ (‵ (flft κ′ q′) ⊛ ‵ ftrue) ∷ []) ∵
-      suffices ! _ (ends-at 𝓤 H A next.ended stayed (next.clauses 𝓤 H A at-mem run) W (((κ, (κ′, tt)), (q, (q′, tt)), bounds, x, at), tt) u p (moved r, tt) (tt, tt)) $ says ! (ep, ap moved er) $
+      suffices ! _ (ends-at 𝓤 H A next.ended stayed (next.clauses 𝓤 H A at-mem run) W (((κ, (κ′, tt)), (q, (q′, tt)), bounds, x, at), tt) u p (moved r, tt) (tt, tt)) $ says ! (record { part = ep; reader = ap moved er }) $
       move ! (3 ∷ 4 ∷ []) $ join ! $ frame ! $ move ! (1 ∷ 2 ∷ []) $ feqI ! (List Val) (vptr b o ∷ []) (vptr b o ∷ []) refl $ fjoin3 ! $ nothing ! $ move ! (1 ∷ 0 ∷ []) $ fjoin ! $ done !
 
   module _ (C : Calls 𝓤 H) (Λ : Loops 𝓤 H) (fm : FmC 𝓤 H (W .laws) C) (known-at : Triple 𝓤 (C #frames·next-at) (NextAt 𝓤 H A at-mem run)) (known-part : Triple 𝓤 (C #frames·frame-part) (FramePart 𝓤 H A at-mem run)) where
@@ -190,7 +195,7 @@ module _ {M : Type 1} (𝓤 : URA M) (H : Heap 𝓤) (A : Atoms 𝓤) (W : Given
         move ! (2 ∷ 1 ∷ []) $ use2 W (raw (FramePart 𝓤 H A at-mem run .pre to-part) ⊛ ‵ Own) (apart (FramePart 𝓤 H A at-mem run .pre to-part) asked-part (wt .1 .1 .0 .fits)) $ split ! $
         calls-at ! fm (FramePart 𝓤 H A at-mem run) known-part to-part (and-then ! (load ! (from ! (stop !)) (look ! 12 refl)) (and-then ! (load ! (from ! (stop !)) (look ! 10 refl)) (no-more !))) (λ u′.
         use1 W (later (some (λ (p : RefT (List ℕ)). ((‵ (flft κ′ q′) ⊛ ‵ ftrue) ⊛ ‵ (Part p u′)) ⊛ raw (ensured 𝓤 H A frame-part.ended (frame-part.clauses 𝓤 H A at-mem run) (κ′, tt) args tt p)))) (id⊢ 𝓤 _) $ await ! tt $ pick ! (λ p.
-        split ! $ move ! (1 ∷ []) $ use1 W (raw (fact 𝓤 (now p ≡ partAt (now (h .store)) (h .at)))) (said-part p) $ heard ! (now p ≡ partAt (now (h .store)) (h .at)) (λ ep. split ! $ move ! (1 ∷ []) $
+        split ! $ move ! (1 ∷ []) $ use1 W (raw (fact 𝓤 (Told p))) (said-part p) $ heard ! (Told p) (λ ep. split ! $ move ! (1 ∷ []) $
         -- [the part; the token; what the struct owns; the number; the struct's cell; the open borrow; obs; auth; true; _4; …; _3; …; _2; …; _1; …; room for _0; …]
         peeks ! (ShrSlice (named 1) κ′ u8) (Is (ShrSlice (named 1) κ′ u8)) (shows 𝓤 H A (ShrSlice (named 1) κ′ u8)) p (u′ ∷ []) (λ is′.
         land ! (from ! (stop !)) (init ! 17 refl (shr-slice-lawful 𝓤 H A W (named 1) κ′ u8 .typed p _ is′ .0)) $

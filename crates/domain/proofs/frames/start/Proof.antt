@@ -39,7 +39,7 @@ use denote.Triple.Statement.{Contract, Triple}
 use denote.Triple.Table.{entered, cited}
 use denote.Triple.Walked.{says, Stays, stay-none-slice, walkOf, goes-none-slice, Walks, ends-at, walked, walk-meets}
 use denote.Exit.{yes}
-use Rattle.domain.specs.Frames.{refusalIn, standingOn}
+use Rattle.domain.specs.Frames.{refusalIn, standingOn, StandsOver}
 use Rattle.domain.proofs.FramesLaws.{stands-over, stands-first}
 use Rattle.domain.specs.declared.frames.FrameReader.{FrameReader}
 use Rattle.domain.proofs.frames.FrameReader as T
@@ -111,13 +111,13 @@ module _ {M : Type 1} (𝓤 : URA M) (H : Heap 𝓤) (A : Atoms 𝓤) (W : Given
       nothing ! $ owned ! u8 (Is u8) (uint-makes 𝓤 H A W w8) r _ (refl, fits) $ fjoin ! $ move ! (1 ∷ 0 ∷ []) $ fjoin ! $ move ! (2 ∷ 0 ∷ []) $
       use2 W (raw (Standing 𝓤 H A mem run .pre (to-standing r))) (qed W ((‵ (flft κ q) ⊛ ‵ ftrue) ∷ ‵ (owns (ShrSlice (named 0) κ u8 ∷ u8 ∷ []) (s, (r, tt)) (v s ∷ [], (vint w8 r ∷ [], tt))) ∷ []) ∵ join ! $ frame ! $ done !) $ frame ! $ done !
 
-  said-standing : (r : ℕ) (p : RefT (List ℕ)) → ent 𝓤 (ensured 𝓤 H A standing.ended (standing.clauses 𝓤 H A mem run) (κ, tt) (s, (r, tt)) tt p) (fact 𝓤 (now p ≡ standingOn r (now s)))
-  said-standing r p = exE 𝓤 _ (λ ws. snd∗ 𝓤 (sem 𝓤 H A (lasts standing.ended (κ, tt) (s, (r, tt)) ws)) (fact 𝓤 (now p ≡ standingOn r (now s))))
+  said-standing : (r : ℕ) (p : RefT (List ℕ)) → ent 𝓤 (ensured 𝓤 H A standing.ended (standing.clauses 𝓤 H A mem run) (κ, tt) (s, (r, tt)) tt p) (fact 𝓤 (StandsOver s r p))
+  said-standing r p = exE 𝓤 _ (λ ws. snd∗ 𝓤 (sem 𝓤 H A (lasts standing.ended (κ, tt) (s, (r, tt)) ws)) (fact 𝓤 (StandsOver s r p)))
 
-  exits : (p : RefT (List ℕ)) (r : ℕ) → r < 2 ^ 8 → r ≡ refusalIn (now s) → now p ≡ standingOn r (now s) → ent 𝓤 (⋆ 𝓤 H A (‵ (Own p (v p)) ∷ (‵ (flft κ q) ⊛ ‵ ftrue) ∷ ‵ (Own s (v s)) ∷ [])) (Post (T′.lowered (made p r)))
+  exits : (p : RefT (List ℕ)) (r : ℕ) → r < 2 ^ 8 → r ≡ refusalIn (now s) → StandsOver s r p → ent 𝓤 (⋆ 𝓤 H A (‵ (Own p (v p)) ∷ (‵ (flft κ q) ⊛ ‵ ftrue) ∷ ‵ (Own s (v s)) ∷ [])) (Post (T′.lowered (made p r)))
   exits p r fits er ep =
       qed W (‵ (Own p (v p)) ∷ (‵ (flft κ q) ⊛ ‵ ftrue) ∷ ‵ (Own s (v s)) ∷ []) ∵
-      suffices ! _ (ends-at 𝓤 H A start.ended stayed (start.clauses 𝓤 H A mem run) W (((κ, tt), (q, tt), tt, (s, tt), at), tt) (T′.lowered (made p r)) (made p r) (tt, tt) (tt, tt)) $ says ! (ep ∙ ap (λ (n : ℕ). standingOn n (now s)) er ∙ stands-over (now s), stands-first (now s), er) $
+      suffices ! _ (ends-at 𝓤 H A start.ended stayed (start.clauses 𝓤 H A mem run) W (((κ, tt), (q, tt), tt, (s, tt), at), tt) (T′.lowered (made p r)) (made p r) (tt, tt) (tt, tt)) $ says ! (record { contents = ep .contents ∙ ap (λ (n : ℕ). standingOn n (now s)) er ∙ stands-over (now s); itself = ep .itself; place = stands-first (now s); refusal = er }) $
       move ! (1 ∷ []) $ frame ! $ nothing ! $ move ! (2 ∷ 0 ∷ []) $ fjoin ! $ frame ! $
       -- [what store owns]: with the facts of the numbers, what the struct owns
       nothing ! $ owned ! u8 (Is u8) (uint-makes 𝓤 H A W w8) r _ (refl, fits) $ fjoin ! $ owned ! usize (Is usize) (uint-makes 𝓤 H A W w64) 0 _ (refl, lit< tt) $ fjoin ! $ move ! (1 ∷ 0 ∷ []) $ fjoin ! $ by ! (own-shut 𝓤 H A W (T.the-type α) (T′.the-laws α) (p, (0, (r, tt))))
@@ -139,7 +139,7 @@ module _ {M : Type 1} (𝓤 : URA M) (H : Heap 𝓤) (A : Atoms 𝓤) (W : Given
         move ! (2 ∷ 1 ∷ []) $ use2 W (raw (Standing 𝓤 H A mem run .pre (to-standing r)) ⊛ ‵ (Own s (v s))) (goes-standing r (is .1)) $ split ! $
         calls-at ! fm (Standing 𝓤 H A mem run) known-standing (to-standing r) (and-then ! (load ! (from ! (stop !)) (look ! 7 refl)) (and-then ! (load ! (from ! (stop !)) (look ! 5 refl)) (no-more !))) (λ u′.
         use1 W (later (some (λ (p : RefT (List ℕ)). ((‵ (flft κ q) ⊛ ‵ ftrue) ⊛ ‵ (Own p u′)) ⊛ raw (ensured 𝓤 H A standing.ended (standing.clauses 𝓤 H A mem run) (κ, tt) (s, (r, tt)) tt p)))) (id⊢ 𝓤 _) $ await ! tt $ pick ! (λ p.
-        split ! $ move ! (1 ∷ []) $ use1 W (raw (fact 𝓤 (now p ≡ standingOn r (now s)))) (said-standing r p) $ heard ! (now p ≡ standingOn r (now s)) (λ ep. split ! $ move ! (1 ∷ []) $
+        split ! $ move ! (1 ∷ []) $ use1 W (raw (fact 𝓤 (StandsOver s r p))) (said-standing r p) $ heard ! (StandsOver s r p) (λ ep. split ! $ move ! (1 ∷ []) $
         -- [the part; the token; what s owns; the number; room for _3; …; _2; …; _1; …; room for _0; …]
         peeks ! (ShrSlice (named 0) κ u8) (Is (ShrSlice (named 0) κ u8)) (shows 𝓤 H A (ShrSlice (named 0) κ u8)) p (u′ ∷ []) (λ is′.
         land ! (from ! (stop !)) (init ! 4 refl (shr-slice-lawful 𝓤 H A W (named 0) κ u8 .typed p _ is′ .0)) $

@@ -29,7 +29,7 @@ law-at-requires c κs = search needs
 hold-requires : tie.Need-hold-requires Inv-loop μ-loop
 hold-requires c κs = let s = c .before .before .before .before .before .before .args in let i = c .before .before .before .before .loop .i in
     let short = frame-short (s .store .now) (getD (s .laws .now) i 0) (c .before .before .before .before .before .shared-slice-known .given (getD (s .laws .now) i 0 + 1) .fits) in
-    (c .before .before .before .before .loop .inv .1 .0, (let z : length (c .law-at .result .now) ≡ length (frameBytes (s .store .now) (getD (s .laws .now) i 0)) = ap length (c .law-at .ensures) in omega (arith, short)))
+    (c .before .before .before .before .loop .inv .1 .0, (let z : length (c .law-at .result .now) ≡ length (frameBytes (s .store .now) (getD (s .laws .now) i 0)) = ap length (c .law-at .ensures .contents) in omega (arith, short)))
 
 add-i : tie.Need-add-i Inv-loop μ-loop
 add-i c = search needs
@@ -40,11 +40,11 @@ loop-less c = search needs
 loop-again : tie.Need-loop-again Inv-loop μ-loop
 loop-again c = let s = c .before .before .before .before .before .before .before .args in let i = c .before .before .before .before .before .loop .i in
     let short = frame-short (s .store .now) (getD (s .laws .now) i 0) (c .before .before .before .before .before .before .shared-slice-known .given (getD (s .laws .now) i 0 + 1) .fits) in
-    let as-long : length (c .before .law-at .result .now) ≡ length (frameBytes (s .store .now) (getD (s .laws .now) i 0)) = ap length (c .before .law-at .ensures) in (
+    let as-long : length (c .before .law-at .result .now) ≡ length (frameBytes (s .store .now) (getD (s .laws .now) i 0)) = ap length (c .before .law-at .ensures .contents) in (
       omega arith,
       (
         ap length (c .hold .ensures) ∙ (length-paste (c .before .before .before .before .before .loop .held) (257 * i) (c .before .law-at .result .now) (length (c .before .law-at .result .now)) (omega (arith, short)) (omega arith) ∙ c .before .before .before .before .before .loop .inv .1 .0),
-        hold-more (s .store .now) (s .laws .now) (c .before .before .before .before .before .loop .held) i (c .before .before .before .before .before .loop .inv .1 .1) (c .before .law-at .ensures) (λ k. frame-short (s .store .now) (getD (s .laws .now) k 0) (c .before .before .before .before .before .before .shared-slice-known .given (getD (s .laws .now) k 0 + 1) .fits)) (omega arith) (c .hold .ensures),
+        hold-more (s .store .now) (s .laws .now) (c .before .before .before .before .before .loop .held) i (c .before .before .before .before .before .loop .inv .1 .1) (c .before .law-at .ensures .contents) (λ k. frame-short (s .store .now) (getD (s .laws .now) k 0) (c .before .before .before .before .before .before .shared-slice-known .given (getD (s .laws .now) k 0 + 1) .fits)) (omega arith) (c .hold .ensures),
       ),
     )
 

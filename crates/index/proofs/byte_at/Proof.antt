@@ -1,8 +1,9 @@
-use lib.ListN.{List·getD-eq-default}
+-- `index::byte_at` meets its contract. Assumes nothing.
 use mathlib.Core.Path.{sym}
+use lib.ListN.{List·getD-eq-default}
 use borrow.Author.Needs.{needs}
-use Rattle.domain.proofs.payload.byte_at.Statement.{statement}
-use Rattle.domain.proofs.payload.byte_at.Tie as tie
+use Rattle.index.proofs.byte_at.Statement.{statement}
+use Rattle.index.proofs.byte_at.Tie as tie
 
 shared-slice-read-result : tie.Need-shared-slice-read-result
 shared-slice-read-result c = search needs
@@ -11,7 +12,7 @@ returns : tie.Need-returns
 returns c = search needs
 
 returns-2 : tie.Need-returns-2
-returns-2 c = sym (List·getD-eq-default (c .before .args .p .now) 0 (c .if1 .left))
+returns-2 c = sym (List·getD-eq-default (c .before .args .bytes .now) 0 (c .if1 .left))
 
 pub byte-at-spec : {M : Type 1} → statement M
 byte-at-spec = tie.close (tie.spec shared-slice-read-result returns returns-2)

@@ -12,7 +12,7 @@ use Rattle.bmap.specs.Refusal.{Answer, got, refused, need, then, isGot, 
 use Rattle.bmap.specs.Domain.{Domain, Names}
 use Rattle.bmap.specs.Buffer.{padded}
 use Rattle.bmap.specs.Store.{domainIn}
-use Rattle.bmap.specs.Judge.{judge}
+use Rattle.bmap.specs.Judge.{Judged, judge}
 use Rattle.bmap.specs.Verdict.{Judgement, judgement}
 use Rattle.bmap.specs.declared.session.Session.{Session}
 
@@ -78,12 +78,14 @@ unfoldable pub redo : Model → Answer Model
 redo m = need (ltb 0 (length (m .undone))) 13 (got (moved m (length (m .standing) + 1)))
 
 -- "Verdict of a session: 17, 10, 15, 16": 16 is "domain's number of agents differs from the session's"
-unfoldable pub verdict : Model → List ℕ → List ℤ → Judgement
-verdict m store levels =
-    judgement levels
-    (need (leb levelsSize (length levels)) 10
+abbrev pub standingJudged : Model → List ℕ → List ℤ → Answer Judged
+standingJudged m store levels =
+    need (leb levelsSize (length levels)) 10
     (then (domainIn store) (λ d.
-    need (eqb (d .agents) (m .agents)) 16 (got (judge d (standingSheet m))))))
+    need (eqb (d .agents) (m .agents)) 16 (got (judge d (standingSheet m)))))
+
+unfoldable pub verdict : Model → List ℕ → List ℤ → Judgement
+verdict m store levels = judgement levels (standingJudged m store levels)
 
 -- ---- series of calls
 

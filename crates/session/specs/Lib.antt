@@ -1,2 +1,3 @@
 pub mod Log
 pub mod Calls
+pub mod Verdict

@@ -10,6 +10,7 @@ mod opening;
 mod value;
 
 pub use judging::verdict;
+pub use judging::verdict_counted;
 pub use kept::is_open;
 pub use lent::amend;
 pub use lent::enter;

@@ -1,2 +1,4 @@
 pub mod NumberLaws
+pub mod CountLaws
 pub mod LentNumber
+pub mod Theorems

@@ -1,47 +1,94 @@
--- The numbers by which the calls for C and Rust answer, in the paper's terms.
+-- The numbers by which the calls for C and Rust answer, in the paper's terms, and what a caller reads from them.
 use mathlib.Core.Path.{_≡_}
-use Prim.Native.Nat.{ℕ, _+_, _*_, _%_, _^_}
+use Prim.Native.Nat.{ℕ, _+_, _*_, _/_, _%_, _^_}
 use mathlib.Core.Option.{Option, none, some}
+use lib.ListN.{length}
 use Rattle.bmap.specs.Refusal.{Answer, got, refused, Reading, read, refusedAt}
 use Rattle.bmap.specs.Buffer.{bytesWritten}
+use Rattle.bmap.specs.Domain.{Domain}
 use Rattle.bmap.specs.Judge.{Verdict, accepted, broken}
 use Rattle.bmap.specs.Session.{Changed}
 use Rattle.bmap.specs.declared.session.Session.{Session}
 
--- 64 bits: a refusal's number in the upper half, what goes with it in the lower
-abbrev pub halves : ℕ → ℕ → ℕ
-halves upper lower = upper * 2 ^ 32 + lower % 2 ^ 32
+-- ---- an answer, 64 bits
+
+-- where nothing is refused: what was found, in the lower 31
+abbrev pub foundNumber : ℕ → ℕ
+foundNumber n = n % 2 ^ 31
+
+-- where something is refused: its number in the upper 32, bit 31, and what goes with it below. So the lower 32 alone tell the two apart
+abbrev pub refusedNumber : ℕ → ℕ → ℕ
+refusedNumber number with = number * 2 ^ 32 + (2 ^ 31 + with % 2 ^ 31)
+
+-- ---- the answers
 
 -- what a reader answers: the count, or the refusal and its line
 abbrev pub readNumber : Reading ℕ → ℕ
-readNumber (read count) = halves 0 count
-readNumber (refusedAt number line) = halves number line
+readNumber (read count) = foundNumber count
+readNumber (refusedAt number line) = refusedNumber number line
 
 -- what a writer answers: "the bytes written, 0 if refused"
 abbrev pub writtenNumber : Answer ℕ → ℕ
-writtenNumber (got count) = halves 0 (bytesWritten (got count))
-writtenNumber (refused number) = halves number (bytesWritten (refused number))
+writtenNumber (got count) = foundNumber (bytesWritten (got count))
+writtenNumber (refused number) = refusedNumber number (bytesWritten (refused number))
 
--- a verdict: 0 for accepted, else kind, step and number, 8 bits for each of the last two
+-- 8 bits of a judgement: a fault's kind, or one of two numbers that are none
+abbrev pub acceptedKind : ℕ
+acceptedKind = 128
+
+abbrev pub refusedKind : ℕ
+refusedKind = 255
+
+-- 8 bits each for kind, step and number
 abbrev pub verdictNumber : Verdict → ℕ
-verdictNumber accepted = 0
-verdictNumber (broken kind step number) = kind * 2 ^ 16 + step % 2 ^ 8 * 2 ^ 8 + number % 2 ^ 8
+verdictNumber accepted = acceptedKind * 2 ^ 16
+verdictNumber (broken kind step number) = kind * 2 ^ 16 + (step % 2 ^ 8 * 2 ^ 8 + number % 2 ^ 8)
 
--- what the judge answers: the refusal in the upper half, or the verdict
-abbrev pub judgedNumber : Answer Verdict → ℕ
-judgedNumber (got verdict) = verdictNumber verdict
-judgedNumber (refused number) = halves number 0
+-- what the judge answers: above the verdict, 7 bits for the number of states written
+abbrev pub judgedNumber : ℕ → Answer Verdict → ℕ
+judgedNumber states (got verdict) = states % 2 ^ 7 * 2 ^ 24 + verdictNumber verdict
+judgedNumber states (refused number) = refusedNumber number (refusedKind * 2 ^ 16)
+
+-- how many agents, fluents, entries and laws a domain has, 8 bits each
+abbrev pub countsNumber : Answer Domain → ℕ
+countsNumber (got d) = d .agents * 2 ^ 24 + (length (d .fluents) * 2 ^ 16 + (length (d .entries) * 2 ^ 8 + length (d .laws)))
+countsNumber (refused number) = refusedNumber number 0
 
 -- a frame's size, 0 where there is none
 abbrev pub sizeNumber : Option ℕ → ℕ
 sizeNumber none = 0
 sizeNumber (some size) = size
 
--- what a call on a session answers: the refusal, or 0
+-- what a call on a session answers: 0, or the refusal
 abbrev pub doneNumber : Answer (Unit {0}) → ℕ
 doneNumber (got done) = 0
-doneNumber (refused number) = number
+doneNumber (refused number) = refusedNumber number 0
 
 -- a lent session's call answers that number and leaves that session
 abbrev pub answers : ℕ → Session → Changed → Type 0
 answers number s changed = (number ≡ doneNumber (changed .answer)) × (s ≡ changed .session)
+
+-- ---- what a caller reads, as include/waroth.h does
+
+-- 0 where nothing is refused
+abbrev pub refusalIn : ℕ → ℕ
+refusalIn answer = answer / 2 ^ 32
+
+-- what is left to a caller who keeps 32 bits
+abbrev pub lowerHalf : ℕ → ℕ
+lowerHalf answer = answer % 2 ^ 32
+
+abbrev pub lineIn : ℕ → ℕ
+lineIn answer = answer % 2 ^ 31
+
+abbrev pub statesIn : ℕ → ℕ
+statesIn answer = answer / 2 ^ 24 % 2 ^ 7
+
+abbrev pub kindIn : ℕ → ℕ
+kindIn answer = answer / 2 ^ 16 % 2 ^ 8
+
+abbrev pub stepIn : ℕ → ℕ
+stepIn answer = answer / 2 ^ 8 % 2 ^ 8
+
+abbrev pub numberIn : ℕ → ℕ
+numberIn answer = answer % 2 ^ 8

@@ -1,22 +1,26 @@
 // Domains, read and written, and the frames of a store.
+use crate::number::FOURTH;
+use crate::number::SECOND;
+use crate::number::THIRD;
 use crate::number::counted;
-use crate::number::refused_at;
+use crate::number::refused;
 use crate::number::written;
+use bmap::Refusal;
 use domain::ReadDomain;
 use line::FrameAt;
 use line::frame_at;
 ghost use mathlib.Core.Path.{_≡_};
-ghost use Rattle.bmap.specs.Store.{readDomain, writeDomain};
+ghost use Rattle.bmap.specs.Store.{readDomain, writeDomain, domainIn};
 ghost use Rattle.domain.specs.Read.{readingOf};
 ghost use Rattle.line.specs.Frame.{sizeOf, frameSizeAt};
-ghost use Rattle.desk.specs.Numbers.{readNumber, writtenNumber, sizeNumber};
+ghost use Rattle.desk.specs.Numbers.{readNumber, writtenNumber, countsNumber, sizeNumber};
 
 fn read(answer: ReadDomain) -> u64
     ensures { λ r. ⌜ r ≡ readNumber (readingOf answer) ⌝ }
 {
     match answer {
         ReadDomain::Read(used) => counted(used),
-        ReadDomain::Refused { refusal, line } => refused_at(refusal, line),
+        ReadDomain::Refused { refusal, line } => refused(refusal, line as u64),
     }
 }
 
@@ -34,18 +38,32 @@ pub extern "C" fn waroth_write_domain(store: &[u8], text: &mut [u8]) -> u64
     written(domain::write(store, text))
 }
 
-fn size(found: FrameAt) -> usize
-    ensures { λ r. ⌜ r ≡ sizeNumber (sizeOf found) ⌝ }
+// How many agents, fluents, entries and laws a store's domain has, a byte each.
+#[no_mangle]
+pub extern "C" fn waroth_counts(store: &[u8]) -> u64
+    ensures { λ r. ⌜ r ≡ countsNumber (domainIn (now (store .entry))) ⌝ }
 {
-    match found {
+    let found = domain::index_of(store);
+    if !found.ok {
+        return refused(Refusal::NotDomain, 0);
+    }
+    let index = found.index;
+    let n = index.counts;
+    n.agents as u64 * FOURTH + (n.fluents as u64 * THIRD + (n.entries as u64 * SECOND + n.laws as u64))
+}
+
+fn size(frame: FrameAt) -> u64
+    ensures { λ r. ⌜ r ≡ sizeNumber (sizeOf frame) ⌝ }
+{
+    match frame {
         FrameAt::Nothing => 0,
-        FrameAt::Frame(size) => size,
+        FrameAt::Frame(size) => size as u64,
     }
 }
 
 // The size of the frame at a place of any bytes: kind, count and payload, or 0 where none stands.
 #[no_mangle]
-pub extern "C" fn waroth_frame(store: &[u8], at: usize) -> usize
+pub extern "C" fn waroth_frame(store: &[u8], at: usize) -> u64
     ensures { λ r. ⌜ r ≡ sizeNumber (frameSizeAt (now (store .entry)) at) ⌝ }
 {
     size(frame_at(store, at))

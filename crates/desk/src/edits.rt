@@ -11,7 +11,7 @@ ghost use Rattle.desk.specs.Numbers.{answers};
 
 // Whatever the session was before.
 #[no_mangle]
-pub extern "C" fn waroth_open(s: &mut Session, store: &[u8]) -> u8
+pub extern "C" fn waroth_open(s: &mut Session, store: &[u8]) -> u64
     ensures { λ r. ⌜ answers r (now (s .exit)) (openSession (now (store .entry))) ⌝ }
 {
     let e = opened(*s, store);
@@ -20,7 +20,7 @@ pub extern "C" fn waroth_open(s: &mut Session, store: &[u8]) -> u8
 }
 
 #[no_mangle]
-pub extern "C" fn waroth_enter(s: &mut Session, names: &[u8]) -> u8
+pub extern "C" fn waroth_enter(s: &mut Session, names: &[u8]) -> u64
     ensures { λ r. ⌜ answers r (now (s .exit)) (editSession (enter (now (names .entry))) (now (s .entry))) ⌝ }
 {
     let e = entered(*s, names);
@@ -29,7 +29,7 @@ pub extern "C" fn waroth_enter(s: &mut Session, names: &[u8]) -> u8
 }
 
 #[no_mangle]
-pub extern "C" fn waroth_strike(s: &mut Session) -> u8
+pub extern "C" fn waroth_strike(s: &mut Session) -> u64
     ensures { λ r. ⌜ answers r (now (s .exit)) (editSession strike (now (s .entry))) ⌝ }
 {
     let e = stricken(*s);
@@ -38,7 +38,7 @@ pub extern "C" fn waroth_strike(s: &mut Session) -> u8
 }
 
 #[no_mangle]
-pub extern "C" fn waroth_amend(s: &mut Session, number: usize, names: &[u8]) -> u8
+pub extern "C" fn waroth_amend(s: &mut Session, number: usize, names: &[u8]) -> u64
     ensures { λ r. ⌜ answers r (now (s .exit)) (editSession (amend number (now (names .entry))) (now (s .entry))) ⌝ }
 {
     let e = amended(*s, number, names);
@@ -47,7 +47,7 @@ pub extern "C" fn waroth_amend(s: &mut Session, number: usize, names: &[u8]) -> 
 }
 
 #[no_mangle]
-pub extern "C" fn waroth_undo(s: &mut Session) -> u8
+pub extern "C" fn waroth_undo(s: &mut Session) -> u64
     ensures { λ r. ⌜ answers r (now (s .exit)) (undoSession (now (s .entry))) ⌝ }
 {
     let e = undone(*s);
@@ -56,7 +56,7 @@ pub extern "C" fn waroth_undo(s: &mut Session) -> u8
 }
 
 #[no_mangle]
-pub extern "C" fn waroth_redo(s: &mut Session) -> u8
+pub extern "C" fn waroth_redo(s: &mut Session) -> u64
     ensures { λ r. ⌜ answers r (now (s .exit)) (redoSession (now (s .entry))) ⌝ }
 {
     let e = redone(*s);

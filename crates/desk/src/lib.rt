@@ -9,6 +9,7 @@ mod numbered;
 mod program;
 mod sheets;
 
+pub use domains::waroth_counts;
 pub use domains::waroth_frame;
 pub use domains::waroth_read_domain;
 pub use domains::waroth_write_domain;

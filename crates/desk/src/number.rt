@@ -6,22 +6,33 @@ ghost use mathlib.Core.Path.{_≡_};
 ghost use Rattle.bmap.specs.Refusal.{numberOf};
 ghost use Rattle.line.specs.Write as write;
 ghost use Rattle.session.specs.Calls.{answerOf};
-ghost use Rattle.desk.specs.Numbers.{halves, writtenNumber, doneNumber};
+ghost use Rattle.desk.specs.Numbers.{foundNumber, refusedNumber, writtenNumber, doneNumber};
 
-// A refusal stands in the upper half of an answer.
+// A refusal's number stands in the upper half of an answer.
 const HALF: u64 = 1 << 32;
+
+// What is found stands below this bit, which only a refusal has set: a caller who keeps the lower half cannot mistake one.
+const MARK: u64 = 1 << 31;
+
+// Where the bytes of what is found begin, from the fourth down.
+pub(crate) const FOURTH: u64 = 1 << 24;
+
+pub(crate) const THIRD: u64 = 1 << 16;
+
+pub(crate) const SECOND: u64 = 1 << 8;
 
 // Nothing is refused.
 pub(crate) fn counted(count: usize) -> u64
-    ensures { λ r. ⌜ r ≡ halves 0 count ⌝ }
+    ensures { λ r. ⌜ r ≡ foundNumber count ⌝ }
 {
-    count as u64 % HALF
+    count as u64 % MARK
 }
 
-pub(crate) fn refused_at(why: Refusal, line: usize) -> u64
-    ensures { λ r. ⌜ r ≡ halves (numberOf why) line ⌝ }
+// A refusal, and what goes with it: a line, or nothing.
+pub(crate) fn refused(why: Refusal, with: u64) -> u64
+    ensures { λ r. ⌜ r ≡ refusedNumber (numberOf why) with ⌝ }
 {
-    why.number() as u64 * HALF + line as u64 % HALF
+    why.number() as u64 * HALF + (MARK + with % MARK)
 }
 
 pub(crate) fn written(answer: Written) -> u64
@@ -29,15 +40,15 @@ pub(crate) fn written(answer: Written) -> u64
 {
     match answer {
         Written::Wrote(count) => counted(count),
-        Written::Refused(why) => refused_at(why, 0),
+        Written::Refused(why) => refused(why, 0),
     }
 }
 
-pub(crate) fn done(outcome: Outcome) -> u8
+pub(crate) fn done(outcome: Outcome) -> u64
     ensures { λ r. ⌜ r ≡ doneNumber (answerOf outcome) ⌝ }
 {
     match outcome {
         Outcome::Done => 0,
-        Outcome::Refused(why) => why.number() as u8,
+        Outcome::Refused(why) => refused(why, 0),
     }
 }

@@ -8,7 +8,7 @@ ghost use Rattle.desk.specs.Numbers.{answers};
 
 // What a call leaves.
 pub(crate) struct Numbered {
-    pub(crate) number: u8,
+    pub(crate) number: u64,
     pub(crate) session: Session,
 }
 

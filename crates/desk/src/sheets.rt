@@ -1,6 +1,6 @@
 // Sheets, read and written.
 use crate::number::counted;
-use crate::number::refused_at;
+use crate::number::refused;
 use crate::number::written;
 use sheet::ReadSheet;
 ghost use mathlib.Core.Path.{_≡_};
@@ -13,7 +13,7 @@ fn read(answer: ReadSheet) -> u64
 {
     match answer {
         ReadSheet::Read(steps) => counted(steps),
-        ReadSheet::Refused(why, line) => refused_at(why, line),
+        ReadSheet::Refused(why, line) => refused(why, line as u64),
     }
 }
 

@@ -1,36 +1,51 @@
+use native.Mathlib.Omega.{arith}
+use Prim.Native.Nat.{ℕ, _+_, _*_, _%_}
 use mathlib.Core.Path.{_∙_, sym, ap}
 use Rattle.judge.specs.Answer.{answerOf}
 use Rattle.judge.specs.declared.verdict.Judgement.{Judgement}
 use Rattle.desk.specs.Numbers.{judgedNumber}
+use Rattle.desk.proofs.NumberLaws.{verdict-small}
 use borrow.Author.Needs.{needs}
 use Rattle.desk.proofs.judgements.judged.Statement.{statement}
 use Rattle.desk.proofs.judgements.judged.Tie as tie
 
-enum-known-given : tie.Need-enum-known-given
-enum-known-given c = search needs
+enum-known-judgement : tie.Need-enum-known-judgement
+enum-known-judgement c = search needs
 
-refused-at-requires : tie.Need-refused-at-requires
-refused-at-requires c κs = search needs
+mul-refused : tie.Need-mul-refused
+mul-refused c = search needs
 
-enum-known-given-2 : tie.Need-enum-known-given-2
-enum-known-given-2 c = search needs
+refused-requires : tie.Need-refused-requires
+refused-requires c κs = search needs
+
+enum-known-judgement-2 : tie.Need-enum-known-judgement-2
+enum-known-judgement-2 c = search needs
+
+mul-result : tie.Need-mul-result
+mul-result c = search needs
 
 verdict-requires : tie.Need-verdict-requires
 verdict-requires c κs = search needs
 
+add-result : tie.Need-add-result
+add-result c = omega (arith, verdict-small (c .before .before .judgement2 .given .0 .0), c .verdict .ensures)
+
 returns : tie.Need-returns
-returns c = c .refused-at .ensures ∙ sym (ap (λ (j : Judgement). judgedNumber (answerOf j)) (c .before .before .given .given .1))
+returns c = c .refused .ensures ∙ sym (ap (λ (j : Judgement). judgedNumber (c .before .before .before .before .args .given .states) (answerOf j)) (c .before .before .judgement .given .1))
 
 returns-2 : tie.Need-returns-2
-returns-2 c = search needs
+returns-2 c = let states = c .before .before .before .before .args .given .states in ap (λ (n : ℕ). states % 128 * 16777216 + n) (c .verdict .ensures) ∙ sym (ap (λ (j : Judgement). judgedNumber states (answerOf j)) (c .before .before .judgement2 .given .1))
 
 pub judged-spec : {M : Type 1} → statement M
 judged-spec =
     tie.close
     (tie.spec
-    enum-known-given
-    refused-at-requires
-    enum-known-given-2
+    enum-known-judgement
+    mul-refused
+    refused-requires
+    enum-known-judgement-2
+    mul-result
     verdict-requires
+    add-result
     returns
     returns-2)

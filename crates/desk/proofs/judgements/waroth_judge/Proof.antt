@@ -1,12 +1,10 @@
-use mathlib.Core.Path.{_∙_, ap}
-use Rattle.bmap.specs.Verdict.{Judgement}
-use Rattle.desk.specs.Numbers.{judgedNumber}
+use Rattle.desk.proofs.NumberLaws.{judged-as}
 use borrow.Author.Needs.{needs}
 use Rattle.desk.proofs.judgements.waroth_judge.Statement.{statement}
 use Rattle.desk.proofs.judgements.waroth_judge.Tie as tie
 
-judge-requires : tie.Need-judge-requires
-judge-requires c κs = search needs
+judge-counted-requires : tie.Need-judge-counted-requires
+judge-counted-requires c κs = search needs
 
 judged-requires : tie.Need-judged-requires
 judged-requires c κs = search needs
@@ -15,7 +13,7 @@ same-length : tie.Need-same-length
 same-length c = search needs
 
 returns : tie.Need-returns
-returns c = (c .judged .ensures ∙ ap (λ (j : Judgement). judgedNumber (j .answer)) (c .before .before .judge .ensures), ap (λ (j : Judgement). j .levels) (c .before .before .judge .ensures))
+returns c = let called = c .before .before .judge-counted in judged-as (called .result) (c .judged .ensures) (called .ensures .0) (called .ensures .1)
 
 pub waroth-judge-spec : {M : Type 1} → statement M
-waroth-judge-spec = tie.close (tie.spec judge-requires judged-requires same-length returns)
+waroth-judge-spec = tie.close (tie.spec judge-counted-requires judged-requires same-length returns)

@@ -1,12 +1,10 @@
-use mathlib.Core.Path.{_∙_, ap}
-use Rattle.bmap.specs.Verdict.{Judgement}
-use Rattle.desk.specs.Numbers.{judgedNumber}
+use Rattle.desk.proofs.NumberLaws.{judged-as}
 use borrow.Author.Needs.{needs}
 use Rattle.desk.proofs.judgements.waroth_verdict.Statement.{statement}
 use Rattle.desk.proofs.judgements.waroth_verdict.Tie as tie
 
-verdict-requires : tie.Need-verdict-requires
-verdict-requires c κs = search needs
+verdict-counted-requires : tie.Need-verdict-counted-requires
+verdict-counted-requires c κs = search needs
 
 judged-requires : tie.Need-judged-requires
 judged-requires c κs = search needs
@@ -15,7 +13,8 @@ same-length : tie.Need-same-length
 same-length c = search needs
 
 returns : tie.Need-returns
-returns c = (c .judged .ensures ∙ ap (λ (j : Judgement). judgedNumber (j .answer)) (c .before .before .verdict .ensures), ap (λ (j : Judgement). j .levels) (c .before .before .verdict .ensures))
+returns c = let called = c .before .before .verdict-counted in judged-as (called .result) (c .judged .ensures) (called .ensures .judgement) (called .ensures .states)
 
 pub waroth-verdict-spec : {M : Type 1} → statement M
-waroth-verdict-spec = tie.close (tie.spec verdict-requires judged-requires same-length returns)
+waroth-verdict-spec =
+    tie.close (tie.spec verdict-counted-requires judged-requires same-length returns)

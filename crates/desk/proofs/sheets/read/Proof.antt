@@ -15,14 +15,14 @@ counted-requires c κs = search needs
 enum-known-answer-2 : tie.Need-enum-known-answer-2
 enum-known-answer-2 c = search needs
 
-refused-at-requires : tie.Need-refused-at-requires
-refused-at-requires c κs = search needs
+refused-requires : tie.Need-refused-requires
+refused-requires c κs = search needs
 
 returns : tie.Need-returns
 returns c = c .counted .ensures ∙ sym (ap (λ (x : ReadSheet). readNumber (readingOf x)) (c .before .before .answer .given .1))
 
 returns-2 : tie.Need-returns-2
-returns-2 c = c .refused-at .ensures ∙ sym (ap (λ (x : ReadSheet). readNumber (readingOf x)) (c .before .before .answer2 .given .1))
+returns-2 c = c .refused .ensures ∙ sym (ap (λ (x : ReadSheet). readNumber (readingOf x)) (c .before .before .answer2 .given .1))
 
 pub read-spec : {M : Type 1} → statement M
 read-spec =
@@ -31,6 +31,6 @@ read-spec =
     enum-known-answer
     counted-requires
     enum-known-answer-2
-    refused-at-requires
+    refused-requires
     returns
     returns-2)

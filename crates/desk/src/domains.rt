@@ -49,7 +49,8 @@ pub extern "C" fn waroth_counts(store: &[u8]) -> u64
     }
     let index = found.index;
     let n = index.counts;
-    n.agents as u64 * FOURTH + (n.fluents as u64 * THIRD + (n.entries as u64 * SECOND + n.laws as u64))
+    n.agents as u64 * FOURTH
+        + (n.fluents as u64 * THIRD + (n.entries as u64 * SECOND + n.laws as u64))
 }
 
 fn size(frame: FrameAt) -> u64

@@ -1,0 +1,76 @@
+// Document 01's domain P, read into a store and handed out again by the frame reader: its refusal, then a line for each frame.
+// It stands on `domain`.
+use bmap::STORE;
+use domain::next;
+use domain::start;
+use libc::STDOUT_FILENO;
+ghost use mathlib.Core.Path.{_≡_};
+ghost use Prim.Native.Nat.{_-_, _<_};
+ghost use lib.ListN.{length};
+
+fn print(text: &[u8]) {
+    io::write_all(STDOUT_FILENO, text);
+}
+
+fn print_refusal(refusal: u8) {
+    io::print_decimal(STDOUT_FILENO, refusal as u64);
+    print(b"\n");
+}
+
+fn digit(n: u8) -> u8
+    requires { ⌜ n < 16 ⌝ }
+{
+    if n < 10 { 48 + n } else { 55 + n }
+}
+
+// Two digits of upper-case hex.
+fn print_byte(b: u8) {
+    let high = digit(b / 16);
+    let low = digit(b % 16);
+    print(&[high, low]);
+}
+
+fn print_bytes(part: &[u8]) {
+    let mut k: usize = 0;
+    while k < part.len() {
+        print_byte(part[k]);
+        k += 1;
+    }
+}
+
+// Prints a part, and says how many times "no more" is still to be heard.
+fn show(part: &[u8], left: usize) -> usize
+    requires { ⌜ 0 < left ⌝ }
+    ensures { λ r. ⌜ (length (now (part .entry)) ≡ 0 → r ≡ left - 1) × (0 < length (now (part .entry)) → r ≡ left) ⌝ }
+{
+    if part.len() == 0 {
+        print(b"no more\n");
+        return left - 1;
+    }
+    print_bytes(part);
+    print(b"\n");
+    left
+}
+
+// Frame after frame, until "no more" was heard so many times.
+fn hand_out(store: &[u8], times: usize) {
+    let mut r = start(store);
+    print_refusal(r.refusal);
+    let mut left = times;
+    while 0 < left {
+        let part = next(&mut r);
+        left = show(part, left);
+    }
+}
+
+fn main() {
+    let mut store = [0u8; STORE];
+    domain::read(
+        b"A10102\nA20600C80140012C\nA303000003\nA403010001\nA403020002\nA50800241100001000DC\nA50801241100001000DC\nA60A002A001311000010000E\nA60A012A0013110000100006\nA90725110000100118\n",
+        &mut store,
+    );
+    hand_out(&store, 3);
+    // With one byte changed the store is no domain.
+    store[0] = 0;
+    hand_out(&store, 2);
+}

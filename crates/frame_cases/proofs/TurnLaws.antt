@@ -1,38 +1,65 @@
 -- Frame after frame until "no more" was heard so many times: each turn has less left. Assumes nothing.
 use Prim.Native.Nat.{ℕ, zero, suc, _+_, _-_, _<_, _≤_}
 use native.Mathlib.Omega.{arith}
-use mathlib.Core.Path.{_≡_, refl, sym, ap}
+use mathlib.Core.Path.{_≡_, refl, sym, ap, subst}
 use mathlib.Core.List.{List}
 use mathlib.Core.Option.{Option, none, some}
+use mathlib.Core.WellFounded.{WellFounded, InvImage·wf}
 use lib.ListN.{length}
+use lib.WfN.{Nat·lt-wfRel}
+use denote.Ref.{RefT, now}
 use Rattle.line.specs.Frame.{frameSizeAt}
-use Rattle.domain.specs.Frames.{partAt, placeAfter}
+use Rattle.domain.specs.Frames.{partAt, placeAfter, HandsOut}
+use Rattle.domain.specs.declared.frames.FrameReader.{FrameReader}
 use Rattle.domain.proofs.Held.{framed, no-frame}
 use Rattle.domain.proofs.FramesLaws.{no-part, no-move, a-move}
 
--- what is left before a place, where "no more" is still to be heard so many times
-abbrev pub leftAt : List ℕ → ℕ → ℕ → ℕ
-leftAt s at left = left + (length s - at)
-
--- what `show` says of a part of n bytes
+-- what `show` says of a part of n bytes, where "no more" was still to be heard k times
 abbrev pub Shown : ℕ → ℕ → ℕ → Type 0
-Shown n left r = (n ≡ 0 → r ≡ left - 1) × (0 < n → r ≡ left)
+Shown n k r = (n ≡ 0 → r ≡ k - 1) × (0 < n → r ≡ k)
 
-no-more-left : (n left r : ℕ) → Shown n left r → r ≤ left
-no-more-left zero left r h = let e = h .0 refl in omega arith
-no-more-left (suc n) left r h = let e = h .1 (omega arith) in omega arith
+-- where a turn begins: how many times "no more" is still to be heard, and the reader
+pub record Turn : Type 0 where
+  pub left : ℕ
+  pub reader : FrameReader
 
-pub turn-less : (s : List ℕ) (at left r : ℕ) → 0 < left → Shown (length (partAt s at)) left r → leftAt s (placeAfter s at) r < leftAt s at left
-turn-less s at left r some-left h = go (frameSizeAt s at) refl
+abbrev pub from-here : ℕ → FrameReader → Turn
+from-here k h = record { left = k; reader = h }
+
+-- that many times, and the bytes after the reader's place
+abbrev ahead : ℕ → List ℕ → ℕ → ℕ
+ahead k s at = k + (length s - at)
+
+abbrev aheadOf : Turn → ℕ
+aheadOf x = ahead (x .left) (now (x .reader .store)) (x .reader .at)
+
+abbrev pub Less : Turn → Turn → Type 0
+Less x y = aheadOf x < aheadOf y
+
+pub less-wf : WellFounded Less
+less-wf = InvImage·wf aheadOf (Nat·lt-wfRel .wf)
+
+shown-most : (n k r : ℕ) → Shown n k r → r ≤ k
+shown-most zero k r h = let e = h .0 refl in omega arith
+shown-most (suc n) k r h = let e = h .1 (omega arith) in omega arith
+
+part-less : (s : List ℕ) (at k r : ℕ) → 0 < k → Shown (length (partAt s at)) k r → ahead r s (placeAfter s at) < ahead k s at
+part-less s at k r more h = go (frameSizeAt s at) refl
   where
-    go : (o : Option ℕ) → o ≡ frameSizeAt s at → leftAt s (placeAfter s at) r < leftAt s at left
+    go : (o : Option ℕ) → o ≡ frameSizeAt s at → ahead r s (placeAfter s at) < ahead k s at
     go none e =
         let gone = no-frame s at e in
         let stays : at ≡ placeAfter s at = no-move s at gone in
-        let less : r ≡ left - 1 = h .0 (ap length (sym (no-part s at gone))) in
+        let less : r ≡ k - 1 = h .0 (ap length (sym (no-part s at gone))) in
         omega arith
     go (some size) e =
         let f = framed s at size e in
         let moves : at + size ≡ placeAfter s at = a-move s at size f in
-        let most : r ≤ left = no-more-left (length (partAt s at)) left r h in
+        let most : r ≤ k = shown-most (length (partAt s at)) k r h in
         omega (arith, f .two, f .within)
+
+-- `next` took the reader h to w and handed out p, and `show` answered r
+pub turn-less : (h w : FrameReader) (p : RefT (List ℕ)) (k r : ℕ) → 0 < k → HandsOut h w p → Shown (length (now p)) k r → Less (from-here r w) (from-here k h)
+turn-less h w p k r more ep er =
+    subst (λ (x : FrameReader). Less (from-here r x) (from-here k h)) (sym (ep .reader))
+    (part-less (now (h .store)) (h .at) k r more (subst (λ (l : List ℕ). Shown (length l) k r) (ep .part .contents) er))

@@ -52,11 +52,11 @@ fn show(part: &[u8], left: usize) -> usize
     left
 }
 
-// Frame after frame, until "no more" was heard so many times.
-fn hand_out(store: &[u8], times: usize) {
+// The refusal, and frame after frame until "no more" was heard twice.
+fn hand_out(store: &[u8]) {
     let mut r = start(store);
     print_refusal(r.refusal);
-    let mut left = times;
+    let mut left: usize = 2;
     while 0 < left {
         let part = next(&mut r);
         left = show(part, left);
@@ -66,11 +66,20 @@ fn hand_out(store: &[u8], times: usize) {
 fn main() {
     let mut store = [0u8; STORE];
     domain::read(
-        b"A10102\nA20600C80140012C\nA303000003\nA403010001\nA403020002\nA50800241100001000DC\nA50801241100001000DC\nA60A002A001311000010000E\nA60A012A0013110000100006\nA90725110000100118\n",
+        b"A10102\n\
+          A20600C80140012C\n\
+          A303000003\n\
+          A403010001\n\
+          A403020002\n\
+          A50800241100001000DC\n\
+          A50801241100001000DC\n\
+          A60A002A001311000010000E\n\
+          A60A012A0013110000100006\n\
+          A90725110000100118\n",
         &mut store,
     );
-    hand_out(&store, 3);
-    // With one byte changed the store is no domain.
-    store[0] = 0;
-    hand_out(&store, 2);
+    hand_out(&store);
+    // With a byte after the frames the store is no domain.
+    store[STORE - 1] = 1;
+    hand_out(&store);
 }

@@ -1,18 +1,20 @@
 -- The frame reader's start and its next frame. Assumes nothing.
-use Prim.Native.Nat.{ℕ, _+_}
+use Prim.Native.Nat.{ℕ, _+_, _<_, _≤_}
 use native.Mathlib.Omega.{arith}
 use mathlib.Core.Path.{_≡_, refl, sym, ap, _∙_}
 use mathlib.Core.Bool.{true, false}
 use mathlib.Core.List.{List, []}
-use mathlib.Core.Option.{Option, none}
+use mathlib.Core.Logic.{_⊎_, inl, inr}
+use mathlib.Core.Option.{Option, none, some}
 use lib.ListN.{length, take, drop}
 use Rattle.bmap.specs.Refusal.{Answer, got, refused, isGot}
 use Rattle.bmap.specs.Plain.{maybe}
 use Rattle.bmap.specs.Line.{Frame, stored}
 use Rattle.bmap.specs.Domain.{Domain}
 use Rattle.bmap.specs.Store.{frameAt, domainIn, start, Next, nextFrame}
+use Rattle.line.specs.Frame.{frameSizeAt}
 use Rattle.domain.specs.Frames.{refusalIn, standingOn, partAt, placeAfter}
-use Rattle.domain.proofs.Held.{Framed}
+use Rattle.domain.proofs.Held.{Framed, framed, no-frame}
 use Rattle.domain.proofs.Accepted.{refused-15}
 
 module _ (s : List ℕ) where
@@ -73,3 +75,17 @@ module _ (s : List ℕ) where
 
       pub a-move : at + size ≡ placeAfter s at
       a-move = ap (λ (n : ℕ). at + n) (f .is) ∙ sym (ap (λ (n : Next). n .at) (next-is (f .stands)))
+
+    -- no bytes, and the place stays; or the place moves on, within the store: so there is an end
+    abbrev pub StaysOrMoves : Type 0
+    StaysOrMoves = ((length (partAt s at) ≡ 0) × (placeAfter s at ≡ at)) ⊎ ((at < placeAfter s at) × (placeAfter s at ≤ length s))
+
+    pub stays-or-moves : StaysOrMoves
+    stays-or-moves = go (frameSizeAt s at) refl
+      where
+        go : (o : Option ℕ) → o ≡ frameSizeAt s at → StaysOrMoves
+        go none e = let gone = no-frame s at e in inl (ap length (sym (no-part gone)), sym (no-move gone))
+        go (some size) e =
+            let f = framed s at size e in
+            let moved : at + size ≡ placeAfter s at = a-move size f in
+            inr (omega (arith, f .two), omega (arith, f .within))

@@ -1,6 +1,6 @@
 // Domains: the check of one frame, the reader of lines into a store, the acceptance of a store with its index, the writer and the
 // frame reader. It stands on `law` for the trees in a payload, on `line` for lines and frames, on `number` for values and on
-// `index` for what a judge reads; `judge`, `session`, `answer` and `desk` stand on it.
+// `index` for what a judge reads; `judge`, `session`, `answer`, `desk` and `frame_cases` stand on it.
 mod checks;
 mod found;
 mod frames;

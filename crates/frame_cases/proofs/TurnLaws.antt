@@ -3,16 +3,14 @@ use Prim.Native.Nat.{ℕ, zero, suc, _+_, _-_, _<_, _≤_}
 use native.Mathlib.Omega.{arith}
 use mathlib.Core.Path.{_≡_, refl, sym, ap, subst}
 use mathlib.Core.List.{List}
-use mathlib.Core.Option.{Option, none, some}
+use mathlib.Core.Logic.{_⊎_, inl, inr}
 use mathlib.Core.WellFounded.{WellFounded, InvImage·wf}
 use lib.ListN.{length}
 use lib.WfN.{Nat·lt-wfRel}
 use denote.Ref.{RefT, now}
-use Rattle.line.specs.Frame.{frameSizeAt}
 use Rattle.domain.specs.Frames.{partAt, placeAfter, HandsOut}
 use Rattle.domain.specs.declared.frames.FrameReader.{FrameReader}
-use Rattle.domain.proofs.Held.{framed, no-frame}
-use Rattle.domain.proofs.FramesLaws.{no-part, no-move, a-move}
+use Rattle.domain.proofs.FramesLaws.{stays-or-moves}
 
 -- what `show` says of a part of n bytes, where "no more" was still to be heard k times
 abbrev pub Shown : ℕ → ℕ → ℕ → Type 0
@@ -44,19 +42,10 @@ shown-most zero k r h = let e = h .0 refl in omega arith
 shown-most (suc n) k r h = let e = h .1 (omega arith) in omega arith
 
 part-less : (s : List ℕ) (at k r : ℕ) → 0 < k → Shown (length (partAt s at)) k r → ahead r s (placeAfter s at) < ahead k s at
-part-less s at k r more h = go (frameSizeAt s at) refl
-  where
-    go : (o : Option ℕ) → o ≡ frameSizeAt s at → ahead r s (placeAfter s at) < ahead k s at
-    go none e =
-        let gone = no-frame s at e in
-        let stays : at ≡ placeAfter s at = no-move s at gone in
-        let less : r ≡ k - 1 = h .0 (ap length (sym (no-part s at gone))) in
-        omega arith
-    go (some size) e =
-        let f = framed s at size e in
-        let moves : at + size ≡ placeAfter s at = a-move s at size f in
-        let most : r ≤ k = shown-most (length (partAt s at)) k r h in
-        omega (arith, f .two, f .within)
+part-less s at k r more h = elim (stays-or-moves s at) [
+  inl stays ↦ (let less : r ≡ k - 1 = h .0 (stays .0) in omega (arith, stays .1)) |
+  inr moves ↦ (let most : r ≤ k = shown-most (length (partAt s at)) k r h in omega (arith, moves .0, moves .1))
+]
 
 -- `next` took the reader h to w and handed out p, and `show` answered r
 pub turn-less : (h w : FrameReader) (p : RefT (List ℕ)) (k r : ℕ) → 0 < k → HandsOut h w p → Shown (length (now p)) k r → Less (from-here r w) (from-here k h)

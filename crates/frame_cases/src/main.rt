@@ -20,7 +20,7 @@ fn print_refusal(refusal: u8) {
 fn digit(n: u8) -> u8
     requires { ⌜ n < 16 ⌝ }
 {
-    if n < 10 { 48 + n } else { 55 + n }
+    if n < 10 { b'0' + n } else { b'A' + (n - 10) }
 }
 
 // Two digits of upper-case hex.

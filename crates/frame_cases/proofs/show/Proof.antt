@@ -1,3 +1,4 @@
+-- Each way returns what it says; the other length is excluded by the test. Assumes nothing.
 use native.Mathlib.Omega.{arith}
 use mathlib.Core.Path.{refl}
 use borrow.Author.Needs.{needs}

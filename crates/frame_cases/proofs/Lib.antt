@@ -1,4 +1,4 @@
--- A reader's next turn comes nearer to the end.
+-- Each turn has less left.
 pub mod TurnLaws
 -- A reader in a local, lent to `next`.
 pub mod Lent

@@ -43,8 +43,8 @@ shown-most (suc n) k r h = let e = h .1 (omega arith) in omega arith
 
 part-less : (s : List ℕ) (at k r : ℕ) → 0 < k → Shown (length (partAt s at)) k r → ahead r s (placeAfter s at) < ahead k s at
 part-less s at k r more h = elim (stays-or-moves s at) [
-  inl stays ↦ (let less : r ≡ k - 1 = h .0 (stays .0) in omega (arith, stays .1)) |
-  inr moves ↦ (let most : r ≤ k = shown-most (length (partAt s at)) k r h in omega (arith, moves .0, moves .1))
+  | inl stays ↦ (let less : r ≡ k - 1 = h .0 (stays .0) in omega (arith, stays .1))
+  | inr moves ↦ (let most : r ≤ k = shown-most (length (partAt s at)) k r h in omega (arith, moves .0, moves .1))
 ]
 
 -- `next` took the reader h to w and handed out p, and `show` answered r

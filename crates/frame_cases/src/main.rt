@@ -1,5 +1,5 @@
-// Document 01's domain P, read into a store and handed out again by the frame reader: its refusal, then a line for each frame.
-// It stands on `domain`.
+// Document 01's domain P, read into a store and handed out again by the frame reader: the refusal, then a line for each frame,
+// which is the line that was read. It stands on `domain`.
 use bmap::STORE;
 use domain::next;
 use domain::start;
@@ -52,7 +52,7 @@ fn show(part: &[u8], left: usize) -> usize
     left
 }
 
-// The refusal, and frame after frame until "no more" was heard twice.
+// Frame after frame, until "no more" was heard twice: after the last frame the reader stays.
 fn hand_out(store: &[u8]) {
     let mut r = start(store);
     print_refusal(r.refusal);
@@ -79,7 +79,7 @@ fn main() {
         &mut store,
     );
     hand_out(&store);
-    // With a byte after the frames the store is no domain.
+    // With a byte after its frames the store is no domain, and none of them is handed out.
     store[STORE - 1] = 1;
     hand_out(&store);
 }

@@ -1,9 +1,14 @@
 /* The sheet judge for C: the calls of target/staticlib/libdesk.a, which `rt staticlib desk` makes for x86-64 Linux.
  *
- * Every call is total: it takes any bytes, and what it cannot use it refuses by one of the numbers below. Its answer and
- * every byte that it leaves are proved; crates/desk/specs/Numbers.antt says what each answer means. A buffer that is lent
- * to be read is not written. A buffer of length 0 needs no bytes, only a pointer that is not null. No call keeps a
- * pointer, allocates, or reads or writes anything else, so calls on different buffers may run at the same time.
+ * Every call is total: it takes any bytes, ends, and what it cannot use it refuses by one of the numbers below. Its answer
+ * and every byte that it leaves are proved; crates/desk/specs/Numbers.antt says what each answer means.
+ *
+ * Buffers. A buffer that is lent to be read is not written. No call keeps a pointer, allocates, or reads or writes anything
+ * but what it is lent, so calls on different buffers may run at the same time. What the caller owes:
+ * - a size says how much stands behind its pointer: bytes, but for levels_size, which counts numbers of 16 bits;
+ * - no pointer is null, not even with size 0, where it may be any other and no byte stands behind it;
+ * - a buffer that is lent to be written overlaps no other buffer of the same call; two that are only read may overlap;
+ * - levels are aligned as int16_t, a session as struct waroth_session.
  */
 #ifndef WAROTH_H
 #define WAROTH_H
@@ -15,80 +20,178 @@
 extern "C" {
 #endif
 
-/* Limits, and the least size of each buffer that is lent to be written. */
+/* ---- Limits */
+
 enum {
     WAROTH_AGENTS = 16,
     WAROTH_FLUENTS = 32,
+    WAROTH_KNOWLEDGE = 64, /* A3 lines */
+    WAROTH_ENTRIES = 64,
+    WAROTH_LAWS = 128,
+    WAROTH_PAYLOAD = 120, /* bytes of a line's payload */
     WAROTH_STEPS = 64,
-    WAROTH_EDITS = 200,
-    WAROTH_STORE = 36000,                                   /* bytes of a store that a domain is read into */
-    WAROTH_SHEET = WAROTH_STEPS * WAROTH_AGENTS,            /* bytes of a buffer that a sheet is read into */
-    WAROTH_LEVELS = (WAROTH_STEPS + 1) * WAROTH_FLUENTS,    /* numbers of a levels buffer */
-    WAROTH_INPUT = 60000,                                   /* bytes of the program's input, at most */
-    WAROTH_OUTPUT = 16384                                   /* bytes of a buffer for the program's output */
+    WAROTH_EDITS = 200
 };
 
-/* Refusals.
- *  1 character, odd or empty line, missing LF
- *  2 no count byte, count over 120, or count not the bytes present
- *  3 kind unknown, out of order, or not allowed here
- *  4 payload not as described; agents not 1 to 16
- *  5 more of a kind, or more laws, than allowed
- *  6 entry with name and mask of an earlier one
- *  7 at the end: no A1, A2 or A4, or an entry without A5
- *  8 step not one byte per agent; sheet not whole steps
- *  9 a 65th step
- * 10 buffer lent to be written is shorter than named here, or than the text to be written
- * 11 strike on an empty sheet, amend of a step not there
- * 12 undo with no standing edit
- * 13 redo with no undone edit
- * 14 200 edits stand
- * 15 store is not an accepted domain followed by zeros
- * 16 the domain's number of agents differs from the session's
- * 17 session closed, or not one that an accepted opening and calls after it could leave
- * 18 the program's input is over 60,000 bytes
- *
- * Where a call answers by 64 bits, the upper 32 are the refusal's number, 0 for none. */
-#define WAROTH_REFUSAL(answer) ((unsigned)((uint64_t)(answer) >> 32))
-/* What a reader or a writer answers in the lower 32: the count, or, where a reader refuses, the line, from 1. */
-#define WAROTH_COUNT(answer) ((uint32_t)(answer))
-#define WAROTH_LINE(answer) ((uint32_t)(answer))
-/* What a judgement answers in the lower 32 where nothing is refused: 0 is accepted, else kind, step and number. */
-#define WAROTH_KIND(answer) ((unsigned)((uint64_t)(answer) >> 16 & 0xFF))
-#define WAROTH_STEP(answer) ((unsigned)((uint64_t)(answer) >> 8 & 0xFF))
-#define WAROTH_NUMBER(answer) ((unsigned)((uint64_t)(answer) & 0xFF))
+/* The least size of each buffer that is lent to be written. */
+enum {
+    WAROTH_STORE = 36000,                                                              /* bytes: a domain is read into it */
+    WAROTH_SHEET = WAROTH_STEPS * WAROTH_AGENTS,                                       /* bytes: a sheet is read into it */
+    WAROTH_LEVELS = (WAROTH_STEPS + 1) * WAROTH_FLUENTS,                               /* numbers: levels */
+    WAROTH_OUTPUT = (WAROTH_STEPS + 1) * (24 + 7 * WAROTH_FLUENTS) + 70                /* bytes: the program's output */
+};
+
+/* The most bytes of the program's input. */
+enum { WAROTH_INPUT = 60000 };
+
+/* The characters of a line whose payload has so many bytes: two for each byte, kind and count among them, and the LF. */
+#define WAROTH_LINE_TEXT(payload) (2 * (2 + (payload)) + 1)
+
+/* The longest texts: a buffer of this size has room for whatever a writer writes. */
+enum {
+    WAROTH_DOMAIN_TEXT = WAROTH_LINE_TEXT(1) + WAROTH_FLUENTS * WAROTH_LINE_TEXT(6) + WAROTH_KNOWLEDGE * WAROTH_LINE_TEXT(3) +
+                         WAROTH_ENTRIES * WAROTH_LINE_TEXT(3) + WAROTH_LAWS * WAROTH_LINE_TEXT(WAROTH_PAYLOAD),
+    WAROTH_SHEET_TEXT = WAROTH_STEPS * WAROTH_LINE_TEXT(WAROTH_AGENTS)
+};
+
+/* ---- Answers: 64 bits each, to be read by the functions below */
+
+enum waroth_refusal {
+    WAROTH_BAD_LINE = 1,        /* character, odd or empty line, missing LF */
+    WAROTH_BAD_COUNT = 2,       /* no count byte, count over 120, or count not the bytes present */
+    WAROTH_BAD_KIND = 3,        /* kind unknown, out of order, or not allowed here */
+    WAROTH_BAD_PAYLOAD = 4,     /* payload not as described; agents not 1 to 16 */
+    WAROTH_TOO_MANY = 5,        /* more of a kind, or more laws, than allowed */
+    WAROTH_REPEATED = 6,        /* entry with name and mask of an earlier one */
+    WAROTH_INCOMPLETE = 7,      /* at the end: no A1, A2 or A4, or an entry without A5 */
+    WAROTH_NOT_WHOLE = 8,       /* step not one byte per agent; sheet not whole steps */
+    WAROTH_TOO_LONG = 9,        /* a 65th step */
+    WAROTH_NO_ROOM = 10,        /* buffer lent to be written is shorter than named here, or than the text to be written */
+    WAROTH_NO_STEP = 11,        /* strike on an empty sheet, amend of a step not there */
+    WAROTH_NOTHING_STANDS = 12, /* undo with no standing edit */
+    WAROTH_NOTHING_UNDONE = 13, /* redo with no undone edit */
+    WAROTH_LOG_FULL = 14,       /* 200 edits stand */
+    WAROTH_NOT_DOMAIN = 15,     /* store is not an accepted domain followed by zeros */
+    WAROTH_OTHER_AGENTS = 16,   /* the domain's number of agents differs from the session's */
+    WAROTH_NOT_SESSION = 17,    /* session closed, or not one that an accepted opening and calls after it could leave */
+    WAROTH_LONG_INPUT = 18      /* the program's input is over 60,000 bytes */
+};
+
+/* What a judgement says: accepted, refused, or what is at fault. None of them is 0. */
+enum waroth_kind {
+    WAROTH_MISPLACED = 1,   /* an agent names an action but belongs to no occurring entry with that name; number: agent */
+    WAROTH_BARRED = 2,      /* an entry occurs, and none of its executability laws is true; number: entry */
+    WAROTH_CONCURRENCY = 3, /* a concurrency law is false; number: law */
+    WAROTH_CONFLICT = 4,    /* an effect law sets another value than an earlier one; number: the later law */
+    WAROTH_RANGE = 5,       /* a fluent leaves its range; number: fluent */
+    WAROTH_STATIC = 6,      /* a static law is false; number: law */
+    WAROTH_NO_VALUE = 7,    /* a law has no value; number: law */
+    WAROTH_GOAL = 8,        /* a goal law is false; number: law */
+    WAROTH_ACCEPTED = 128,
+    WAROTH_REFUSED = 255
+};
+
+/* Of every answer: the refusal's number, 0 where nothing is refused. A refused answer has bit 31 set and any other has not,
+ * so that its lower 32 bits, kept alone, are no answer that something was found. */
+static inline unsigned waroth_refusal(uint64_t answer)
+{
+    return (unsigned)(answer >> 32);
+}
+
+/* Of a reader's answer: the line at fault, counted from 1; 0 where no line is (10, and the sheet reader's 4). */
+static inline uint32_t waroth_line(uint64_t answer)
+{
+    return waroth_refusal(answer) == 0 ? 0 : (uint32_t)answer & 0x7FFFFFFF;
+}
+
+/* Of a reader's or a writer's answer: bytes or steps, as the call says; 0 where it refuses. */
+static inline uint32_t waroth_count(uint64_t answer)
+{
+    return waroth_refusal(answer) == 0 ? (uint32_t)answer : 0;
+}
+
+/* Of a judgement: its kind, WAROTH_REFUSED where it is refused. */
+static inline unsigned waroth_kind(uint64_t answer)
+{
+    return (unsigned)(answer >> 16 & 0xFF);
+}
+
+/* Of a judgement with a fault: the step, from 1 (0 for state 0), and the number of what is at fault. */
+static inline unsigned waroth_step(uint64_t answer)
+{
+    return (unsigned)(answer >> 8 & 0xFF);
+}
+
+static inline unsigned waroth_number(uint64_t answer)
+{
+    return (unsigned)(answer & 0xFF);
+}
+
+/* Of a judgement: how many states the levels received, 0 where it is refused. */
+static inline unsigned waroth_states(uint64_t answer)
+{
+    return (unsigned)(answer >> 24 & 0x7F);
+}
+
+/* Of waroth_counts' answer, where it does not refuse. */
+static inline unsigned waroth_agents(uint64_t answer)
+{
+    return (unsigned)(answer >> 24 & 0xFF);
+}
+
+static inline unsigned waroth_fluents(uint64_t answer)
+{
+    return (unsigned)(answer >> 16 & 0xFF);
+}
+
+static inline unsigned waroth_entries(uint64_t answer)
+{
+    return (unsigned)(answer >> 8 & 0xFF);
+}
+
+static inline unsigned waroth_laws(uint64_t answer)
+{
+    return (unsigned)(answer & 0xFF);
+}
 
 /* ---- Domains */
 
-/* Reads a domain's hex lines into a store of at least WAROTH_STORE bytes. Answers the bytes used.
+/* Reads a domain's hex lines into a store of at least WAROTH_STORE bytes. Count: the bytes used.
  * Refusals: 10, then line by line 1, 2, 3, 5, 4, 6, then 7 (with the count of lines; 10 with line 0).
  * The store: the frames end to end, zeros after. After 10 it is as it was; after any other refusal it is all zero. */
 uint64_t waroth_read_domain(const uint8_t *text, size_t text_size, uint8_t *store, size_t store_size);
 
-/* Writes the hex lines of an accepted domain, whose store may have any size. Answers the bytes written.
+/* Writes the hex lines of an accepted domain, whose store may have any size. Count: the bytes written, at most
+ * WAROTH_DOMAIN_TEXT.
  * Refusals: 15, 10.
  * The text: the lines, and nothing after them is touched; after a refusal it is as it was. */
 uint64_t waroth_write_domain(const uint8_t *store, size_t store_size, uint8_t *text, size_t text_size);
 
+/* How many agents, fluents, entries and laws the domain of a store has (waroth_agents and so on); the store may have any
+ * size. Refusal: 15. */
+uint64_t waroth_counts(const uint8_t *store, size_t store_size);
+
 /* The size of the frame at a place of any bytes: kind other than 00, count up to 120 and the whole payload; 0 where none
- * stands. The next frame of a store stands behind it. */
-size_t waroth_frame(const uint8_t *store, size_t store_size, size_t place);
+ * stands. Refuses nothing. The next frame of a store stands behind it. */
+uint64_t waroth_frame(const uint8_t *store, size_t store_size, size_t place);
 
 /* ---- Sheets */
 
-/* Reads a sheet's hex lines for so many agents into a buffer of at least WAROTH_SHEET bytes. Answers the number of steps.
+/* Reads a sheet's hex lines for so many agents into a buffer of at least WAROTH_SHEET bytes. Count: the number of steps.
  * Refusals: 10, 4 (both with line 0), then line by line 1, 2, 3, 9, 8.
  * The buffer: the names step after step, zeros after. After 10 it is as it was; after any other refusal it is all zero. */
 uint64_t waroth_read_sheet(const uint8_t *text, size_t text_size, size_t agents, uint8_t *buffer, size_t buffer_size);
 
-/* Writes the hex lines of a sheet: exactly its names, step after step. Answers the bytes written.
+/* Writes the hex lines of a sheet: exactly its names, step after step. Count: the bytes written, at most
+ * WAROTH_SHEET_TEXT.
  * Refusals: 4, 8, 9, 10.
  * The text: the lines, and nothing after them is touched; after a refusal it is as it was. */
 uint64_t waroth_write_sheet(const uint8_t *sheet, size_t sheet_size, size_t agents, uint8_t *text, size_t text_size);
 
 /* ---- Verdicts */
 
-/* Judges a sheet, exactly its names, against a store. Answers the verdict (WAROTH_KIND, WAROTH_STEP, WAROTH_NUMBER).
+/* Judges a sheet, exactly its names (steps times agents bytes, not the whole buffer that it was read into), against a
+ * store. Answers kind, step, number and states.
  * Refusals: 10, 15, 8, 9.
  * The levels, at least WAROTH_LEVELS numbers: the states reached, state after state, one number for each fluent, and
  * nothing after them is touched; after a refusal they are as they were. */
@@ -98,36 +201,36 @@ uint64_t waroth_judge(const uint8_t *store, size_t store_size, const uint8_t *sh
 /* ---- The program */
 
 /* What the program writes for an input of any size: the states and the verdict, or REFUSED with number and line, as text.
- * Answers the bytes written to the front of the output, and nothing after them is touched. An output of less than
- * WAROTH_OUTPUT bytes is as it was, and the answer is 0. */
-size_t waroth_answer(const uint8_t *input, size_t input_size, uint8_t *output, size_t output_size);
+ * Answers the bytes written to the front of the output, never 0, and nothing after them is touched. An output of less than
+ * WAROTH_OUTPUT bytes is as it was, and the answer is 0. Refuses nothing: a refusal is text. */
+uint64_t waroth_answer(const uint8_t *input, size_t input_size, uint8_t *output, size_t output_size);
 
 /* ---- Sessions. All of it is plain bytes that may be kept and copied; unused ones are zero. */
 struct waroth_session {
     size_t agents;
     size_t steps;
-    uint8_t names[WAROTH_SHEET];  /* step after step, one byte for each agent, zeros after */
-    size_t standing;              /* edits that stand */
-    size_t total;                 /* edits that stand, and those undone after them */
-    uint8_t log[WAROTH_EDITS * (WAROTH_AGENTS + 2)];  /* for each edit its kind, its step's number and 16 names */
+    uint8_t names[WAROTH_SHEET]; /* step after step, one byte for each agent, zeros after */
+    size_t standing;             /* edits that stand */
+    size_t total;                /* edits that stand, and those undone after them */
+    uint8_t log[WAROTH_EDITS * (WAROTH_AGENTS + 2)]; /* for each edit its kind, its step's number and 16 names */
 };
 
-/* Each answers the refusal's number, 0 for none. */
+/* Each of the six answers 0, or a refusal. */
 
 /* Refusal: 15. Whatever the session was, it is then open with an empty sheet, or, if refused, closed and all zero. */
-uint8_t waroth_open(struct waroth_session *session, const uint8_t *store, size_t store_size);
+uint64_t waroth_open(struct waroth_session *session, const uint8_t *store, size_t store_size);
 
 /* After a refusal each of these leaves the session as it was. Steps are numbered from 1. */
 /* Refusals: 17, 14, 8, 9. */
-uint8_t waroth_enter(struct waroth_session *session, const uint8_t *names, size_t names_size);
+uint64_t waroth_enter(struct waroth_session *session, const uint8_t *names, size_t names_size);
 /* Refusals: 17, 14, 11. */
-uint8_t waroth_strike(struct waroth_session *session);
+uint64_t waroth_strike(struct waroth_session *session);
 /* Refusals: 17, 14, 8, 11. */
-uint8_t waroth_amend(struct waroth_session *session, size_t step, const uint8_t *names, size_t names_size);
+uint64_t waroth_amend(struct waroth_session *session, size_t step, const uint8_t *names, size_t names_size);
 /* Refusals: 17, 12. */
-uint8_t waroth_undo(struct waroth_session *session);
+uint64_t waroth_undo(struct waroth_session *session);
 /* Refusals: 17, 13. */
-uint8_t waroth_redo(struct waroth_session *session);
+uint64_t waroth_redo(struct waroth_session *session);
 
 /* Judges the session's sheet against a store; the session itself is passed, and stays as it is. Answers as waroth_judge.
  * Refusals: 17, 10, 15, 16. The levels: as waroth_judge. */

@@ -56,7 +56,7 @@ enum {
 
 /* ---- Answers: 64 bits each, to be read by the functions below */
 
-enum waroth_refusal {
+enum waroth_refusal_number {
     WAROTH_BAD_LINE = 1,        /* character, odd or empty line, missing LF */
     WAROTH_BAD_COUNT = 2,       /* no count byte, count over 120, or count not the bytes present */
     WAROTH_BAD_KIND = 3,        /* kind unknown, out of order, or not allowed here */
@@ -78,7 +78,7 @@ enum waroth_refusal {
 };
 
 /* What a judgement says: accepted, refused, or what is at fault. None of them is 0. */
-enum waroth_kind {
+enum waroth_kind_number {
     WAROTH_MISPLACED = 1,   /* an agent names an action but belongs to no occurring entry with that name; number: agent */
     WAROTH_BARRED = 2,      /* an entry occurs, and none of its executability laws is true; number: entry */
     WAROTH_CONCURRENCY = 3, /* a concurrency law is false; number: law */

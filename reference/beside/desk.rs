@@ -78,9 +78,7 @@ fn done(number: u8) -> Answer {
 }
 
 pub fn read_domain(text: &[u8], store: &mut [u8]) -> Answer {
-    count(unsafe {
-        waroth_read_domain(text.as_ptr(), text.len(), store.as_mut_ptr(), store.len())
-    })
+    count(unsafe { waroth_read_domain(text.as_ptr(), text.len(), store.as_mut_ptr(), store.len()) })
 }
 
 pub fn write_domain(store: &[u8], text: &mut [u8]) -> Answer {

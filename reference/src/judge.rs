@@ -192,12 +192,12 @@ impl<'a> Trial<'a> {
         let mut set = 0u32;
         for number in self.domain.laws_of(EFFECT) {
             let law = self.domain.law(number);
-            if occurring >> law.entry & 1 == 0 || !self.holds(number, position)? {
+            if (occurring >> law.entry) & 1 == 0 || !self.holds(number, position)? {
                 continue;
             }
             let value = self.value(number, self.domain.expression(number), position)?;
             let fluent = law.fluent as usize;
-            if set >> fluent & 1 != 0 && settings[fluent] != value {
+            if (set >> fluent) & 1 != 0 && settings[fluent] != value {
                 return Err(Fault(DISAGREEMENT, number));
             }
             settings[fluent] = value;

@@ -239,7 +239,7 @@ pub fn evaluate(code: &[Op], at: &Moment) -> Option<i64> {
                     Some(step) => at.occurring[step],
                     None => 0,
                 };
-                push!((mask >> entry & 1) as i64)
+                push!(((mask >> entry) & 1) as i64)
             }
             Op::True => push!(1),
             Op::Sum => join!(|a, b| number::sum(a, b)?),

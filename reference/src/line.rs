@@ -66,7 +66,7 @@ impl<'a> Lines<'a> {
             }
             // An overlong line is read to its end, since refusal 1 goes before 2.
             if let Some(place) = self.frame.get_mut(bytes) {
-                *place = high << 4 | low;
+                *place = (high << 4) | low;
             }
             bytes += 1;
         }

@@ -170,7 +170,7 @@ impl Bytes<'_> {
 /// The agents of a mask.
 fn agents_of(high: u8, low: u8) -> Vec<usize> {
     let mask = number::mask(high, low);
-    (0..16).filter(|agent| mask >> agent & 1 == 1).collect()
+    (0..16).filter(|agent| (mask >> agent) & 1 == 1).collect()
 }
 
 impl Domain {

@@ -212,7 +212,9 @@ impl Session {
     }
 
     fn edits(&self) -> impl Iterator<Item = &Edit> {
-        self.log.as_chunks::<EDIT_BYTES>().0.iter()
+        self.log
+            .chunks_exact(EDIT_BYTES)
+            .filter_map(|edit| edit.first_chunk())
     }
 
     /// Refusals 17 and 14, which every edit begins with.

@@ -17,7 +17,7 @@ fn check_agents(agents: usize) -> Result<(), u8> {
 
 /// The number of steps of a sheet; refusals 8 and 9.
 pub fn steps_of(sheet: &[u8], agents: usize) -> Result<usize, u8> {
-    if !sheet.len().is_multiple_of(agents) {
+    if sheet.len() % agents != 0 {
         return Err(refusal::NOT_WHOLE);
     }
     let steps = sheet.len() / agents;

@@ -76,8 +76,8 @@ fn gather<T: Target>(store: &[u8], mut domain: Domain<T>) -> Option<Domain<T>> {
 /// without an exit inside a block.
 pub(crate) fn all_zero(bytes: &[u8]) -> bool {
     let none_set = |block: &[u8]| block.iter().fold(0, |seen, byte| seen | byte) == 0;
-    let (blocks, rest) = bytes.as_chunks::<256>();
-    blocks.iter().all(|block| none_set(block)) && none_set(rest)
+    let mut blocks = bytes.chunks_exact(256);
+    none_set(blocks.remainder()) && blocks.all(none_set)
 }
 
 /// Whether the store is an accepted domain followed by zeros.

@@ -106,7 +106,7 @@ fn unknown_agent(r: &mut Random, kind: u8) -> Lines {
     loop {
         let mut draft = roomy(r);
         if draft.agents < 16 {
-            let mask = r.draw() as u16 | 1 << r.from_to(draft.agents, 15);
+            let mask = r.draw() as u16 | (1 << r.from_to(draft.agents, 15));
             draft.insert(mask_frame(kind, if kind == 0xA3 { 0 } else { 200 }, mask));
             return draft.frames;
         }

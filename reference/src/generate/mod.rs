@@ -54,7 +54,7 @@ impl Iterator for Generator {
     fn next(&mut self) -> Option<Generated> {
         let number = self.made;
         self.made += 1;
-        Some(if number.is_multiple_of(2) {
+        Some(if number % 2 == 0 {
             let aim = number / 2 % self.aims.len();
             Generated {
                 case: (self.aims[aim].make)(&mut self.random),

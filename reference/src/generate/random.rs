@@ -10,9 +10,9 @@ impl Random {
     pub fn draw(&mut self) -> u64 {
         self.0 = self.0.wrapping_add(0x9E37_79B9_7F4A_7C15);
         let mut z = self.0;
-        z = (z ^ z >> 30).wrapping_mul(0xBF58_476D_1CE4_E5B9);
-        z = (z ^ z >> 27).wrapping_mul(0x94D0_49BB_1331_11EB);
-        z ^ z >> 31
+        z = (z ^ (z >> 30)).wrapping_mul(0xBF58_476D_1CE4_E5B9);
+        z = (z ^ (z >> 27)).wrapping_mul(0x94D0_49BB_1331_11EB);
+        z ^ (z >> 31)
     }
 
     /// A number below `end`, which must not be 0.
@@ -52,8 +52,10 @@ impl Random {
 
     pub fn values(&mut self, count: usize) -> Vec<i16> {
         let bytes = self.bytes(2 * count);
-        let pairs = bytes.as_chunks::<2>().0;
-        pairs.iter().map(|&pair| i16::from_le_bytes(pair)).collect()
+        let pairs = bytes.chunks_exact(2);
+        pairs
+            .map(|pair| i16::from_le_bytes([pair[0], pair[1]]))
+            .collect()
     }
 
     /// Bytes of which most are ones that mean something in a frame.

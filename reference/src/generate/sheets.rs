@@ -13,7 +13,7 @@ pub fn step(r: &mut Random, draft: &Draft) -> Vec<u8> {
     let mut names = vec![0; draft.agents];
     for _ in 0..r.from_to(0, 1 + draft.agents / 2) {
         let &(name, crew) = r.pick(&draft.entries);
-        let members = (0..draft.agents).filter(|agent| crew >> agent & 1 == 1);
+        let members = (0..draft.agents).filter(|agent| (crew >> agent) & 1 == 1);
         // A crew whose members are idle or already do the same.
         if members
             .clone()

@@ -18,13 +18,14 @@ use Rattle.bmap.specs.Refusal.{Reading, read, refusedAt, got, refused}
 use Rattle.bmap.specs.Accept.{inOrder, room, fresh, checked, accept, complete, takenFrom}
 use Rattle.bmap.specs.Sheet.{stepOf, stepsFrom, stepsIn, readSheet, rows, sheetOf}
 use Rattle.bmap.specs.Buffer.{Filled, Written}
-use Rattle.bmap.specs.Store.{readDomain, standsAt, frameAt, framesFrom, domainIn, Next, nextFrame, writeDomain}
+use Rattle.bmap.specs.Store.{readDomain, standsAt, frameAt, framesFrom, domainIn, Started, start, Next, nextFrame, writeDomain}
 use Rattle.bmap.specs.Verdict.{Judgement, judgeSheet}
 use Rattle.bmap.specs.Judge.{Judged, accepted, broken, eachFrom, history, holds, carries, placed, permits, permitted, mayOccur, sets, settled, levelAfter, stateAfter, inRange, landed, step, carried, ran, judge}
-use Rattle.bmap.specs.Session.{enter, strike, amend, edited, replayed, standingSheet, edit, undo, redo, verdict, Call, editing, undoing, redoing, Reply, done, turn, after, replies}
+use Rattle.bmap.specs.Session.{enter, strike, amend, edited, replayed, standingSheet, edit, undo, redo, verdict, Call, editing, undoing, redoing, Reply, done, turn, after, replies, loggedAll, layout, Changed, openSession}
 use Rattle.bmap.specs.Program.{digitsOf, spaced, stateLines, split, output}
 use Rattle.bmap.specs.River.{p, judgedUnder, gives}
 use Rattle.bmap.specs.declared.Operation.the-variants.{Product, Quotient, Remainder}
+use Rattle.bmap.specs.declared.session.Session.{Session}
 
 -- one case: two things of a type that are to be equal
 pub record Case : Type 1 where
@@ -242,6 +243,10 @@ sessions =
 abbrev store : List ℕ
 store = 161 ∷ 1 ∷ 2 ∷ 162 ∷ 6 ∷ 0 ∷ 200 ∷ 1 ∷ 64 ∷ 1 ∷ 44 ∷ 163 ∷ 3 ∷ 0 ∷ 0 ∷ 3 ∷ 164 ∷ 3 ∷ 1 ∷ 0 ∷ 1 ∷ 164 ∷ 3 ∷ 2 ∷ 0 ∷ 2 ∷ 165 ∷ 8 ∷ 0 ∷ 36 ∷ 17 ∷ 0 ∷ 0 ∷ 16 ∷ 0 ∷ 220 ∷ 165 ∷ 8 ∷ 1 ∷ 36 ∷ 17 ∷ 0 ∷ 0 ∷ 16 ∷ 0 ∷ 220 ∷ 166 ∷ 10 ∷ 0 ∷ 42 ∷ 0 ∷ 19 ∷ 17 ∷ 0 ∷ 0 ∷ 16 ∷ 0 ∷ 14 ∷ 166 ∷ 10 ∷ 1 ∷ 42 ∷ 0 ∷ 19 ∷ 17 ∷ 0 ∷ 0 ∷ 16 ∷ 0 ∷ 6 ∷ 169 ∷ 7 ∷ 37 ∷ 17 ∷ 0 ∷ 0 ∷ 16 ∷ 1 ∷ 24 ∷ []
 
+-- a session of so many agents, all else zero
+abbrev unedited : ℕ → Session
+unedited agents = record { agents = agents; sheet = record { steps = 0; names = replicate 1_024 0 }; standing = 0; total = 0; log = replicate 3_600 0 }
+
 abbrev pub calls : List Case
 calls =
     record { Of = Filled; left = readDomain p (replicate 36_000 7); right = record { answer = read 79; buffer = store ++ replicate 35_921 0 } }
@@ -249,11 +254,14 @@ calls =
     ∷ record { Of = Filled; left = readSheet 0 [] (replicate 1_024 7); right = record { answer = refusedAt 4 0; buffer = replicate 1_024 0 } }
     ∷ record { Of = Written; left = writeDomain store (replicate 170 7); right = record { answer = got 168; buffer = p ++ (7 ∷ 7 ∷ []) } }
     ∷ record { Of = Written; left = writeDomain (store ++ (1 ∷ [])) []; right = record { answer = refused 15; buffer = [] } }
+    ∷ record { Of = Started; left = start (store ++ (1 ∷ [])); right = record { answer = refused 15; place = record { store = []; at = 0 } } }
     ∷ record { Of = Next; left = nextFrame (record { store = store; at = 0 }); right = record { part = 161 ∷ 1 ∷ 2 ∷ []; at = 3 } }
     ∷ record { Of = Next; left = nextFrame (record { store = 161 ∷ 121 ∷ replicate 121 0; at = 0 }); right = record { part = []; at = 0 } }
     ∷ record { Of = Judgement; left = judgeSheet store first (replicate 2_080 (pos 7)); right = record { answer = got accepted; levels = pos 300 ∷ pos 286 ∷ replicate 2_078 (pos 7) } }
     ∷ record { Of = Judgement; left = judgeSheet store (replicate 131 0) (replicate 2_080 (pos 7)); right = record { answer = refused 8; levels = replicate 2_080 (pos 7) } }
     ∷ record { Of = Judgement; left = verdict (record { agents = 3; standing = []; undone = [] }) store (replicate 2_080 (pos 7)); right = record { answer = refused 16; levels = replicate 2_080 (pos 7) } }
+    ∷ record { Of = Changed; left = openSession store; right = record { answer = got tt; session = unedited 2 } }
+    ∷ record { Of = Changed; left = openSession (store ++ (1 ∷ [])); right = record { answer = refused 15; session = unedited 0 } }
     ∷ []
 
 abbrev pub AllHold : List Case → Type 0
@@ -261,5 +269,5 @@ AllHold [] = Unit {0}
 AllHold (c ∷ l) = (c .left ≡ c .right) × AllHold l
 
 pub shown : AllHold starred × AllHold others × AllHold edges × AllHold sessions × AllHold calls
-unfolding p judgedUnder text any all flat numbers bounded signedWord namedE namedC allowedE allowedC evalE evalC codeOf parseE parseC linesOf digit bytes framed decode occursIn knownTo readable maskFits agentsFit fluentFits knowledgeFits entryFits executableIn effectIn mustIn lawIn itemIn inOrder room fresh checked accept complete takenFrom stepOf stepsFrom eachFrom history holds carries placed permits permitted mayOccur sets settled levelAfter stateAfter inRange landed step carried ran judge digitsOf spaced stateLines split output edited replayed standingSheet edit undo redo turn after replies readDomain standsAt frameAt framesFrom domainIn nextFrame writeDomain stepsIn readSheet rows judgeSheet sheetOf verdict digitFor hex lineFor
-shown = ((refl, (refl, (refl, (refl, (refl, (refl, (refl, (refl, (refl, (refl, (refl, (refl, (refl, (refl, (refl, (refl, tt)))))))))))))))), (refl, (refl, (refl, (refl, (refl, (refl, tt)))))), (refl, (refl, (refl, (refl, (refl, (refl, (refl, (refl, (refl, (refl, (refl, (refl, (refl, (refl, (refl, (refl, (refl, (refl, (refl, (refl, (refl, (refl, (refl, (refl, (refl, (refl, (refl, (refl, (refl, (refl, (refl, (refl, (refl, (refl, (refl, (refl, (refl, (refl, (refl, (refl, (refl, (refl, (refl, (refl, (refl, (refl, (refl, (refl, (refl, (refl, (refl, (refl, (refl, (refl, (refl, (refl, (refl, (refl, (refl, tt))))))))))))))))))))))))))))))))))))))))))))))))))))))))))), (refl, (refl, (refl, (refl, (refl, (refl, (refl, (refl, (refl, (refl, tt)))))))))), (refl, (refl, (refl, (refl, (refl, (refl, (refl, (refl, (refl, (refl, tt)))))))))))
+unfolding p judgedUnder text any all flat numbers bounded signedWord namedE namedC allowedE allowedC evalE evalC codeOf parseE parseC linesOf digit bytes framed decode occursIn knownTo readable maskFits agentsFit fluentFits knowledgeFits entryFits executableIn effectIn mustIn lawIn itemIn inOrder room fresh checked accept complete takenFrom stepOf stepsFrom eachFrom history holds carries placed permits permitted mayOccur sets settled levelAfter stateAfter inRange landed step carried ran judge digitsOf spaced stateLines split output edited replayed standingSheet edit undo redo turn after replies loggedAll layout openSession readDomain standsAt frameAt framesFrom domainIn start nextFrame writeDomain stepsIn readSheet rows judgeSheet sheetOf verdict digitFor hex lineFor
+shown = ((refl, (refl, (refl, (refl, (refl, (refl, (refl, (refl, (refl, (refl, (refl, (refl, (refl, (refl, (refl, (refl, tt)))))))))))))))), (refl, (refl, (refl, (refl, (refl, (refl, tt)))))), (refl, (refl, (refl, (refl, (refl, (refl, (refl, (refl, (refl, (refl, (refl, (refl, (refl, (refl, (refl, (refl, (refl, (refl, (refl, (refl, (refl, (refl, (refl, (refl, (refl, (refl, (refl, (refl, (refl, (refl, (refl, (refl, (refl, (refl, (refl, (refl, (refl, (refl, (refl, (refl, (refl, (refl, (refl, (refl, (refl, (refl, (refl, (refl, (refl, (refl, (refl, (refl, (refl, (refl, (refl, (refl, (refl, (refl, (refl, tt))))))))))))))))))))))))))))))))))))))))))))))))))))))))))), (refl, (refl, (refl, (refl, (refl, (refl, (refl, (refl, (refl, (refl, tt)))))))))), (refl, (refl, (refl, (refl, (refl, (refl, (refl, (refl, (refl, (refl, (refl, (refl, (refl, tt))))))))))))))

@@ -30,7 +30,7 @@ cast-count : tie.Need-cast-count
 cast-count c = omega (arith, c .shared-slice-known2 .given (c .before .before .before .before .before .args .at + 1))
 
 returns-4 : tie.Need-returns-4
-returns-4 c = long-count (c .before .before .before .before .before .before .args .store .now) (c .before .before .before .before .before .before .args .at) (c .if4 .taken)
+returns-4 c = long-count (c .before .before .before .before .before .before .args .store .now) (c .before .before .before .before .before .before .args .at) (omega arith)
 
 add-if5 : tie.Need-add-if5
 add-if5 c = search needs

@@ -1,11 +1,12 @@
 -- `domain::reader::read` meets its contract. Assumes nothing.
 use Rattle.domain.proofs.ReaderLaws.{read-short, read-ends, read-stops}
 use borrow.Author.Needs.{needs}
+use native.Mathlib.Omega.{arith}
 use Rattle.domain.proofs.reader.read.Statement.{statement}
 use Rattle.domain.proofs.reader.read.Tie as tie
 
 returns : tie.Need-returns
-returns c = let a = c .before .before .before .args in read-short (a .text .now) (a .store .now) (c .if1 .taken)
+returns c = let a = c .before .before .before .args in read-short (a .text .now) (a .store .now) (omega arith)
 
 read-lines-requires : tie.Need-read-lines-requires
 read-lines-requires c κs = search needs

@@ -1,5 +1,5 @@
 -- The numbers of document 01, each once.
-use Prim.Native.Nat.{ℕ}
+use Prim.Native.Nat.{ℕ, _+_}
 use Rattle.bmap.specs.declared.limits.Limits.{Limits}
 
 -- "number of agents, 1 to 16"
@@ -22,6 +22,10 @@ mostLaws = 128
 -- "a count byte n (0 to 120)"
 abbrev pub mostPayload : ℕ
 mostPayload = 120
+
+-- kind, count and payload, at most
+abbrev pub frameSize : ℕ
+frameSize = mostPayload + 2
 
 -- "nested at most 16 deep (the outermost is depth 1)"
 abbrev pub mostDepth : ℕ

@@ -1,12 +1,16 @@
-// What every crate names: the operators of the law language, the limits (each once), the refusals, a sheet and a session.
+// What every crate names: the operators of the law language, the limits and the kinds of frames (each once), the refusals, a
+// sheet and a session.
 // The definitions themselves are in specs/; nothing stands below this crate, and every other stands on it.
+mod kind;
 mod limits;
 mod refusal;
 mod session;
 
+pub use kind::Kind;
 pub use limits::Context;
 pub use limits::Counts;
 pub use limits::DEPTH;
+pub use limits::FRAME;
 pub use limits::INPUT;
 pub use limits::LAG;
 pub use limits::LEVELS;

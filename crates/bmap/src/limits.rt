@@ -43,8 +43,10 @@ impl Sheet {
     pub const BYTES: usize = Sheet::STEPS * Counts::AGENTS;
 }
 
-// A frame's payload, a law's nesting and its lag, at most.
+// A frame's payload, the whole frame with its kind and its count, a law's nesting and its lag, at most.
 pub const PAYLOAD: usize = 120;
+
+pub const FRAME: usize = PAYLOAD + 2;
 
 pub const DEPTH: usize = 16;
 

@@ -2,6 +2,7 @@
 use crate::payload::payload_fits;
 use crate::payload::word_at;
 use bmap::Counts;
+use bmap::Kind;
 use bmap::Refusal;
 use index::byte_at;
 ghost use mathlib.Core.Path.{_≡_};
@@ -16,10 +17,10 @@ ghost use Rattle.domain.specs.Check.{entriesOf, refusalOf, refusedIn};
 fn in_order(latest: u8, kind: u8) -> bool
     ensures { λ r. ⌜ r ≡ inOrder latest kind ⌝ }
 {
-    if kind < 0xA1 {
+    if kind < Kind::AGENTS {
         return false;
     }
-    if kind > 0xA9 {
+    if kind > Kind::GOAL {
         return false;
     }
     latest <= kind
@@ -29,10 +30,10 @@ fn room_for(n: Counts, kind: u8) -> bool
     ensures { λ r. ⌜ r ≡ room n kind ⌝ }
 {
     match kind {
-        0xA1 => n.agents == 0,
-        0xA2 => n.fluents < Counts::FLUENTS,
-        0xA3 => n.knowledge < Counts::KNOWLEDGE,
-        0xA4 => n.entries < Counts::ENTRIES,
+        Kind::AGENTS => n.agents == 0,
+        Kind::FLUENT => n.fluents < Counts::FLUENTS,
+        Kind::KNOWLEDGE => n.knowledge < Counts::KNOWLEDGE,
+        Kind::ENTRY => n.entries < Counts::ENTRIES,
         _ => n.laws < Counts::LAWS,
     }
 }
@@ -87,7 +88,7 @@ pub(crate) fn check_frame(
     if !payload_fits(n, kind, p) {
         return Check::Refused(Refusal::BadPayload);
     }
-    if kind != 0xA4 {
+    if kind != Kind::ENTRY {
         return Check::Passed;
     }
     if repeated(n.entries, names, crews, p) {

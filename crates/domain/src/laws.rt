@@ -1,6 +1,7 @@
 // Whether a law's payload is as its kind describes it.
 use bmap::Context;
 use bmap::Counts;
+use bmap::Kind;
 use law::Checked;
 use law::check_constraint;
 use law::check_expression;
@@ -80,11 +81,11 @@ pub(crate) fn law_fits(n: Counts, kind: u8, p: &[u8]) -> bool
     ensures { λ r. ⌜ r ≡ isSome (lawIn n kind (now (p .entry))) ⌝ }
 {
     match kind {
-        0xA5 => executable_fits(n, p),
-        0xA6 => effect_fits(n, p),
-        0xA7 => constraint_to_end(p, 0, context_of(n, false)),
-        0xA8 => constraint_to_end(p, 0, context_of(n, true)),
-        0xA9 => constraint_to_end(p, 0, context_of(n, false)),
+        Kind::EXECUTABLE => executable_fits(n, p),
+        Kind::EFFECT => effect_fits(n, p),
+        Kind::STATIC => constraint_to_end(p, 0, context_of(n, false)),
+        Kind::CONCURRENCY => constraint_to_end(p, 0, context_of(n, true)),
+        Kind::GOAL => constraint_to_end(p, 0, context_of(n, false)),
         _ => false,
     }
 }

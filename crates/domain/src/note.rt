@@ -2,12 +2,14 @@
 use crate::payload::value_at;
 use crate::payload::word_at;
 use bmap::Counts;
+use bmap::Kind;
 use index::byte_at;
 ghost use mathlib.Core.Bool.{true};
 ghost use mathlib.Core.Path.{_≡_};
 ghost use Prim.Native.Nat.{_<_};
 ghost use lib.Dec.{eqb, leb};
 ghost use lib.ListN.{set};
+ghost use Rattle.bmap.specs.Line.{fluentKind, knowledgeKind, entryKind, executableKind};
 ghost use Rattle.bmap.specs.Limits.{mostEntries};
 ghost use Rattle.bmap.specs.Plain.{if-else};
 ghost use Rattle.bmap.specs.Payload.{byte, wordAt, valueAt};
@@ -21,20 +23,20 @@ pub(crate) fn count_frame(n: Counts, kind: u8, x: u8) -> Counts
 {
     let mut r = n;
     match kind {
-        0xA1 => {
+        Kind::AGENTS => {
             r.agents = x as usize;
         }
-        0xA2 => {
+        Kind::FLUENT => {
             r.fluents = n.fluents + 1;
         }
-        0xA3 => {
+        Kind::KNOWLEDGE => {
             r.knowledge = n.knowledge + 1;
         }
-        0xA4 => {
+        Kind::ENTRY => {
             r.entries = n.entries + 1;
         }
         _ => {
-            if kind >= 0xA5 {
+            if kind >= Kind::EXECUTABLE {
                 r.laws = n.laws + 1;
             }
         }
@@ -52,9 +54,9 @@ pub(crate) fn note_fluent(
     start: &mut [i16; Counts::FLUENTS],
 )
     requires { ⌜ room n kind ≡ true ⌝ }
-    ensures { λ _. ⌜ (now (lowest .exit) ≡ if-else (eqb kind 0xA2) (set (now (lowest .entry)) (n .fluents) (valueAt (now (p .entry)) 0)) (now (lowest .entry))) × (now (highest .exit) ≡ if-else (eqb kind 0xA2) (set (now (highest .entry)) (n .fluents) (valueAt (now (p .entry)) 2)) (now (highest .entry))) × (now (start .exit) ≡ if-else (eqb kind 0xA2) (set (now (start .entry)) (n .fluents) (valueAt (now (p .entry)) 4)) (now (start .entry))) ⌝ }
+    ensures { λ _. ⌜ (now (lowest .exit) ≡ if-else (eqb kind fluentKind) (set (now (lowest .entry)) (n .fluents) (valueAt (now (p .entry)) 0)) (now (lowest .entry))) × (now (highest .exit) ≡ if-else (eqb kind fluentKind) (set (now (highest .entry)) (n .fluents) (valueAt (now (p .entry)) 2)) (now (highest .entry))) × (now (start .exit) ≡ if-else (eqb kind fluentKind) (set (now (start .entry)) (n .fluents) (valueAt (now (p .entry)) 4)) (now (start .entry))) ⌝ }
 {
-    if kind == 0xA2 {
+    if kind == Kind::FLUENT {
         let i = n.fluents;
         lowest[i] = value_at(p, 0);
         highest[i] = value_at(p, 2);
@@ -71,9 +73,9 @@ pub(crate) fn note_knowledge(
     knowers: &mut [u16; Counts::KNOWLEDGE],
 )
     requires { ⌜ room n kind ≡ true ⌝ }
-    ensures { λ _. ⌜ (now (known .exit) ≡ if-else (eqb kind 0xA3) (set (now (known .entry)) (n .knowledge) (byte (now (p .entry)) 0)) (now (known .entry))) × (now (knowers .exit) ≡ if-else (eqb kind 0xA3) (set (now (knowers .entry)) (n .knowledge) (wordAt (now (p .entry)) 1)) (now (knowers .entry))) ⌝ }
+    ensures { λ _. ⌜ (now (known .exit) ≡ if-else (eqb kind knowledgeKind) (set (now (known .entry)) (n .knowledge) (byte (now (p .entry)) 0)) (now (known .entry))) × (now (knowers .exit) ≡ if-else (eqb kind knowledgeKind) (set (now (knowers .entry)) (n .knowledge) (wordAt (now (p .entry)) 1)) (now (knowers .entry))) ⌝ }
 {
-    if kind == 0xA3 {
+    if kind == Kind::KNOWLEDGE {
         let i = n.knowledge;
         known[i] = byte_at(p, 0);
         knowers[i] = word_at(p, 1);
@@ -89,9 +91,9 @@ pub(crate) fn note_entry(
     crews: &mut [u16; Counts::ENTRIES],
 )
     requires { ⌜ room n kind ≡ true ⌝ }
-    ensures { λ _. ⌜ (now (names .exit) ≡ if-else (eqb kind 0xA4) (set (now (names .entry)) (n .entries) (byte (now (p .entry)) 0)) (now (names .entry))) × (now (crews .exit) ≡ if-else (eqb kind 0xA4) (set (now (crews .entry)) (n .entries) (wordAt (now (p .entry)) 1)) (now (crews .entry))) ⌝ }
+    ensures { λ _. ⌜ (now (names .exit) ≡ if-else (eqb kind entryKind) (set (now (names .entry)) (n .entries) (byte (now (p .entry)) 0)) (now (names .entry))) × (now (crews .exit) ≡ if-else (eqb kind entryKind) (set (now (crews .entry)) (n .entries) (wordAt (now (p .entry)) 1)) (now (crews .entry))) ⌝ }
 {
-    if kind == 0xA4 {
+    if kind == Kind::ENTRY {
         let i = n.entries;
         names[i] = byte_at(p, 0);
         crews[i] = word_at(p, 1);
@@ -100,10 +102,10 @@ pub(crate) fn note_entry(
 
 // A5: its entry has an executability law.
 pub(crate) fn note_ready(kind: u8, p: &[u8], ready: &mut [u8; Counts::ENTRIES])
-    requires { ⌜ (kind ≡ 0xA5 → byte (now p) 0 < mostEntries) ⌝ }
-    ensures { λ _. ⌜ now (ready .exit) ≡ if-else (eqb kind 0xA5) (set (now (ready .entry)) (byte (now (p .entry)) 0) 1) (now (ready .entry)) ⌝ }
+    requires { ⌜ (kind ≡ executableKind → byte (now p) 0 < mostEntries) ⌝ }
+    ensures { λ _. ⌜ now (ready .exit) ≡ if-else (eqb kind executableKind) (set (now (ready .entry)) (byte (now (p .entry)) 0) 1) (now (ready .entry)) ⌝ }
 {
-    if kind == 0xA5 {
+    if kind == Kind::EXECUTABLE {
         let i = byte_at(p, 0) as usize;
         ready[i] = 1;
     }
@@ -112,9 +114,9 @@ pub(crate) fn note_ready(kind: u8, p: &[u8], ready: &mut [u8; Counts::ENTRIES])
 // A5 to A9: the place of a law's frame.
 pub(crate) fn note_law(n: Counts, kind: u8, at: u16, laws: &mut [u16; Counts::LAWS])
     requires { ⌜ room n kind ≡ true ⌝ }
-    ensures { λ _. ⌜ now (laws .exit) ≡ if-else (leb 0xA5 kind) (set (now (laws .entry)) (n .laws) at) (now (laws .entry)) ⌝ }
+    ensures { λ _. ⌜ now (laws .exit) ≡ if-else (leb executableKind kind) (set (now (laws .entry)) (n .laws) at) (now (laws .entry)) ⌝ }
 {
-    if kind >= 0xA5 {
+    if kind >= Kind::EXECUTABLE {
         let i = n.laws;
         laws[i] = at;
     }

@@ -1,6 +1,7 @@
 // Whether a payload is as its kind describes it: what refusal 4 asks.
 use crate::laws::law_fits;
 use bmap::Counts;
+use bmap::Kind;
 use index::byte_at;
 ghost use mathlib.Core.Path.{_≡_};
 ghost use Prim.Native.Nat.{_<_};
@@ -101,10 +102,10 @@ pub(crate) fn payload_fits(n: Counts, kind: u8, p: &[u8]) -> bool
     ensures { λ r. ⌜ r ≡ isSome (itemIn n kind (now (p .entry))) ⌝ }
 {
     match kind {
-        0xA1 => agents_fit(p),
-        0xA2 => fluent_fits(p),
-        0xA3 => knowledge_fits(n, p),
-        0xA4 => entry_fits(n, p),
+        Kind::AGENTS => agents_fit(p),
+        Kind::FLUENT => fluent_fits(p),
+        Kind::KNOWLEDGE => knowledge_fits(n, p),
+        Kind::ENTRY => entry_fits(n, p),
         _ => law_fits(n, kind, p),
     }
 }

@@ -14,8 +14,8 @@ use crate::acting::pushed;
 use crate::acting::share;
 use crate::acting::taken_in;
 use crate::held::STRIDE;
-use crate::reading::EXECUTABLE;
 use bmap::Counts;
+use bmap::Kind;
 use bmap::STORE;
 
 // The owner of a law that does not count.
@@ -100,7 +100,7 @@ fn owner_of(
     requires { ⌜ (at + 2 < storeSize) × ((w ≤ mostFluents) × ((length (now table) ≡ mostFluents) × (agents ≤ mostAgents))) ⌝ }
     ensures { λ r. ⌜ ((d : Domain) (l : Law) → Says d (drop at (now (held .entry))) l → Knowing d (now (table .entry)) w (now (crews .entry)) agents → r ≡ ownerOf d l) ⌝ }
 {
-    if held[at] != EXECUTABLE {
+    if held[at] != Kind::EXECUTABLE {
         return NOBODY;
     }
     let e = held[at + 2];

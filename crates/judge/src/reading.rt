@@ -18,6 +18,7 @@ use crate::held::STRIDE;
 use crate::knowledge::end_own;
 use crate::knowledge::first_own;
 use bmap::Counts;
+use bmap::Kind;
 use bmap::LEVELS;
 use bmap::STORE;
 use bmap::Sheet;
@@ -25,17 +26,6 @@ use law::Evaluated;
 use law::Judged;
 use number::Truth;
 use number::Value;
-
-// The kinds of laws.
-pub(crate) const EXECUTABLE: u8 = 0xA5;
-
-pub(crate) const EFFECT: u8 = 0xA6;
-
-pub(crate) const STATIC: u8 = 0xA7;
-
-pub(crate) const CONCURRENCY: u8 = 0xA8;
-
-pub(crate) const GOAL: u8 = 0xA9;
 
 // What the constraint of a law gives at position j. It stands after kind and count, and after the entry if there is one.
 pub(crate) fn constraint_of(
@@ -95,7 +85,7 @@ pub(crate) fn wanted(
     requires { ⌜ at + 2 < storeSize ⌝ }
     ensures { λ r. ⌜ ((d : Domain) (h : History) (l : Law) (names : Names) → length (now (held .entry)) ≡ storeSize → Says d (drop at (now (held .entry))) l → Occurring d names entries → Seen true d h (now (levels .entry)) (now (occurred .entry)) j → wantsOf r ≡ sets d h j names l) ⌝ }
 {
-    if held[at] != EFFECT {
+    if held[at] != Kind::EFFECT {
         return Wants::Leaves;
     }
     if !has_entry(entries, wide(held[at + 2])) {
@@ -172,10 +162,10 @@ pub(crate) fn all_runs(held: &[u8; STORE], owners: &[u8; Counts::LAWS], n: usize
 {
     let first = first_own(owners, n);
     let last = end_own(owners, n);
-    let effect = run_of(held, n, EFFECT);
-    let fixed = run_of(held, n, STATIC);
-    let concurrency = run_of(held, n, CONCURRENCY);
-    let goal = run_of(held, n, GOAL);
+    let effect = run_of(held, n, Kind::EFFECT);
+    let fixed = run_of(held, n, Kind::STATIC);
+    let concurrency = run_of(held, n, Kind::CONCURRENCY);
+    let goal = run_of(held, n, Kind::GOAL);
     Runs {
         first,
         last,

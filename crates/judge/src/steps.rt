@@ -20,15 +20,13 @@ use crate::effects::Settled;
 use crate::effects::settle;
 use crate::landing::new_levels;
 use crate::landing::put_state;
-use crate::reading::CONCURRENCY;
-use crate::reading::GOAL;
 use crate::reading::Runs;
-use crate::reading::STATIC;
 use crate::states::copy_levels;
 use crate::verdict::Check;
 use crate::verdict::Fault;
 use crate::verdict::Verdict;
 use bmap::Counts;
+use bmap::Kind;
 use bmap::LEVELS;
 use bmap::STORE;
 use bmap::Sheet;
@@ -78,7 +76,7 @@ fn land(
                 held,
                 fixed.from,
                 fixed.to,
-                STATIC,
+                Kind::STATIC,
                 Fault::Static,
                 levels,
                 occurred,
@@ -132,7 +130,7 @@ fn take_step(
         held,
         together.from,
         together.to,
-        CONCURRENCY,
+        Kind::CONCURRENCY,
         Fault::Concurrency,
         levels,
         occurred,
@@ -248,7 +246,7 @@ pub(crate) fn run_sheet(
         held,
         fixed.from,
         fixed.to,
-        STATIC,
+        Kind::STATIC,
         Fault::Static,
         levels,
         &occurred,
@@ -288,7 +286,7 @@ pub(crate) fn run_sheet(
         held,
         goal.from,
         goal.to,
-        GOAL,
+        Kind::GOAL,
         Fault::Goal,
         levels,
         &occurred,

@@ -13,7 +13,8 @@ use lib.Seq.{getD-drop}
 use borrow.Author.Tests.{eqb-true, eqb-false, eq-eqb, ne-eqb, le-leb}
 use Rattle.bmap.specs.Refusal.{Answer, got, refused, need, then}
 use Rattle.bmap.specs.Line.{Frame, linesOf, bytes, framed, decode, stored}
-use Rattle.line.specs.Read.{Taken, frameSize, said, firstOf, spelt}
+use Rattle.bmap.specs.Limits.{frameSize}
+use Rattle.line.specs.Read.{Taken, said, firstOf, spelt}
 use Rattle.line.specs.Within.{Begins, frameOf}
 use Rattle.line.proofs.Digits.{spelt-most}
 use Rattle.line.proofs.Spelling.{beyond, passed, passed-on, stops, stops-anywhere}

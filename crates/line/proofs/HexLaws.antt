@@ -10,10 +10,9 @@ use lib.Dec.{eqb, leb}
 use lib.ListN.{length, length-append}
 use borrow.Author.Tests.{eqb-true, eq-eqb, ne-eqb, leb-true, le-leb}
 use Rattle.bmap.specs.Plain.{both}
-use Rattle.bmap.specs.Limits.{mostPayload}
+use Rattle.bmap.specs.Limits.{mostPayload, frameSize}
 use Rattle.bmap.specs.Refusal.{Answer, got, refused, then}
 use Rattle.bmap.specs.Line.{Line, Frame, lineFeed, linesOf, bytes, framed, decode, stored, digitFor, hex, lineFor}
-use Rattle.line.specs.Read.{frameSize}
 use Rattle.line.proofs.Lists.{Bytes}
 use Rattle.line.proofs.Digits.{Pair, NoPair, pair-is, pair-back, digit-for-least, two-suc}
 use Rattle.line.proofs.Spelling.{bytes-pair}

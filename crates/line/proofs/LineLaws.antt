@@ -10,11 +10,11 @@ use lib.ListN.{length, getD, take, drop, length-append, take-append-drop, List·
 use lib.Seq.{drop-at, drop-append-le, length-take-le}
 use borrow.Author.Tests.{le-leb, lt-leb}
 use Rattle.bmap.specs.Plain.{if-else}
-use Rattle.bmap.specs.Limits.{mostPayload}
+use Rattle.bmap.specs.Limits.{mostPayload, frameSize}
 use Rattle.bmap.specs.Refusal.{Answer, got, refused, then}
 use Rattle.bmap.specs.Line.{Line, Frame, lineFeed, linesOf, bytes, decode, stored, hex, lineFor}
 use Rattle.bmap.specs.Buffer.{over}
-use Rattle.line.specs.Read.{Taken, frameSize, firstOf, lineRead, bytesRead, spelt}
+use Rattle.line.specs.Read.{Taken, firstOf, lineRead, bytesRead, spelt}
 use Rattle.line.specs.Within.{Begins}
 use Rattle.line.proofs.Digits.{spelt-most}
 use Rattle.line.proofs.Spelling.{spelt-all}

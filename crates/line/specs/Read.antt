@@ -5,16 +5,12 @@ use mathlib.Core.Option.{Option, none, some}
 use lib.Dec.{leb}
 use lib.ListN.{length}
 use Rattle.bmap.specs.Plain.{if-else}
-use Rattle.bmap.specs.Limits.{mostPayload}
+use Rattle.bmap.specs.Limits.{frameSize}
 use Rattle.bmap.specs.Refusal.{Answer, got, refused, then, numberOf}
 use Rattle.bmap.specs.Line.{Line, linesOf, digit, decode, stored}
 use Rattle.bmap.specs.Buffer.{over}
 use Rattle.line.specs.declared.read.FirstLine.{FirstLine}
 use Rattle.line.specs.declared.read.FirstLine.the-variants.{Nothing, Refused, Frame}
-
--- kind, count and payload, at most
-abbrev pub frameSize : ℕ
-frameSize = mostPayload + 2
 
 -- of a line that decodes: its frame's bytes, and its characters with the LF
 pub record Taken : Type 0 where

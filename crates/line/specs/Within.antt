@@ -8,7 +8,8 @@ use Rattle.bmap.specs.Plain.{if-else}
 use Rattle.bmap.specs.Refusal.{Answer, got, refused}
 use Rattle.bmap.specs.Line.{digit}
 use Rattle.bmap.specs.declared.refusal.Refusal.the-variants.{BadLine, BadCount}
-use Rattle.line.specs.Read.{frameSize, spelt}
+use Rattle.bmap.specs.Limits.{frameSize}
+use Rattle.line.specs.Read.{spelt}
 use Rattle.line.specs.declared.read.FirstLine.{FirstLine}
 use Rattle.line.specs.declared.read.FirstLine.the-variants.{Refused, Frame}
 

@@ -11,7 +11,6 @@ pub use buffer::is_zero_from;
 pub use buffer::zero_from;
 pub use frame::FrameAt;
 pub use frame::frame_at;
-pub use read::FRAME;
 pub use read::FirstLine;
 pub use read::read_line;
 pub use write::Written;

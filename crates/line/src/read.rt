@@ -1,7 +1,7 @@
 // The line at the front of a text, to the bytes of its frame.
 use crate::digit::LINE_FEED;
 use crate::digit::pair;
-use bmap::PAYLOAD;
+use bmap::FRAME;
 use bmap::Refusal;
 ghost use mathlib.Core.Path.{_≡_};
 ghost use Prim.Native.Nat.{min, _≤_, _*_};
@@ -9,11 +9,9 @@ ghost use lib.ListN.{length, getD};
 ghost use lib.Dec.{eqb};
 ghost use Rattle.bmap.specs.Buffer.{over};
 ghost use Rattle.bmap.specs.Line.{linesOf, lineFeed};
-ghost use Rattle.line.specs.Read.{frameSize, said, firstOf, lineRead, spelt, bytesRead};
+ghost use Rattle.bmap.specs.Limits.{frameSize};
+ghost use Rattle.line.specs.Read.{said, firstOf, lineRead, spelt, bytesRead};
 ghost use Rattle.line.specs.Within.{Begins, frameOf};
-
-// Kind, count and payload, at most.
-pub const FRAME: usize = PAYLOAD + 2;
 
 pub enum FirstLine {
     // No character is left.

@@ -11,13 +11,13 @@ use lib.Seq.{drop-cons, take-suc, length-take-le, set-at, take-at, getD-drop}
 use borrow.Author.Tests.{lt-ltb, le-ltb, le-leb, lt-leb, eq-eqb, ne-eqb}
 use Rattle.bmap.specs.Plain.{flat}
 use Rattle.bmap.proofs.PlainLaws.{flat-one}
-use Rattle.bmap.specs.Limits.{mostSteps, sheetSize}
+use Rattle.bmap.specs.Limits.{mostSteps, sheetSize, frameSize}
 use Rattle.bmap.specs.Refusal.{refused, Reading, read, refusedAt, afterwards}
 use Rattle.bmap.specs.Line.{linesOf, decode, stored}
 use Rattle.bmap.specs.Domain.{Names}
 use Rattle.bmap.specs.Buffer.{over, padded, fill}
 use Rattle.bmap.specs.Sheet.{stepOf, stepsFrom, stepsIn, readSheet}
-use Rattle.line.specs.Read.{frameSize, lineRead}
+use Rattle.line.specs.Read.{lineRead}
 use Rattle.line.proofs.Lists.{part-to-end}
 use Rattle.line.proofs.LineLaws.{Takes, line-nothing, line-refused}
 use Rattle.sheet.specs.Step.{agentsAllowed, outcome, counted, namesIn, LineRefused, LineStep}

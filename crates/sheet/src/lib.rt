@@ -8,9 +8,6 @@ pub use writer::write;
 ghost use mathlib.Core.Path.{_≡_};
 ghost use Rattle.sheet.specs.Step.{agentsAllowed};
 
-// The kind of a frame that is one step.
-const STEP: u8 = 0xB1;
-
 // May so many agents have a sheet.
 fn agents_known(agents: usize) -> bool
     ensures { λ r. ⌜ r ≡ agentsAllowed agents ⌝ }

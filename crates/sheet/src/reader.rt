@@ -1,9 +1,9 @@
 // The lines of a sheet, to the names step after step.
-use crate::STEP;
 use crate::agents_known;
+use bmap::FRAME;
+use bmap::Kind;
 use bmap::Refusal;
 use bmap::Sheet;
-use line::FRAME;
 use line::FirstLine;
 use line::read_line;
 use line::zero_from;
@@ -11,9 +11,8 @@ ghost use mathlib.Core.Path.{_≡_};
 ghost use Prim.Native.Nat.{_+_, _≤_};
 ghost use lib.ListN.{length, take, drop};
 ghost use Rattle.bmap.specs.Buffer.{over};
-ghost use Rattle.bmap.specs.Limits.{mostAgents, sheetSize};
+ghost use Rattle.bmap.specs.Limits.{mostAgents, sheetSize, frameSize};
 ghost use Rattle.bmap.specs.Sheet.{readSheet};
-ghost use Rattle.line.specs.Read.{frameSize};
 ghost use Rattle.sheet.specs.Answer.{readingOf};
 ghost use Rattle.sheet.specs.Step.{outcome, counted, namesIn, NextIs};
 
@@ -97,7 +96,7 @@ fn next_step(rest: &[u8], agents: usize, steps: usize, frame: &mut [u8]) -> Next
         FirstLine::Nothing => Next::End,
         FirstLine::Refused(refusal) => Next::Refused(refusal),
         FirstLine::Frame { bytes, characters } => {
-            if frame[0] != STEP {
+            if frame[0] != Kind::STEP {
                 return Next::Refused(Refusal::BadKind);
             }
             if steps >= Sheet::STEPS {

@@ -1,6 +1,6 @@
 // The steps of a sheet, to its lines.
-use crate::STEP;
 use crate::agents_known;
+use bmap::Kind;
 use bmap::Refusal;
 use bmap::Sheet;
 use line::Written;
@@ -46,7 +46,7 @@ fn put_steps(sheet: &[u8], agents: usize, steps: usize, text: &mut [u8])
     let mut left = steps;
     let mut used: usize = 0;
     while left > 0 {
-        put_line(STEP, &rest[..agents], &mut text[used..]);
+        put_line(Kind::STEP, &rest[..agents], &mut text[used..]);
         used += line;
         rest = &rest[agents..];
         left -= 1;

@@ -3,7 +3,8 @@ use mathlib.Core.Path.{_≡_, sym, ap, _∙_}
 use lib.ListN.{length, drop, length-drop}
 use native.Mathlib.Omega.{arith}
 use borrow.Author.Tests.{eqb-true, eqb-false}
-use Rattle.line.specs.Read.{spelt, frameSize, said}
+use Rattle.bmap.specs.Limits.{frameSize}
+use Rattle.line.specs.Read.{spelt, said}
 use Rattle.line.proofs.Lists.{part-to-end}
 use Rattle.line.proofs.Digits.{spelt-most, spelt-half}
 use Rattle.line.proofs.FirstLaws.{line-ends, line-stops, line-too-long, line-stops-late}

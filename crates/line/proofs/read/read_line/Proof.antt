@@ -1,7 +1,7 @@
 use mathlib.Core.Path.{sym}
 use native.Mathlib.Omega.{arith}
 use lib.Seq.{length-take-le}
-use Rattle.line.specs.Read.{frameSize}
+use Rattle.bmap.specs.Limits.{frameSize}
 use Rattle.line.proofs.LineLaws.{read-no-room, read-nothing, read-begins, read-done}
 use borrow.Author.Needs.{needs}
 use Rattle.line.proofs.read.read_line.Statement.{statement}

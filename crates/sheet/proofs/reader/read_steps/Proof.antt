@@ -1,7 +1,7 @@
 use Rattle.sheet.proofs.ReadLaws.{Done, done-start, done-end, done-refused, done-more}
 use Rattle.sheet.specs.Step.{NextIs, LineStep}
 use Rattle.line.proofs.Lists.{part-to-end, length-back}
-use Rattle.line.specs.Read.{frameSize}
+use Rattle.bmap.specs.Limits.{frameSize}
 use Rattle.bmap.specs.Limits.{mostSteps}
 use denote.Ref.{now}
 use borrow.Author.Needs.{needs}

@@ -11,6 +11,7 @@ use lib.IntN.{ℤ, pos}
 use lib.ListN.{length, getD}
 use borrow.Author.Tests.{ltb-true}
 use Rattle.bmap.specs.Plain.{maybe, numbers}
+use Rattle.bmap.specs.Limits.{frameSize}
 use Rattle.bmap.specs.Refusal.{Answer, got, refused, known, Reading, read, refusedAt}
 use Rattle.bmap.specs.Line.{Frame}
 use Rattle.bmap.specs.Tree.{always}
@@ -19,7 +20,7 @@ use Rattle.bmap.specs.Accept.{nothing, countsOf, complete, taken}
 use Rattle.bmap.specs.Store.{framesIn, whatWasRead, domainIn}
 use Rattle.bmap.proofs.PlainLaws.{both-true}
 use Rattle.index.specs.declared.Index.{Index}
-use Rattle.index.specs.Index.{fluentAt, knowledgeAt, entryOf, lawOf, lawAt, domainOf, Sound}
+use Rattle.index.specs.Index.{frameBytes, fluentAt, knowledgeAt, entryOf, lawBytes, lawOf, lawAt, domainOf, Sound}
 use Rattle.domain.specs.declared.found.Found.{Found}
 use Rattle.domain.specs.Found.{lawPlaces, indexWith, nothingFound, foundOf, foundIn}
 use Rattle.domain.proofs.Rows.{length-mapped, row-at, row-back, numbers-all}
@@ -77,15 +78,21 @@ module _ (s : List ℕ) (d : Domain) (places : List ℕ) (w : Whole s d places) 
       ap (λ (a : ℕ). record { name = a; crew = entryOf index i .crew }) (row-back (λ (x : Entry). x .name) 64 l noEntry i h)
       ∙ ap (λ (a : ℕ). record { name = getD l i noEntry .name; crew = a }) (row-back (λ (x : Entry). x .crew) 64 l noEntry i h))
 
+  as-many : length places ≡ length (d .laws)
+  as-many = sym (length-mapped (lawThere s (countsOf d)) places) ∙ ap length (w .stands .there) ∙ length-mapped some (d .laws)
+
   law-is : (i : ℕ) → i < length (d .laws) → lawOf s index i ≡ some (getD (d .laws) i noLaw)
   unfolding indexWith lawOf
   law-is i h =
-      let n : length places ≡ length (d .laws)
-      = sym (length-mapped (lawThere s (countsOf d)) places) ∙ ap length (w .stands .there) ∙ length-mapped some (d .laws) in
-      ap (lawThere s (countsOf d)) (row-at 128 0 places 0 i (omega (arith, n))) ∙ nth (lawThere s (countsOf d)) some places (d .laws) noLaw i (w .stands .there) h
+      ap (lawThere s (countsOf d)) (row-at 128 0 places 0 i (omega (arith, as-many))) ∙ nth (lawThere s (countsOf d)) some places (d .laws) noLaw i (w .stands .there) h
 
   law-at : (i : ℕ) → i < length (d .laws) → lawAt s index i ≡ getD (d .laws) i noLaw
   law-at i h = ap (λ o. maybe o (must static always) (λ l. l)) (law-is i h)
+
+  law-short : (i : ℕ) → i < length (d .laws) → length (lawBytes s index i) ≤ frameSize
+  unfolding indexWith
+  law-short i h =
+      let k : i < length places = omega (arith, as-many) in subst (λ (at : ℕ). length (frameBytes s at) ≤ frameSize) (sym (row-at 128 0 places 0 i k)) (w .stands .short i k)
 
   domain-back : domainOf s index ≡ d
   unfolding domainOf indexWith
@@ -109,6 +116,7 @@ module _ (s : List ℕ) (d : Domain) (places : List ℕ) (w : Whole s d places) 
     entries = w .stands .few .entries;
     laws = w .stands .few .laws;
     law = λ i h. law-is i h ∙ ap some (sym (law-at i h));
+    short = law-short;
   }
 
 -- ---- the domain of an accepted store, and the places of its laws

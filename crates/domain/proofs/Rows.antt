@@ -1,12 +1,13 @@
 -- Lists that are read and written by number: a row with zeros after, the numbers from a place on, one element more. Assumes nothing.
 use Prim.Native.Nat.{ℕ, zero, suc, _+_, _-_, _<_}
+use native.Mathlib.Decide.{decLt}
 use native.Mathlib.Numerals.{add-one}
 use native.Mathlib.Omega.{arith}
-use mathlib.Core.Path.{_≡_, refl, sym, ap, _∙_}
+use mathlib.Core.Path.{_≡_, refl, sym, ap, subst, _∙_}
 use mathlib.Core.Bool.{Bool}
 use mathlib.Core.List.{List, [], _∷_, _++_, append-assoc, map}
 use lib.ListN.{length, getD, set, replicate, length-append, List·getD-append, List·getD-map}
-use lib.Seq.{set-append-seam}
+use lib.Seq.{getD-append-seam, set-append-seam}
 use Rattle.bmap.specs.Plain.{both, either, any, all, numbers}
 use Rattle.bmap.proofs.PlainLaws.{either-end, either-assoc}
 use Rattle.domain.specs.Found.{row}
@@ -16,6 +17,15 @@ use Rattle.domain.specs.Found.{row}
 module _ {A : Type 0} (l : List A) (a : A) where
   pub length-snoc : length (l ++ (a ∷ [])) ≡ suc (length l)
   length-snoc = length-append l (a ∷ []) ∙ add-one (length l)
+
+  -- what is so of each of them
+  pub each-snoc : (P : A → Type 0) (d : A) → ((i : ℕ) → i < length l → P (getD l i d)) → P a → (i : ℕ) → i < length (l ++ (a ∷ [])) → P (getD (l ++ (a ∷ [])) i d)
+  each-snoc P d h p i k = elim (decLt i (length l)) [
+    | yes q ↦ subst P (sym (List·getD-append l (a ∷ []) d i q)) (h i q)
+    | no q ↦
+        let z : length l ≡ i = omega (arith, length-snoc) in
+        subst (λ (j : ℕ). P (getD (l ++ (a ∷ [])) j d)) z (subst P (sym (getD-append-seam l a [] d)) p)
+  ]
 
 module _ {A B : Type 0} (f : A → B) where
   pub map-snoc : (l : List A) (a : A) → map f (l ++ (a ∷ [])) ≡ map f l ++ (f a ∷ [])

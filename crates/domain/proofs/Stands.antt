@@ -7,10 +7,11 @@ use mathlib.Core.Bool.{Bool, true, false, not}
 use mathlib.Core.List.{List, [], _∷_, _++_, append-assoc, append-nil, map}
 use mathlib.Core.Option.{Option, none, some}
 use lib.Dec.{eqb, leb}
-use lib.ListN.{length, getD, take, drop, length-drop}
+use lib.ListN.{length, getD, take, drop, length-drop, length-take}
 use lib.Seq.{take-nil, length-take-le, getD-take, getD-drop, drop-drop}
 use borrow.Author.Tests.{leb-true, eqb-false, le-leb, lt-leb}
 use Rattle.bmap.specs.Plain.{if-else, maybe}
+use Rattle.bmap.specs.Limits.{frameSize}
 use Rattle.bmap.specs.Refusal.{Answer, got, refused, need, then, read, atLine}
 use Rattle.bmap.specs.Line.{Frame, stored}
 use Rattle.bmap.specs.Domain.{Domain, Fluent, Knows, Entry, Law}
@@ -22,7 +23,7 @@ use Rattle.bmap.proofs.PlainLaws.{both-true}
 use Rattle.index.specs.Index.{frameBytes}
 use Rattle.domain.specs.Check.{refusedIn}
 use Rattle.domain.specs.Found.{lawPlaces}
-use Rattle.domain.proofs.Rows.{length-snoc, map-snoc, map-same}
+use Rattle.domain.proofs.Rows.{length-snoc, each-snoc, map-snoc, map-same}
 use Rattle.domain.proofs.CheckLaws.{room-agents, room-fluents, room-knowledge, room-entries, room-laws}
 use Rattle.domain.proofs.Passed.{Case, is-agents, is-fluent, is-knowledge, is-entry, is-law, Passed, passed}
 
@@ -94,6 +95,11 @@ module _ (s : List ℕ) (at : ℕ) (f : Frame) (h : Here s at f) where
       let p : drop 2 (frameBytes s at) ≡ f .payload
       = two-on (drop at s) (getD s (at + 1) 0) ∙ ap (take (getD s (at + 1) 0)) (drop-drop 2 at s) ∙ sym (h .payload) in
       ap (λ i. lawIn n i (drop 2 (frameBytes s at))) k ∙ ap (lawIn n (f .kind)) p
+
+  -- in no more bytes than a frame has
+  frame-short : length (frameBytes s at) ≤ frameSize
+  unfolding frameBytes
+  frame-short = omega (arith, h .count, h .most, length-take (getD s (at + 1) 0 + 2) (drop at s))
 
 -- a law asks only how many fluents and entries there are
 pub law-same : (n m : Counts) (k : ℕ) (p : List ℕ) → n .fluents ≡ m .fluents → n .entries ≡ m .entries → lawIn n k p ≡ lawIn m k p
@@ -204,6 +210,7 @@ pub record Stands (s : List ℕ) (p : Partial) (places : List ℕ) (at : ℕ) : 
   pub there : map (lawThere s (countsOf (p .domain))) places ≡ map some (p .domain .laws)
   pub late : 0 < length (p .domain .laws) → 0xA5 ≤ p .latest
   pub before : at ≤ 122 * frames (p .domain)
+  pub short : (i : ℕ) → i < length places → length (frameBytes s (getD places i 0)) ≤ frameSize
 
 abbrev pub placesWith : List ℕ → ℕ → Frame → List ℕ
 placesWith places at f = if-else (leb 0xA5 (f .kind)) (places ++ (at ∷ [])) places
@@ -265,16 +272,21 @@ module _ (s : List ℕ) (p : Partial) (places : List ℕ) (at : ℕ) (st : Stand
   late-on : 0 < length (add (v .item) (p .domain) .laws) → 0xA5 ≤ f .kind
   late-on g = elim (decLe 0xA5 (f .kind)) [ yes k ↦ k | no k ↦ absurd (omega (arith, ap length (less .law-less (omega arith)), no-law (omega arith))) ]
 
+  short-on : (b : Bool) (i : ℕ) → i < length (if-else b (places ++ (at ∷ [])) places) → length (frameBytes s (getD (if-else b (places ++ (at ∷ [])) places) i 0)) ≤ frameSize
+  short-on true = each-snoc places at (λ (k : ℕ). length (frameBytes s k) ≤ frameSize) 0 (st .short) (frame-short s at f h)
+  short-on false = st .short
+
   pub stands-next : Stands s (with p f (v .item)) (placesWith places at f) (at + length (stored f))
   stands-next = record {
     few = less .few (st .few);
     there = there-on;
     late = late-on;
     before = omega (arith, st .before, h .most, less .one-more);
+    short = short-on (leb 0xA5 (f .kind));
   }
 
 pub stands-first : (s : List ℕ) → Stands s nothing [] 0
-stands-first s = record { few = few-first; there = refl; late = λ h. absurd (omega arith); before = omega arith }
+stands-first s = record { few = few-first; there = refl; late = λ h. absurd (omega arith); before = omega arith; short = λ i h. absurd (omega arith) }
 
 -- ---- all the frames of a store
 

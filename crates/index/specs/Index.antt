@@ -4,9 +4,9 @@ use mathlib.Core.Path.{_≡_}
 use mathlib.Core.List.{List, map}
 use mathlib.Core.Option.{Option, some}
 use lib.IntN.{pos}
-use lib.ListN.{getD, take, drop}
+use lib.ListN.{length, getD, take, drop}
 use Rattle.bmap.specs.Plain.{numbers, maybe}
-use Rattle.bmap.specs.Limits.{mostAgents, mostFluents, mostKnowledge, mostEntries, mostLaws}
+use Rattle.bmap.specs.Limits.{mostAgents, mostFluents, mostKnowledge, mostEntries, mostLaws, frameSize}
 use Rattle.bmap.specs.Tree.{always}
 use Rattle.bmap.specs.Domain.{Domain, Fluent, Knows, Entry, Law, must, static}
 use Rattle.bmap.specs.Payload.{lawIn}
@@ -45,7 +45,7 @@ domainOf s x = record {
   laws = map (lawAt s x) (numbers 0 (x .counts .laws));
 }
 
--- an index of an accepted store: its numbers keep their limits, and each of its laws is one
+-- an index of an accepted store: its numbers keep their limits, and each of its laws is one, in no more bytes than a frame has
 pub record Sound (s : List ℕ) (x : Index) : Type 0 where
   pub someAgent : 1 ≤ x .counts .agents
   pub agents : x .counts .agents ≤ mostAgents
@@ -54,3 +54,4 @@ pub record Sound (s : List ℕ) (x : Index) : Type 0 where
   pub entries : x .counts .entries ≤ mostEntries
   pub laws : x .counts .laws ≤ mostLaws
   pub law : (i : ℕ) → i < x .counts .laws → lawOf s x i ≡ some (lawAt s x i)
+  pub short : (i : ℕ) → i < x .counts .laws → length (lawBytes s x i) ≤ frameSize

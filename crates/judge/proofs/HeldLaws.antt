@@ -5,20 +5,16 @@ use mathlib.Core.List.{List, _++_}
 use mathlib.Core.Option.{some}
 use native.Mathlib.Omega.{arith}
 use native.Mathlib.Decide.{decLt}
-use lib.ListN.{length, getD, take, drop, length-drop, length-take, take-append-drop, List·getD-append}
+use lib.ListN.{length, getD, take, drop, length-drop, take-append-drop, List·getD-append}
 use lib.Seq.{paste, take-paste, take-take, take-length, take-at, drop-at, drop-append-le, length-take-le}
+use Rattle.bmap.specs.Limits.{frameSize}
 use Rattle.bmap.specs.Domain.{Domain, Law}
 use Rattle.bmap.specs.Payload.{lawIn}
 use Rattle.bmap.specs.Accept.{countsOf}
 use Rattle.index.specs.Index.{frameBytes}
-use Rattle.judge.specs.Told.{Says, Held, frameOf, stride}
+use Rattle.judge.specs.Told.{Says, Held, frameOf}
 use Rattle.judge.proofs.ByteLaws.{payload-some}
 use Rattle.judge.proofs.StateLaws.{part-take}
-
--- a frame has no more bytes than its place has room
-pub frame-short : (store : List ℕ) (at : ℕ) → getD store (at + 1) 0 < 256 → length (frameBytes store at) ≤ stride
-unfolding frameBytes
-frame-short store at h = omega (arith, length-take (getD store (at + 1) 0 + 2) (drop at store))
 
 module _ (held frame : List ℕ) (at : ℕ) (room : at + length frame ≤ length held) where
   -- what stands before a copy
@@ -35,24 +31,24 @@ module _ (held frame : List ℕ) (at : ℕ) (room : at + length frame ≤ length
       ∙ (ap (take (length frame)) (drop-at (take at held) (take (length frame) frame) at (length-take-le at held (omega arith)))
       ∙ (ap (take (length frame)) (take-length frame) ∙ take-length frame)))
 
-module _ (store places held : List ℕ) (i : ℕ) (before : Held store places i held) {frame held′ : List ℕ} (handed : frame ≡ frameBytes store (getD places i 0)) (short : (k : ℕ) → length (frameBytes store (getD places k 0)) ≤ stride)
-    (room : stride * i + stride ≤ length held) (e : held′ ≡ paste held (stride * i) frame (length frame)) where
+module _ (store places held : List ℕ) (i : ℕ) (before : Held store places i held) {frame held′ : List ℕ} (handed : frame ≡ frameBytes store (getD places i 0)) (short : (k : ℕ) → k ≤ i → length (frameBytes store (getD places k 0)) ≤ frameSize)
+    (room : frameSize * i + frameSize ≤ length held) (e : held′ ≡ paste held (frameSize * i) frame (length frame)) where
   pub hold-more : Held store places (i + 1) held′
   hold-more k h = elim (decLt k i) [
     | yes q ↦
         let w = length (frameBytes store (getD places k 0)) in
-        let p : stride * k + w ≤ stride * i = omega (arith, short k) in
-        sym (part-take (stride * k) w (stride * i) held′ p)
-        ∙ (ap (λ (l : List ℕ). take w (drop (stride * k) l)) (ap (take (stride * i)) e ∙ before-copy held frame (stride * i) fits)
-        ∙ (part-take (stride * k) w (stride * i) held p ∙ before k q))
+        let p : frameSize * k + w ≤ frameSize * i = omega (arith, short k (omega arith)) in
+        sym (part-take (frameSize * k) w (frameSize * i) held′ p)
+        ∙ (ap (λ (l : List ℕ). take w (drop (frameSize * k) l)) (ap (take (frameSize * i)) e ∙ before-copy held frame (frameSize * i) fits)
+        ∙ (part-take (frameSize * k) w (frameSize * i) held p ∙ before k q))
     | no q ↦
         let z : i ≡ k = omega arith in
         subst (λ (m : ℕ). take (length (frameBytes store (getD places m 0))) (frameOf held′ m) ≡ frameBytes store (getD places m 0)) z
-        (subst (λ (f : List ℕ). take (length f) (frameOf held′ i) ≡ f) handed (ap (λ (l : List ℕ). take (length frame) (frameOf l i)) e ∙ copied held frame (stride * i) fits))
+        (subst (λ (f : List ℕ). take (length f) (frameOf held′ i) ≡ f) handed (ap (λ (l : List ℕ). take (length frame) (frameOf l i)) e ∙ copied held frame (frameSize * i) fits))
   ]
     where
-      fits : stride * i + length frame ≤ length held
-      fits = let z : length frame ≡ length (frameBytes store (getD places i 0)) = ap length handed in omega (arith, short i)
+      fits : frameSize * i + length frame ≤ length held
+      fits = let z : length frame ≡ length (frameBytes store (getD places i 0)) = ap length handed in omega (arith, short i (omega arith))
 
 -- a law that is held is said there
 pub held-says : (d : Domain) (frame bytes : List ℕ) (l : Law) → take (length frame) bytes ≡ frame → lawIn (countsOf d) (getD frame 0 0) (drop 2 frame) ≡ some l → Says d bytes l

@@ -7,7 +7,7 @@ use lib.Dec.{eqb}
 use lib.IntN.{pos}
 use lib.ListN.{length, getD, take, drop}
 use Rattle.bmap.specs.Plain.{numbers}
-use Rattle.bmap.specs.Limits.{storeSize}
+use Rattle.law.specs.Evaluate.{heldSize}
 use Rattle.bmap.specs.Domain.{Fluent, Entry, has}
 use Rattle.bmap.specs.Payload.{lawIn}
 use Rattle.bmap.specs.Accept.{countsOf}
@@ -54,7 +54,7 @@ module _ (s : List ℕ) (x : Index) where
   unfolding lawOf
   law-says sound i h = ap (λ (c : Counts). lawIn c (getD (lawBytes s x i) 0 0) (drop 2 (lawBytes s x i))) counts-are ∙ (sound .law i h ∙ ap some (sym (law-number i h)))
 
-  pub index-lawful : (held : List ℕ) → Sound s x → length held ≡ storeSize → Held s (x .laws) (n .laws) held → Lawful (domainOf s x) held (n .laws)
+  pub index-lawful : (held : List ℕ) → Sound s x → length held ≡ heldSize → Held s (x .laws) (n .laws) held → Lawful (domainOf s x) held (n .laws)
   index-lawful held sound long copied = record {
     long = long;
     count = law-count;

@@ -7,7 +7,7 @@ use mathlib.Core.Option.{some}
 use lib.IntN.{ℤ, pos}
 use lib.ListN.{length, getD, take, drop}
 use Rattle.bmap.specs.Plain.{any, if-else}
-use Rattle.bmap.specs.Limits.{mostFluents, mostEntries, mostLaws, storeSize}
+use Rattle.bmap.specs.Limits.{mostFluents, mostEntries, mostLaws, frameSize}
 use Rattle.bmap.specs.Line.{effectKind, staticKind, concurrencyKind, goalKind}
 use Rattle.bmap.specs.Tree.{Con, always}
 use Rattle.bmap.specs.Meaning.{History}
@@ -16,6 +16,7 @@ use Rattle.bmap.specs.Judge.{carries}
 use Rattle.bmap.specs.Payload.{lawIn, asks}
 use Rattle.bmap.specs.Accept.{countsOf}
 use Rattle.index.specs.Index.{frameBytes}
+use Rattle.law.specs.Evaluate.{heldSize}
 use Rattle.judge.specs.declared.reading.Runs.{Runs}
 
 -- the parts that the laws of every kind have
@@ -51,13 +52,9 @@ pub record Says (d : Domain) (bytes : List ℕ) (l : Law) : Type 0 where
   pub stands : drop 2 bytes ≡ payload ++ more
   pub law : lawIn (countsOf d) (getD bytes 0 0) payload ≡ some l
 
--- law i is held at i times this: a frame is a kind, a count and at most 255 bytes
-abbrev pub stride : ℕ
-stride = 257
-
--- the bytes from law i on, where laws are held
+-- the bytes from law i on, where laws are held: each has room for a whole frame
 abbrev pub frameOf : List ℕ → ℕ → List ℕ
-frameOf held i = drop (stride * i) held
+frameOf held i = drop (frameSize * i) held
 
 -- the frames at these places of a store are held
 abbrev pub Held : List ℕ → List ℕ → ℕ → List ℕ → Type 0
@@ -65,15 +62,19 @@ Held store places n held = (i : ℕ) → i < n → take (length (frameBytes stor
 
 -- the held laws are the domain's
 pub record Lawful (d : Domain) (held : List ℕ) (n : ℕ) : Type 0 where
-  pub long : length held ≡ storeSize
+  pub long : length held ≡ heldSize
   pub count : length (d .laws) ≡ n
   pub law : (i : ℕ) → i < n → Says d (frameOf held i) (lawNumber d i)
 
+-- no entry has this number
+abbrev pub nobody : ℕ
+nobody = 255
+
 -- whose law it is, if its crew may read it: "a law that names a fluent known to nobody in the crew counts as false"
 abbrev pub ownerOf : Domain → Law → ℕ
-ownerOf d (executable e c) = if-else (readable d (entryAt d e) c) e 255
-ownerOf d (effect e c f x) = 255
-ownerOf d (must s c) = 255
+ownerOf d (executable e c) = if-else (readable d (entryAt d e) c) e nobody
+ownerOf d (effect e c f x) = nobody
+ownerOf d (must s c) = nobody
 
 -- a table has the owner of each law
 abbrev pub Owned : Domain → List ℕ → Type 0

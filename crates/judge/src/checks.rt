@@ -3,25 +3,26 @@ ghost use mathlib.Core.Path.{_≡_};
 ghost use mathlib.Core.Bool.{true};
 ghost use Prim.Native.Nat.{ℕ, _≤_, _<_};
 ghost use lib.ListN.{length, getD, drop};
-ghost use Rattle.bmap.specs.Limits.{mostAgents, mostEntries, mostLaws, storeSize};
+ghost use Rattle.bmap.specs.Limits.{mostAgents, mostEntries, mostLaws};
 ghost use Rattle.bmap.specs.Domain.{Domain, Names, Law, Scope};
 ghost use Rattle.bmap.specs.Meaning.{History};
 ghost use Rattle.bmap.specs.Payload.{asks};
 ghost use Rattle.bmap.specs.Judge.{each, placed, permits, permitted, mayOccur, holds, allHold};
+ghost use Rattle.law.specs.Evaluate.{heldSize};
 ghost use Rattle.number.specs.Answer.{truthOf};
 ghost use Rattle.judge.specs.Answer.{passOf, kindOf};
 ghost use Rattle.judge.specs.Told.{Belonging, Occurring, Says, Lawful, Owned, Within, Own, Owns, Seen, lawNumber, scopeKind};
 use crate::acting::has_agent;
 use crate::acting::has_entry;
 use crate::acting::wide;
-use crate::held::STRIDE;
 use crate::reading::constraint_of;
 use crate::verdict::Check;
 use crate::verdict::Fault;
 use bmap::Counts;
+use bmap::FRAME;
 use bmap::LEVELS;
-use bmap::STORE;
 use bmap::Sheet;
+use law::HELD;
 use number::Truth;
 
 // 1: "each agent by number: it names an action but belongs to no occurring entry with that name". The mask has the agents
@@ -44,7 +45,7 @@ pub(crate) fn check_agents(names: &[u8], agents: u16) -> Check
 
 // What one law says for entry i: the owners' table has the laws that its crew may read.
 fn try_law(
-    held: &[u8; STORE],
+    held: &[u8; HELD],
     owners: &[u8; Counts::LAWS],
     levels: &[i16; LEVELS],
     occurred: &[u64; Sheet::STEPS + 1],
@@ -59,12 +60,12 @@ fn try_law(
     if wide(owners[l]) != i {
         return Truth::Is(false);
     }
-    constraint_of(held, STRIDE * l + 3, levels, occurred, j)
+    constraint_of(held, FRAME * l + 3, levels, occurred, j)
 }
 
 // "its A5 laws in order until one is true": entry i.
 fn check_entry(
-    held: &[u8; STORE],
+    held: &[u8; HELD],
     owners: &[u8; Counts::LAWS],
     from: usize,
     to: usize,
@@ -96,7 +97,7 @@ fn check_entry(
 
 // 2: "each occurring entry by number".
 pub(crate) fn check_entries(
-    held: &[u8; STORE],
+    held: &[u8; HELD],
     owners: &[u8; Counts::LAWS],
     first: &[u8; Counts::ENTRIES],
     last: &[u8; Counts::ENTRIES],
@@ -133,7 +134,7 @@ pub(crate) fn check_entries(
 
 // A law of the scope whose kind is asked for, false: that fault.
 fn check_law(
-    held: &[u8; STORE],
+    held: &[u8; HELD],
     at: usize,
     kind: u8,
     fault: Fault,
@@ -142,7 +143,7 @@ fn check_law(
     j: usize,
     l: usize,
 ) -> Check
-    requires { ⌜ at < storeSize ⌝ }
+    requires { ⌜ at < heldSize ⌝ }
     ensures { λ r. ⌜ ((d : Domain) (h : History) (s : Scope) (law : Law) → kind ≡ scopeKind s → Says d (drop at (now (held .entry))) law → Seen (asks s) d h (now (levels .entry)) (now (occurred .entry)) j
         → passOf r ≡ holds s (kindOf fault) h j l law) ⌝ }
 {
@@ -162,7 +163,7 @@ fn check_law(
 
 // 3, 6 and the goals: each law of a kind in order.
 pub(crate) fn check_laws(
-    held: &[u8; STORE],
+    held: &[u8; HELD],
     from: usize,
     to: usize,
     kind: u8,
@@ -179,7 +180,7 @@ pub(crate) fn check_laws(
     while l < to {
         if let Check::Failed(found, n) = check_law(
             held,
-            STRIDE * l,
+            FRAME * l,
             kind,
             fault,
             levels,

@@ -13,14 +13,14 @@ ghost use Rattle.bmap.specs.Meaning.{History};
 ghost use Rattle.bmap.specs.Judge.{settled};
 ghost use Rattle.judge.specs.Told.{Lawful, Within, Occurring, Seen};
 ghost use Rattle.judge.specs.Settings.{settledOf, countOf};
-use crate::held::STRIDE;
 use crate::reading::Wants;
 use crate::reading::wanted;
 use crate::verdict::Fault;
 use bmap::Counts;
+use bmap::FRAME;
 use bmap::LEVELS;
-use bmap::STORE;
 use bmap::Sheet;
+use law::HELD;
 
 // So many settings, or the first fault and its law.
 pub enum Settled {
@@ -41,7 +41,7 @@ fn same_level(a: i32, b: i32) -> bool
 // The settings go to the front of two arrays, the oldest first. "a value differing from an earlier one for the same fluent:
 // kind 4, the later law": the exit with a label carries that law.
 pub(crate) fn settle(
-    held: &[u8; STORE],
+    held: &[u8; HELD],
     from: usize,
     to: usize,
     entries: u64,
@@ -59,7 +59,7 @@ pub(crate) fn settle(
     let mut m = 0;
     let mut l = from;
     'laws: while l < to {
-        match wanted(held, STRIDE * l, entries, levels, occurred, j) {
+        match wanted(held, FRAME * l, entries, levels, occurred, j) {
             Wants::Blank => {
                 return Settled::Clash(Fault::NoValue, l);
             }

@@ -20,10 +20,10 @@ use crate::steps::run_sheet;
 use crate::verdict::Judgement;
 use bmap::LEVELS;
 use bmap::Refusal;
-use bmap::STORE;
 use bmap::Sheet;
 use domain::index_of;
 use index::Index;
+use law::HELD;
 
 // What the checks need is found once: the laws, who knows what, whose laws count, where those of each kind stand.
 fn judge_steps(
@@ -42,7 +42,7 @@ fn judge_steps(
     let known = index.known;
     let knowers = index.knowers;
     let crews = index.crews;
-    let mut held = [0u8; STORE];
+    let mut held = [0u8; HELD];
     hold_laws(&mut held, store, &laws, counts.laws);
     let table = all_knowers(&known, &knowers, counts.knowledge, counts.fluents);
     let owners = all_owners(

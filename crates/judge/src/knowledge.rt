@@ -6,17 +6,18 @@ ghost use Prim.Native.Nat.{ℕ, _+_, _%_, _^_, _≤_, _<_};
 ghost use lib.Bits.{bitAnd};
 ghost use lib.Dec.{eqb};
 ghost use lib.ListN.{length, getD, set, drop};
-ghost use Rattle.bmap.specs.Limits.{mostAgents, mostFluents, mostEntries, mostLaws, storeSize};
+ghost use Rattle.bmap.specs.Limits.{mostAgents, mostFluents, mostEntries, mostLaws};
 ghost use Rattle.bmap.specs.Domain.{Domain, Law};
+ghost use Rattle.law.specs.Evaluate.{heldSize};
 ghost use Rattle.judge.specs.Masks.{unionFrom, maskFrom};
 ghost use Rattle.judge.specs.Told.{Says, Lawful, Owned, Knowing, ownerOf, FromOwn, ToOwn};
 use crate::acting::pushed;
 use crate::acting::share;
 use crate::acting::taken_in;
-use crate::held::STRIDE;
 use bmap::Counts;
+use bmap::FRAME;
 use bmap::Kind;
-use bmap::STORE;
+use law::HELD;
 
 // The owner of a law that does not count.
 const NOBODY: u8 = 255;
@@ -90,14 +91,14 @@ fn crew_of(crews: &[u16], e: u8, agents: usize) -> u16
 
 // The entry of an executability law that its crew may read.
 fn owner_of(
-    held: &[u8; STORE],
+    held: &[u8; HELD],
     at: usize,
     table: &[u16; Counts::FLUENTS],
     w: usize,
     crews: &[u16],
     agents: usize,
 ) -> u8
-    requires { ⌜ (at + 2 < storeSize) × ((w ≤ mostFluents) × ((length (now table) ≡ mostFluents) × (agents ≤ mostAgents))) ⌝ }
+    requires { ⌜ (at + 2 < heldSize) × ((w ≤ mostFluents) × ((length (now table) ≡ mostFluents) × (agents ≤ mostAgents))) ⌝ }
     ensures { λ r. ⌜ ((d : Domain) (l : Law) → Says d (drop at (now (held .entry))) l → Knowing d (now (table .entry)) w (now (crews .entry)) agents → r ≡ ownerOf d l) ⌝ }
 {
     if held[at] != Kind::EXECUTABLE {
@@ -112,7 +113,7 @@ fn owner_of(
 
 // The owner of each law.
 pub(crate) fn all_owners(
-    held: &[u8; STORE],
+    held: &[u8; HELD],
     n: usize,
     table: &[u16; Counts::FLUENTS],
     w: usize,
@@ -125,7 +126,7 @@ pub(crate) fn all_owners(
     let mut owners = [NOBODY; Counts::LAWS];
     let mut i = 0;
     while i < n {
-        owners[i] = owner_of(held, STRIDE * i, table, w, crews, agents);
+        owners[i] = owner_of(held, FRAME * i, table, w, crews, agents);
         i += 1;
     }
     owners

@@ -6,30 +6,30 @@ ghost use lib.ListN.{length, getD, drop};
 ghost use Rattle.bmap.specs.Domain.{Domain, Names, Law};
 ghost use Rattle.bmap.specs.Meaning.{History, evalC};
 ghost use Rattle.bmap.specs.Judge.{sets};
-ghost use Rattle.bmap.specs.Limits.{mostDepth, mostLaws, storeSize};
-ghost use Rattle.law.specs.Evaluate.{valueAt};
+ghost use Rattle.bmap.specs.Limits.{mostDepth, mostLaws};
+ghost use Rattle.law.specs.Evaluate.{heldSize, valueAt};
 ghost use Rattle.number.specs.Answer.{truthOf};
 ghost use Rattle.judge.specs.Settings.{settingFrom};
 ghost use Rattle.judge.specs.Told.{Says, Seen, Occurring, Within, Ordered, frameOf, conOf, placeOf, asksOf};
 ghost use Rattle.judge.specs.Answer.{wantsOf};
 use crate::acting::has_entry;
 use crate::acting::wide;
-use crate::held::STRIDE;
 use crate::knowledge::end_own;
 use crate::knowledge::first_own;
 use bmap::Counts;
+use bmap::FRAME;
 use bmap::Kind;
 use bmap::LEVELS;
-use bmap::STORE;
 use bmap::Sheet;
 use law::Evaluated;
+use law::HELD;
 use law::Judged;
 use number::Truth;
 use number::Value;
 
 // What the constraint of a law gives at position j. It stands after kind and count, and after the entry if there is one.
 pub(crate) fn constraint_of(
-    held: &[u8; STORE],
+    held: &[u8; HELD],
     at: usize,
     levels: &[i16; LEVELS],
     occurred: &[u64; Sheet::STEPS + 1],
@@ -52,15 +52,15 @@ pub enum Wants {
 
 // A fluent and the expression after it.
 fn setting_at(
-    held: &[u8; STORE],
+    held: &[u8; HELD],
     at: usize,
     levels: &[i16; LEVELS],
     occurred: &[u64; Sheet::STEPS + 1],
     j: usize,
 ) -> Wants
-    ensures { λ r. ⌜ (length (now (held .entry)) ≡ storeSize → wantsOf r ≡ settingFrom (getD (now (held .entry)) at 0) (valueAt mostDepth (now (held .entry)) (at + 1) (now (levels .entry)) (now (occurred .entry)) j)) ⌝ }
+    ensures { λ r. ⌜ (length (now (held .entry)) ≡ heldSize → wantsOf r ≡ settingFrom (getD (now (held .entry)) at 0) (valueAt mostDepth (now (held .entry)) (at + 1) (now (levels .entry)) (now (occurred .entry)) j)) ⌝ }
 {
-    if STORE <= at {
+    if HELD <= at {
         return Wants::Blank;
     }
     let f = held[at];
@@ -75,15 +75,15 @@ fn setting_at(
 
 // "each A6 law in order whose entry occurs: constraint, and if true, expression"
 pub(crate) fn wanted(
-    held: &[u8; STORE],
+    held: &[u8; HELD],
     at: usize,
     entries: u64,
     levels: &[i16; LEVELS],
     occurred: &[u64; Sheet::STEPS + 1],
     j: usize,
 ) -> Wants
-    requires { ⌜ at + 2 < storeSize ⌝ }
-    ensures { λ r. ⌜ ((d : Domain) (h : History) (l : Law) (names : Names) → length (now (held .entry)) ≡ storeSize → Says d (drop at (now (held .entry))) l → Occurring d names entries → Seen true d h (now (levels .entry)) (now (occurred .entry)) j → wantsOf r ≡ sets d h j names l) ⌝ }
+    requires { ⌜ at + 2 < heldSize ⌝ }
+    ensures { λ r. ⌜ ((d : Domain) (h : History) (l : Law) (names : Names) → length (now (held .entry)) ≡ heldSize → Says d (drop at (now (held .entry))) l → Occurring d names entries → Seen true d h (now (levels .entry)) (now (occurred .entry)) j → wantsOf r ≡ sets d h j names l) ⌝ }
 {
     if held[at] != Kind::EFFECT {
         return Wants::Leaves;
@@ -109,13 +109,13 @@ pub struct Run {
     pub to: usize,
 }
 
-fn first_of(held: &[u8; STORE], n: usize, kind: u8) -> usize
+fn first_of(held: &[u8; HELD], n: usize, kind: u8) -> usize
     requires { ⌜ n ≤ mostLaws ⌝ }
     ensures { λ r. ⌜ (r ≤ n) × ((i : ℕ) → i < r → getD (frameOf (now (held .entry)) i) 0 0 ≡ kind → ⊥) ⌝ }
 {
     let mut i = 0;
     while i < n {
-        if held[STRIDE * i] == kind {
+        if held[FRAME * i] == kind {
             return i;
         }
         i += 1;
@@ -123,13 +123,13 @@ fn first_of(held: &[u8; STORE], n: usize, kind: u8) -> usize
     i
 }
 
-fn end_of(held: &[u8; STORE], n: usize, kind: u8) -> usize
+fn end_of(held: &[u8; HELD], n: usize, kind: u8) -> usize
     requires { ⌜ n ≤ mostLaws ⌝ }
     ensures { λ r. ⌜ (r ≤ n) × ((i : ℕ) → r ≤ i → i < n → getD (frameOf (now (held .entry)) i) 0 0 ≡ kind → ⊥) ⌝ }
 {
     let mut i = n;
     while 0 < i {
-        if held[STRIDE * (i - 1)] == kind {
+        if held[FRAME * (i - 1)] == kind {
             return i;
         }
         i -= 1;
@@ -137,7 +137,7 @@ fn end_of(held: &[u8; STORE], n: usize, kind: u8) -> usize
     i
 }
 
-fn run_of(held: &[u8; STORE], n: usize, kind: u8) -> Run
+fn run_of(held: &[u8; HELD], n: usize, kind: u8) -> Run
     requires { ⌜ n ≤ mostLaws ⌝ }
     ensures { λ r. ⌜ Within (now (held .entry)) n kind (r .from) (r .to) ⌝ }
 {
@@ -156,7 +156,7 @@ pub struct Runs {
     pub goal: Run,
 }
 
-pub(crate) fn all_runs(held: &[u8; STORE], owners: &[u8; Counts::LAWS], n: usize) -> Runs
+pub(crate) fn all_runs(held: &[u8; HELD], owners: &[u8; Counts::LAWS], n: usize) -> Runs
     requires { ⌜ n ≤ mostLaws ⌝ }
     ensures { λ r. ⌜ Ordered (now (held .entry)) (now (owners .entry)) n r ⌝ }
 {

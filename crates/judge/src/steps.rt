@@ -28,12 +28,12 @@ use crate::verdict::Verdict;
 use bmap::Counts;
 use bmap::Kind;
 use bmap::LEVELS;
-use bmap::STORE;
 use bmap::Sheet;
+use law::HELD;
 
 // Checks 4 to 6: what the effect laws set, the new state as state j + 1, the static laws on it.
 fn land(
-    held: &[u8; STORE],
+    held: &[u8; HELD],
     runs: Runs,
     lowest: &[i16; Counts::FLUENTS],
     highest: &[i16; Counts::FLUENTS],
@@ -88,7 +88,7 @@ fn land(
 
 // The step from state j: "First fault wins."
 fn take_step(
-    held: &[u8; STORE],
+    held: &[u8; HELD],
     owners: &[u8; Counts::LAWS],
     runs: Runs,
     lowest: &[i16; Counts::FLUENTS],
@@ -159,7 +159,7 @@ pub struct Ran {
 
 // The steps in turn, from state 0 of the history; the masks of those that were taken are kept for code 29.
 fn run_steps(
-    held: &[u8; STORE],
+    held: &[u8; HELD],
     owners: &[u8; Counts::LAWS],
     runs: Runs,
     lowest: &[i16; Counts::FLUENTS],
@@ -219,7 +219,7 @@ fn run_steps(
 
 // The static laws on state 0, the steps, the goals after the last.
 pub(crate) fn run_sheet(
-    held: &[u8; STORE],
+    held: &[u8; HELD],
     owners: &[u8; Counts::LAWS],
     runs: Runs,
     start: &[i16; Counts::FLUENTS],

@@ -6,7 +6,7 @@ use mathlib.Core.Option.{Option, none, some}
 use lib.IntN.{ℤ, pos}
 use mathlib.Core.Path.{_≡_}
 use lib.ListN.{length, drop, getD}
-use Rattle.bmap.specs.Limits.{mostFluents, mostSteps, storeSize, levelsSize}
+use Rattle.bmap.specs.Limits.{mostFluents, mostLaws, mostSteps, frameSize, levelsSize}
 use Rattle.bmap.specs.Number.{Valued}
 use Rattle.bmap.specs.Meaning.{History, evalE, evalC}
 use Rattle.bmap.specs.Code.{Parsed, parseE, parseC}
@@ -31,9 +31,13 @@ historyOf levels occurred = record {
   occurred = λ e k. inStep occurred e k;
 }
 
+-- room for the frames of the most laws
+abbrev pub heldSize : ℕ
+heldSize = mostLaws * frameSize
+
 -- the lengths of what is lent
 pub record Lent (s : List ℕ) (levels : List ℤ) (occurred : List ℕ) : Type 0 where
-  pub store : length s ≡ storeSize
+  pub held : length s ≡ heldSize
   pub states : length levels ≡ levelsSize
   pub steps : length occurred ≡ mostSteps + 1
 

@@ -6,11 +6,11 @@ ghost use Prim.Native.Nat.{_+_, _-_, _*_, _≤_, _<_};
 ghost use lib.Dec.{leb};
 ghost use lib.ListN.{length, drop, getD};
 ghost use Rattle.bmap.specs.Plain.{both};
-ghost use Rattle.bmap.specs.Limits.{mostDepth, mostSteps, storeSize, levelsSize};
+ghost use Rattle.bmap.specs.Limits.{mostDepth, mostSteps, levelsSize};
 ghost use Rattle.bmap.specs.Number.{value, with1, with2, operate, change, compare, join, flag, signedWord};
 ghost use Rattle.bmap.specs.Code.{codeOf, twoBytes};
 ghost use Rattle.law.specs.Shape.{operationOf, singleOf, comparisonOf, junctionOf};
-ghost use Rattle.law.specs.Evaluate.{Lent, gives, evaluated, judged, meant, onward, levelAt, inStep, valueAt, truthAt};
+ghost use Rattle.law.specs.Evaluate.{heldSize, Lent, gives, evaluated, judged, meant, onward, levelAt, inStep, valueAt, truthAt};
 ghost use Rattle.law.specs.Packed.{valueIn, truthIn, evaluatedIn, judgedIn};
 use crate::mask::has_bit;
 use crate::packed::MALFORMED;
@@ -24,14 +24,17 @@ use crate::table::Shape;
 use crate::table::opens;
 use bmap::Comparison;
 use bmap::Counts;
+use bmap::FRAME;
 use bmap::Junction;
 use bmap::LEVELS;
 use bmap::Operation;
-use bmap::STORE;
 use bmap::Sheet;
 use bmap::Single;
 use number::Truth;
 use number::Value;
+
+// Room for the frames of the most laws: the bytes that trees are read from.
+pub const HELD: usize = Counts::LAWS * FRAME;
 
 // What an expression gives, with the place just after it; or no expression stands there.
 pub enum Evaluated {
@@ -135,31 +138,31 @@ fn number_at(z: i16, end: usize) -> u64
 }
 
 // The leaves, whose code stands at a place.
-fn constant_in(s: &[u8; STORE], at: usize) -> u64
-    requires { ⌜ length (now s) ≡ storeSize ⌝ }
+fn constant_in(s: &[u8; HELD], at: usize) -> u64
+    requires { ⌜ length (now s) ≡ heldSize ⌝ }
     ensures { λ r. ⌜ evaluatedIn r ≡ meant (λ v. v) at (twoBytes (λ hi lo. value (signedWord hi lo)) (drop (at + 1) (now (s .entry)))) ⌝ }
 {
-    if STORE - 2 <= at {
+    if HELD - 2 <= at {
         return MALFORMED;
     }
     number_at(number::signed_word(s[at + 1], s[at + 2]), at + 3)
 }
 
-fn fluent_in(s: &[u8; STORE], at: usize, levels: &[i16; LEVELS], j: usize) -> u64
-    requires { ⌜ (length (now s) ≡ storeSize) × (length (now levels) ≡ levelsSize) ⌝ }
+fn fluent_in(s: &[u8; HELD], at: usize, levels: &[i16; LEVELS], j: usize) -> u64
+    requires { ⌜ (length (now s) ≡ heldSize) × (length (now levels) ≡ levelsSize) ⌝ }
     ensures { λ r. ⌜ evaluatedIn r ≡ meant (λ v. v) at (twoBytes (λ f t. value (levelAt (now (levels .entry)) (j - t) f)) (drop (at + 1) (now (s .entry)))) ⌝ }
 {
-    if STORE - 2 <= at {
+    if HELD - 2 <= at {
         return MALFORMED;
     }
     number_at(level(levels, state_of(j, s[at + 2]), s[at + 1]), at + 3)
 }
 
-fn occurrence_in(s: &[u8; STORE], at: usize, occurred: &[u64; Sheet::STEPS + 1], j: usize) -> u64
-    requires { ⌜ (length (now s) ≡ storeSize) × (length (now occurred) ≡ mostSteps + 1) ⌝ }
+fn occurrence_in(s: &[u8; HELD], at: usize, occurred: &[u64; Sheet::STEPS + 1], j: usize) -> u64
+    requires { ⌜ (length (now s) ≡ heldSize) × (length (now occurred) ≡ mostSteps + 1) ⌝ }
     ensures { λ r. ⌜ judgedIn r ≡ meant (λ v. v) at (twoBytes (λ e t. value (both (leb t j) (inStep (now (occurred .entry)) e (j + 1 - t)))) (drop (at + 1) (now (s .entry)))) ⌝ }
 {
-    if STORE - 2 <= at {
+    if HELD - 2 <= at {
         return MALFORMED;
     }
     with_truth(Truth::Is(occurs(occurred, j, s[at + 1], s[at + 2])), at + 3)
@@ -240,7 +243,7 @@ fn joined_of(code: u8, a: u64, b: u64) -> u64
 // An expression with so much depth left. The leaves are most of a tree: they are read without a look at the table, and
 // what is no leaf by a function of its own, so that this one is small enough to be put in place of its calls.
 fn value_in(
-    s: &[u8; STORE],
+    s: &[u8; HELD],
     at: usize,
     depth: usize,
     levels: &[i16; LEVELS],
@@ -253,7 +256,7 @@ fn value_in(
     if depth == 0 {
         return MALFORMED;
     }
-    if STORE <= at {
+    if HELD <= at {
         return MALFORMED;
     }
     let code = s[at];
@@ -268,14 +271,14 @@ fn value_in(
 
 // An expression that is no leaf. It reads its code again: a seventh parameter would go through memory.
 fn inner_value(
-    s: &[u8; STORE],
+    s: &[u8; HELD],
     at: usize,
     depth: usize,
     levels: &[i16; LEVELS],
     occurred: &[u64; Sheet::STEPS + 1],
     j: usize,
 ) -> u64
-    requires { ⌜ Lent (now s) (now levels) (now occurred) × ((1 ≤ depth) × ((at < storeSize) × ((getD (now s) at 0 ≡ 0x10 → ⊥) × (getD (now s) at 0 ≡ 0x11 → ⊥)))) ⌝ }
+    requires { ⌜ Lent (now s) (now levels) (now occurred) × ((1 ≤ depth) × ((at < heldSize) × ((getD (now s) at 0 ≡ 0x10 → ⊥) × (getD (now s) at 0 ≡ 0x11 → ⊥)))) ⌝ }
     ensures { λ r. ⌜ evaluatedIn r ≡ valueAt depth (now (s .entry)) at (now (levels .entry)) (now (occurred .entry)) j ⌝ }
 {
     let code = s[at];
@@ -299,7 +302,7 @@ fn inner_value(
 
 // A constraint with so much depth left.
 fn truth_in(
-    s: &[u8; STORE],
+    s: &[u8; HELD],
     at: usize,
     depth: usize,
     levels: &[i16; LEVELS],
@@ -312,7 +315,7 @@ fn truth_in(
     if depth == 0 {
         return MALFORMED;
     }
-    if STORE <= at {
+    if HELD <= at {
         return MALFORMED;
     }
     let code = s[at];
@@ -348,7 +351,7 @@ fn lent(_s: &[u8], _levels: &[i16], _occurred: &[u64]) {}
 
 // The expression at a place.
 pub fn expression_at(
-    s: &[u8; STORE],
+    s: &[u8; HELD],
     at: usize,
     levels: &[i16; LEVELS],
     occurred: &[u64; Sheet::STEPS + 1],
@@ -367,7 +370,7 @@ pub fn expression_at(
 
 // The constraint at a place.
 pub fn constraint_at(
-    s: &[u8; STORE],
+    s: &[u8; HELD],
     at: usize,
     levels: &[i16; LEVELS],
     occurred: &[u64; Sheet::STEPS + 1],

@@ -14,6 +14,7 @@ pub use checks::Checked;
 pub use checks::check_constraint;
 pub use checks::check_expression;
 pub use eval::Evaluated;
+pub use eval::HELD;
 pub use eval::Judged;
 pub use eval::constraint_at;
 pub use eval::expression_at;

@@ -4,7 +4,8 @@ use mathlib.Core.Bool.{Bool}
 use native.Mathlib.Omega.{arith}
 use borrow.Author.Needs.{needs}
 use mathlib.Core.Path.{subst}
-use Rattle.judge.specs.Told.{lawNumber, Seen, stride}
+use Rattle.bmap.specs.Limits.{frameSize}
+use Rattle.judge.specs.Told.{lawNumber, Seen}
 use Rattle.judge.proofs.CheckLaws.{permits-other, permits-mine, owned-place}
 use Rattle.judge.proofs.checks.try_law.Statement.{statement}
 use Rattle.judge.proofs.checks.try_law.Tie as tie
@@ -32,7 +33,7 @@ returns-2 : tie.Need-returns-2
 returns-2 c = λ d h n lawful p owned seen. let s = c .before .before .before .before .args in
     let own = owned (s .l) (omega (arith, lawful .count)) in
     let place = owned-place d (lawNumber d (s .l)) own (sym (c .before .before .wide .ensures) ∙ c .before .if1 .left) (c .before .before .before .before .pre .0) in
-    c .constraint-of .ensures d h (lawNumber d (s .l)) (stride * s .l) (lawful .law (s .l) p) (ap (λ (k : ℕ). stride * s .l + k) (place .0))
+    c .constraint-of .ensures d h (lawNumber d (s .l)) (frameSize * s .l) (lawful .law (s .l) p) (ap (λ (k : ℕ). frameSize * s .l + k) (place .0))
     (subst (λ (b : Bool). Seen b d h (s .levels .now) (s .occurred .now) (s .j)) (place .1) seen)
     ∙ sym (permits-mine d h (s .j) (s .i) (lawNumber d (s .l)) own (sym (c .before .before .wide .ensures) ∙ c .before .if1 .left) (c .before .before .before .before .pre .0))
 

@@ -1,18 +1,19 @@
-use Prim.Native.Nat.{_+_, _*_, _-_, _≤_}
+use Prim.Native.Nat.{_+_, _*_, _-_, _≤_, _<_}
 use mathlib.Core.Path.{_≡_, ap, _∙_}
 use native.Mathlib.Omega.{arith}
 use borrow.Author.Needs.{needs}
 use lib.ListN.{length, getD}
 use lib.Seq.{length-paste}
 use Rattle.index.specs.Index.{frameBytes}
-use Rattle.bmap.specs.Limits.{storeSize}
+use Rattle.bmap.specs.Limits.{frameSize}
+use Rattle.law.specs.Evaluate.{heldSize}
 use Rattle.judge.specs.Told.{Held}
-use Rattle.judge.proofs.HeldLaws.{frame-short, hold-more}
+use Rattle.judge.proofs.HeldLaws.{hold-more}
 use Rattle.judge.proofs.held.hold_laws.Statement.{statement}
 use Rattle.judge.proofs.held.hold_laws.Tie as tie
 
 abbrev Inv-loop : tie.InvT-loop
-Inv-loop held₀ store laws n i₀ held i = (i ≤ n) × ((length held ≡ storeSize) × Held store laws i held)
+Inv-loop held₀ store laws n i₀ held i = (i ≤ n) × ((length held ≡ heldSize) × Held store laws i held)
 
 abbrev μ-loop : tie.MeasureT-loop
 μ-loop held₀ store laws n i₀ held i = n - i
@@ -28,7 +29,7 @@ law-at-requires c κs = search needs
 
 hold-requires : tie.Need-hold-requires Inv-loop μ-loop
 hold-requires c κs = let s = c .before .before .before .before .before .before .args in let i = c .before .before .before .before .loop .i in
-    let short = frame-short (s .store .now) (getD (s .laws .now) i 0) (c .before .before .before .before .before .shared-slice-known .given (getD (s .laws .now) i 0 + 1) .fits) in
+    let short = c .before .before .before .before .before .before .pre .1 .1 i (c .before .before .before .loop-test .taken) in
     (c .before .before .before .before .loop .inv .1 .0, (let z : length (c .law-at .result .now) ≡ length (frameBytes (s .store .now) (getD (s .laws .now) i 0)) = ap length (c .law-at .ensures .contents) in omega (arith, short)))
 
 add-i : tie.Need-add-i Inv-loop μ-loop
@@ -39,12 +40,13 @@ loop-less c = search needs
 
 loop-again : tie.Need-loop-again Inv-loop μ-loop
 loop-again c = let s = c .before .before .before .before .before .before .before .args in let i = c .before .before .before .before .before .loop .i in
-    let short = frame-short (s .store .now) (getD (s .laws .now) i 0) (c .before .before .before .before .before .before .shared-slice-known .given (getD (s .laws .now) i 0 + 1) .fits) in
+    let below : i < s .n = c .before .before .before .before .loop-test .taken in
+    let short = c .before .before .before .before .before .before .before .pre .1 .1 i below in
     let as-long : length (c .before .law-at .result .now) ≡ length (frameBytes (s .store .now) (getD (s .laws .now) i 0)) = ap length (c .before .law-at .ensures .contents) in (
       omega arith,
       (
-        ap length (c .hold .ensures) ∙ (length-paste (c .before .before .before .before .before .loop .held) (257 * i) (c .before .law-at .result .now) (length (c .before .law-at .result .now)) (omega (arith, short)) (omega arith) ∙ c .before .before .before .before .before .loop .inv .1 .0),
-        hold-more (s .store .now) (s .laws .now) (c .before .before .before .before .before .loop .held) i (c .before .before .before .before .before .loop .inv .1 .1) (c .before .law-at .ensures .contents) (λ k. frame-short (s .store .now) (getD (s .laws .now) k 0) (c .before .before .before .before .before .before .shared-slice-known .given (getD (s .laws .now) k 0 + 1) .fits)) (omega arith) (c .hold .ensures),
+        ap length (c .hold .ensures) ∙ (length-paste (c .before .before .before .before .before .loop .held) (frameSize * i) (c .before .law-at .result .now) (length (c .before .law-at .result .now)) (omega (arith, short)) (omega arith) ∙ c .before .before .before .before .before .loop .inv .1 .0),
+        hold-more (s .store .now) (s .laws .now) (c .before .before .before .before .before .loop .held) i (c .before .before .before .before .before .loop .inv .1 .1) (c .before .law-at .ensures .contents) (λ k h. c .before .before .before .before .before .before .before .pre .1 .1 k (omega (arith, below))) (omega arith) (c .hold .ensures),
       ),
     )
 

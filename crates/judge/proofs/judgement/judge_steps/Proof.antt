@@ -32,7 +32,7 @@ long s = record {
 }
 
 hold-laws-requires : tie.Need-hold-laws-requires
-hold-laws-requires c κs = search needs
+hold-laws-requires c κs = (search needs, (c .before .before .before .before .before .before .before .before .before .pre .0 .laws, c .before .before .before .before .before .before .before .before .before .pre .0 .short))
 
 slice-aggregate-all-knowers : tie.Need-slice-aggregate-all-knowers
 slice-aggregate-all-knowers c = search needs

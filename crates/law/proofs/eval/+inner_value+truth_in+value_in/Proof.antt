@@ -86,70 +86,70 @@ module _ (t : ℕ) where
   truth-in-returns-2 c =
       let k = c .before .before in
       let a = k .args in
-      let past : length (a .s .now) ≤ a .at = omega (arith, k .pre .1 .store, c .if2 .taken) in
+      let past : length (a .s .now) ≤ a .at = omega (arith, k .pre .1 .held, c .if2 .taken) in
       nothing-there (λ t. evalC t (historyOf (a .levels .now) (a .occurred .now)) (a .j)) (a .at) (end-c (a .s .now) (a .at) (a .depth) past)
 
   truth-in-returns-3 : truth-in-lts.Need-returns-3 by-truth-in truth-in-at truth-in.Post
   truth-in-returns-3 c =
       let k = c .before .before .before .before .before in
       let a = k .args in
-      let lt : a .at < length (a .s .now) = omega (arith, k .pre .1 .store, c .before .before .before .if2 .left) in
+      let lt : a .at < length (a .s .now) = omega (arith, k .pre .1 .held, c .before .before .before .if2 .left) in
       nothing-there (λ t. evalC t (historyOf (a .levels .now) (a .occurred .now)) (a .j)) (a .at) (no-constraint (a .s .now) (a .at) (a .depth) (c .before .before .before .before .if1 .left) lt _ (c .before .opens .ensures) (c .match .keys2))
 
   truth-in-returns-4 : truth-in-lts.Need-returns-4 by-truth-in truth-in-at truth-in.Post
   truth-in-returns-4 c =
       let k = c .before .before .before .before .before .before .before .before .before .before .before .before in
       let a = k .args in
-      let lt : a .at < length (a .s .now) = omega (arith, k .pre .1 .store, c .before .before .before .before .before .before .before .before .before .before .if2 .left) in
+      let lt : a .at < length (a .s .now) = omega (arith, k .pre .1 .held, c .before .before .before .before .before .before .before .before .before .before .if2 .left) in
       eval-first-c (a .s .now) (a .at) (a .depth) (a .levels .now) (a .occurred .now) (a .j) (c .before .before .before .before .before .before .before .before .before .before .before .if1 .left) lt (sym (c .before .before .before .before .before .before .shape .given .1) ∙ c .before .before .before .before .before .before .before .before .opens .ensures) (c .before .before .before .enum-told4 .given .1) (ends-nowhere (truthIn (c .before .before .truth-in2 .result)) (c .before .end-of .ensures) (c .if3 .taken) ∙ c .before .before .truth-in2 .ensures)
 
   truth-in-returns-5 : truth-in-lts.Need-returns-5 by-truth-in truth-in-at truth-in.Post
   truth-in-returns-5 c =
       let k = c .before .before .before .before .before .before .before .before .before .before .before .before in
       let a = k .args in
-      let lt : a .at < length (a .s .now) = omega (arith, k .pre .1 .store, c .before .before .before .before .before .before .before .before .before .before .if2 .left) in
+      let lt : a .at < length (a .s .now) = omega (arith, k .pre .1 .held, c .before .before .before .before .before .before .before .before .before .before .if2 .left) in
       eval-first-e (a .s .now) (a .at) (a .depth) (a .levels .now) (a .occurred .now) (a .j) (c .before .before .before .before .before .before .before .before .before .before .before .if1 .left) lt (sym (c .before .before .before .before .before .before .shape .given .1) ∙ c .before .before .before .before .before .before .before .before .opens .ensures) (c .before .before .before .enum-told5 .given .1) (ends-nowhere (valueIn (c .before .before .value-in .result)) (c .before .end-of2 .ensures) (c .if4 .taken) ∙ c .before .before .value-in .ensures)
 
   truth-in-returns-6 : truth-in-lts.Need-returns-6 by-truth-in truth-in-at truth-in.Post
   truth-in-returns-6 c =
       let k = c .before .before .before .before .before .before .before .before .before .before in
       let a = k .args in
-      let lt : a .at < length (a .s .now) = omega (arith, k .pre .1 .store, c .before .before .before .before .before .before .before .before .if2 .left) in
+      let lt : a .at < length (a .s .now) = omega (arith, k .pre .1 .held, c .before .before .before .before .before .before .before .before .if2 .left) in
       c .with-truth .ensures ∙ eval-truth (a .s .now) (a .at) (a .depth) (a .levels .now) (a .occurred .now) (a .j) (c .before .before .before .before .before .before .before .before .before .if1 .left) lt (sym (c .before .before .before .before .shape .given .1) ∙ c .before .before .before .before .before .before .opens .ensures) (c .before .enum-told .given .1)
 
   truth-in-returns-7 : truth-in-lts.Need-returns-7 by-truth-in truth-in-at truth-in.Post
   truth-in-returns-7 c =
       let k = c .before .before .before .before .before .before .before .before .before .before in
       let a = k .args in
-      let lt : a .at < length (a .s .now) = omega (arith, k .pre .1 .store, c .before .before .before .before .before .before .before .before .if2 .left) in
+      let lt : a .at < length (a .s .now) = omega (arith, k .pre .1 .held, c .before .before .before .before .before .before .before .before .if2 .left) in
       c .occurrence-in .ensures ∙ eval-occurrence (a .s .now) (a .at) (a .depth) (a .levels .now) (a .occurred .now) (a .j) (c .before .before .before .before .before .before .before .before .before .if1 .left) lt (sym (c .before .before .before .before .shape .given .1) ∙ c .before .before .before .before .before .before .opens .ensures) (c .before .enum-told2 .given .1)
 
   truth-in-returns-8 : truth-in-lts.Need-returns-8 by-truth-in truth-in-at truth-in.Post
   truth-in-returns-8 c =
       let k = c .before .before .before .before .before .before .before .before .before .before .before in
       let a = k .args in
-      let lt : a .at < length (a .s .now) = omega (arith, k .pre .1 .store, c .before .before .before .before .before .before .before .before .before .if2 .left) in
+      let lt : a .at < length (a .s .now) = omega (arith, k .pre .1 .held, c .before .before .before .before .before .before .before .before .before .if2 .left) in
       c .negated-of .ensures ∙ ap (onward _) (c .before .truth-in .ensures) ∙ eval-negation (a .s .now) (a .at) (a .depth) (a .levels .now) (a .occurred .now) (a .j) (c .before .before .before .before .before .before .before .before .before .before .if1 .left) lt (sym (c .before .before .before .before .before .shape .given .1) ∙ c .before .before .before .before .before .before .before .opens .ensures) (c .before .before .enum-told3 .given .1)
 
   truth-in-returns-9 : truth-in-lts.Need-returns-9 by-truth-in truth-in-at truth-in.Post
   truth-in-returns-9 c =
       let k = c .before .before .before .before .before .before .before .before .before .before .before .before .before .before in
       let a = k .args in
-      let lt : a .at < length (a .s .now) = omega (arith, k .pre .1 .store, c .before .before .before .before .before .before .before .before .before .before .before .before .if2 .left) in
+      let lt : a .at < length (a .s .now) = omega (arith, k .pre .1 .held, c .before .before .before .before .before .before .before .before .before .before .before .before .if2 .left) in
       c .joined-of .ensures ∙ ap (onward _) (c .before .truth-in3 .ensures) ∙ eval-junction (a .s .now) (a .at) (a .depth) (a .levels .now) (a .occurred .now) (a .j) (c .before .before .before .before .before .before .before .before .before .before .before .before .before .if1 .left) lt (sym (c .before .before .before .before .before .before .before .before .shape .given .1) ∙ c .before .before .before .before .before .before .before .before .before .before .opens .ensures) (c .before .before .before .before .before .enum-told4 .given .1) (ends-there (truthIn (c .before .before .before .before .truth-in2 .result)) (c .before .before .before .end-of .ensures) (c .before .before .if3 .left) ∙ c .before .before .before .before .truth-in2 .ensures)
 
   truth-in-returns-10 : truth-in-lts.Need-returns-10 by-truth-in truth-in-at truth-in.Post
   truth-in-returns-10 c =
       let k = c .before .before .before .before .before .before .before .before .before .before .before .before .before .before in
       let a = k .args in
-      let lt : a .at < length (a .s .now) = omega (arith, k .pre .1 .store, c .before .before .before .before .before .before .before .before .before .before .before .before .if2 .left) in
+      let lt : a .at < length (a .s .now) = omega (arith, k .pre .1 .held, c .before .before .before .before .before .before .before .before .before .before .before .before .if2 .left) in
       c .compared-of .ensures ∙ ap (onward _) (c .before .value-in2 .ensures) ∙ eval-compared (a .s .now) (a .at) (a .depth) (a .levels .now) (a .occurred .now) (a .j) (c .before .before .before .before .before .before .before .before .before .before .before .before .before .if1 .left) lt (sym (c .before .before .before .before .before .before .before .before .shape .given .1) ∙ c .before .before .before .before .before .before .before .before .before .before .opens .ensures) (c .before .before .before .before .before .enum-told5 .given .1) (ends-there (valueIn (c .before .before .before .before .value-in .result)) (c .before .before .before .end-of2 .ensures) (c .before .before .if4 .left) ∙ c .before .before .before .before .value-in .ensures)
 
   truth-in-returns-11 : truth-in-lts.Need-returns-11 by-truth-in truth-in-at truth-in.Post
   truth-in-returns-11 c =
       let k = c .before .before .before .before .before .before .before .before in
       let a = k .args in
-      let lt : a .at < length (a .s .now) = omega (arith, k .pre .1 .store, c .before .before .before .before .before .before .if2 .left) in
+      let lt : a .at < length (a .s .now) = omega (arith, k .pre .1 .held, c .before .before .before .before .before .before .if2 .left) in
       nothing-there (λ t. evalC t (historyOf (a .levels .now) (a .occurred .now)) (a .j)) (a .at) (other-c (a .s .now) (a .at) (a .depth) (c .before .before .before .before .before .before .before .if1 .left) lt (sym (c .before .before .shape .given .1) ∙ c .before .before .before .before .opens .ensures) (c .match2 .keys6))
 
   value-in-returns : value-in-lts.Need-returns by-value-in value-in-at value-in.Post
@@ -161,21 +161,21 @@ module _ (t : ℕ) where
   value-in-returns-2 c =
       let k = c .before .before in
       let a = k .args in
-      let past : length (a .s .now) ≤ a .at = omega (arith, k .pre .1 .store, c .if2 .taken) in
+      let past : length (a .s .now) ≤ a .at = omega (arith, k .pre .1 .held, c .if2 .taken) in
       nothing-there (λ t. evalE t (historyOf (a .levels .now) (a .occurred .now)) (a .j)) (a .at) (end-e (a .s .now) (a .at) (a .depth) past)
 
   value-in-returns-3 : value-in-lts.Need-returns-3 by-value-in value-in-at value-in.Post
   value-in-returns-3 c =
       let k = c .before .before .before .before .before in
       let a = k .args in
-      let lt : a .at < length (a .s .now) = omega (arith, k .pre .1 .store, c .before .before .before .if2 .left) in
+      let lt : a .at < length (a .s .now) = omega (arith, k .pre .1 .held, c .before .before .before .if2 .left) in
       c .constant-in .ensures ∙ eval-constant (a .s .now) (a .at) (a .depth) (a .levels .now) (a .occurred .now) (a .j) (c .before .before .before .before .if1 .left) lt (c .before .if3 .taken)
 
   value-in-returns-4 : value-in-lts.Need-returns-4 by-value-in value-in-at value-in.Post
   value-in-returns-4 c =
       let k = c .before .before .before .before .before .before in
       let a = k .args in
-      let lt : a .at < length (a .s .now) = omega (arith, k .pre .1 .store, c .before .before .before .before .if2 .left) in
+      let lt : a .at < length (a .s .now) = omega (arith, k .pre .1 .held, c .before .before .before .before .if2 .left) in
       c .fluent-in .ensures ∙ eval-fluent (a .s .now) (a .at) (a .depth) (a .levels .now) (a .occurred .now) (a .j) (c .before .before .before .before .before .if1 .left) lt (c .before .if4 .taken)
 
   value-in-returns-5 : value-in-lts.Need-returns-5 by-value-in value-in-at value-in.Post
@@ -186,7 +186,7 @@ module _ (t : ℕ) where
   some-depth k e = omega (arith, k .pre .1 .1 .0)
 
   inside : (k : inner-value-lts.Start by-inner-value inner-value-at inner-value.Post) → k .args .at < length (k .args .s .now)
-  inside k = omega (arith, k .pre .1 .0 .store, k .pre .1 .1 .1 .0)
+  inside k = omega (arith, k .pre .1 .0 .held, k .pre .1 .1 .1 .0)
 
   inner-value-returns : inner-value-lts.Need-returns by-inner-value inner-value-at inner-value.Post
   inner-value-returns c =

@@ -46,7 +46,8 @@ use Rattle.judge.specs.declared.verdict.Judgement.{Judgement}
 use Rattle.judge.specs.declared.verdict.Judgement.the-variants as said
 use Rattle.answer.specs.Put.{Put}
 use Rattle.answer.specs.Cut.{CutIn}
-use Rattle.answer.specs.Answer.{outputSize, Answered, answered}
+use Rattle.answer.specs.Room.{outputSize}
+use Rattle.answer.specs.Answer.{Answered, answered}
 use Rattle.answer.proofs.PutLaws.{put-then}
 use Rattle.answer.proofs.StatesLaws.{judge-reached}
 

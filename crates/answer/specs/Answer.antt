@@ -6,10 +6,7 @@ use lib.ListN.{length}
 use Rattle.bmap.specs.Plain.{if-else}
 use Rattle.bmap.specs.Buffer.{over}
 use Rattle.bmap.specs.Program.{output}
-
--- room for the longest output: 65 lines of 32 levels and the last line take less
-abbrev pub outputSize : ℕ
-outputSize = 16_384
+use Rattle.answer.specs.Room.{outputSize}
 
 pub record Answered : Type 0 where
   pub count : ℕ

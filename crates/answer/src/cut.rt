@@ -12,7 +12,7 @@ pub struct Cut {
     pub lines: usize,
 }
 
-const LINE_FEED: u8 = 10;
+pub(crate) const LINE_FEED: u8 = 10;
 
 fn starts_sheet(input: &[u8], at: usize) -> bool
     requires { ⌜ at ≤ length (now input) ⌝ }

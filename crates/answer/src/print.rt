@@ -1,4 +1,6 @@
 // Numbers and lines as text, written from a place of a buffer on; each function returns the place after what it wrote.
+use crate::cut::LINE_FEED;
+use bmap::Counts;
 ghost use Prim.Native.Nat.{_+_, _*_, _≤_, _<_};
 ghost use mathlib.Core.List.{map, _∷_, []};
 ghost use mathlib.Core.Path.{_≡_};
@@ -9,6 +11,26 @@ ghost use Rattle.bmap.specs.Limits.{mostFluents, mostSteps};
 ghost use Rattle.bmap.specs.Sheet.{rows};
 ghost use Rattle.bmap.specs.Program.{decimal, decimalZ, spaced, lineOf, stateLines, refusedText};
 ghost use Rattle.answer.specs.Put.{Put};
+ghost use Rattle.answer.specs.Room.{numberRoom, levelRoom, stateRoom, statesRoom, acceptedRoom, lastRoom, refusedRoom};
+
+const SPACE: u8 = 32;
+
+const MINUS: u8 = 45;
+
+// The digit 0.
+const ZERO: u8 = 48;
+
+// A number's room: a space and the digits of 64 bits.
+const NUMBER: usize = 1 + 20;
+
+// A level's: a space, the sign and the digits of 16 bits.
+const LEVEL: usize = 1 + 1 + 5;
+
+// "S", the number of a state, the levels of the most fluents, LF.
+pub(crate) const STATE_LINE: usize = 1 + NUMBER + LEVEL * Counts::FLUENTS + 1;
+
+// "BROKEN", three numbers, LF: no last line is longer.
+pub(crate) const LAST_LINE: usize = 6 + 3 * NUMBER + 1;
 
 // Bytes as they are.
 fn put_text(out: &mut [u8], at: usize, word: &[u8]) -> usize
@@ -29,37 +51,37 @@ fn put_digits(out: &mut [u8], at: usize, n: usize) -> usize
     ensures { λ r. ⌜ Put (now (out .entry)) at (decimal n) r (now (out .exit)) ⌝ }
 {
     if n < 10 {
-        out[at] = 48 + (n % 10) as u8;
+        out[at] = ZERO + (n % 10) as u8;
         return at + 1;
     }
     let last = put_digits(out, at, n / 10);
-    out[last] = 48 + (n % 10) as u8;
+    out[last] = ZERO + (n % 10) as u8;
     last + 1
 }
 
 // A space, and the decimal digits of a number.
 fn put_number(out: &mut [u8], at: usize, n: usize) -> usize
-    requires { ⌜ at + 21 ≤ length (now out) ⌝ }
+    requires { ⌜ at + numberRoom ≤ length (now out) ⌝ }
     ensures { λ r. ⌜ Put (now (out .entry)) at (spaced (decimal n ∷ [])) r (now (out .exit)) ⌝ }
-    ensures { λ r. ⌜ r ≤ at + 21 ⌝ }
+    ensures { λ r. ⌜ r ≤ at + numberRoom ⌝ }
 {
-    out[at] = 32;
+    out[at] = SPACE;
     put_digits(out, at + 1, n)
 }
 
 // A space, and a level with its sign: two's complement bits from 32,768 on stand for what is missing to 65,536.
 fn put_level(out: &mut [u8], at: usize, level: i16) -> usize
-    requires { ⌜ at + 7 ≤ length (now out) ⌝ }
+    requires { ⌜ at + levelRoom ≤ length (now out) ⌝ }
     ensures { λ r. ⌜ Put (now (out .entry)) at (spaced (decimalZ level ∷ [])) r (now (out .exit)) ⌝ }
-    ensures { λ r. ⌜ r ≤ at + 7 ⌝ }
+    ensures { λ r. ⌜ r ≤ at + levelRoom ⌝ }
 {
     let two = number::bytes_of(level);
     let bits = wide(two.high) * 256 + wide(two.low);
-    out[at] = 32;
+    out[at] = SPACE;
     if bits < 32_768 {
         return put_digits(out, at + 1, bits);
     }
-    out[at + 1] = 45;
+    out[at + 1] = MINUS;
     put_digits(out, at + 2, 65_536 - bits)
 }
 
@@ -78,9 +100,9 @@ fn level(levels: &[i16], i: usize) -> i16
 
 // Levels, each after a space.
 fn put_levels(out: &mut [u8], at: usize, levels: &[i16]) -> usize
-    requires { ⌜ at + 7 * length (now levels) ≤ length (now out) ⌝ }
+    requires { ⌜ at + levelRoom * length (now levels) ≤ length (now out) ⌝ }
     ensures { λ r. ⌜ Put (now (out .entry)) at (spaced (map decimalZ (now (levels .entry)))) r (now (out .exit)) ⌝ }
-    ensures { λ r. ⌜ r ≤ at + 7 * length (now (levels .entry)) ⌝ }
+    ensures { λ r. ⌜ r ≤ at + levelRoom * length (now (levels .entry)) ⌝ }
 {
     let mut place = at;
     let mut i: usize = 0;
@@ -93,22 +115,22 @@ fn put_levels(out: &mut [u8], at: usize, levels: &[i16]) -> usize
 
 // "S", the number of a state and its levels.
 fn put_state(out: &mut [u8], at: usize, k: usize, levels: &[i16]) -> usize
-    requires { ⌜ at + 24 + 7 * length (now levels) ≤ length (now out) ⌝ }
+    requires { ⌜ at + stateRoom (length (now levels)) ≤ length (now out) ⌝ }
     ensures { λ r. ⌜ Put (now (out .entry)) at (lineOf (text "S") (decimal k ∷ map decimalZ (now (levels .entry)))) r (now (out .exit)) ⌝ }
-    ensures { λ r. ⌜ r ≤ at + (24 + 7 * length (now (levels .entry))) ⌝ }
+    ensures { λ r. ⌜ r ≤ at + stateRoom (length (now (levels .entry))) ⌝ }
 {
     out[at] = 83;
     let numbered = put_number(out, at + 1, k);
     let end = put_levels(out, numbered, levels);
-    out[end] = 10;
+    out[end] = LINE_FEED;
     end + 1
 }
 
 // One line for each of the first states of a levels buffer.
 pub(crate) fn put_states(out: &mut [u8], levels: &[i16], width: usize, count: usize) -> usize
-    requires { ⌜ (width ≤ mostFluents) × (count ≤ mostSteps + 1) × (count * width ≤ length (now levels)) × (248 * count ≤ length (now out)) ⌝ }
+    requires { ⌜ (width ≤ mostFluents) × (count ≤ mostSteps + 1) × (count * width ≤ length (now levels)) × (statesRoom count ≤ length (now out)) ⌝ }
     ensures { λ r. ⌜ Put (now (out .entry)) 0 (stateLines 0 (rows width count (now (levels .entry)))) r (now (out .exit)) ⌝ }
-    ensures { λ r. ⌜ r ≤ 248 * count ⌝ }
+    ensures { λ r. ⌜ r ≤ statesRoom count ⌝ }
 {
     let mut place: usize = 0;
     let mut from: usize = 0;
@@ -123,9 +145,9 @@ pub(crate) fn put_states(out: &mut [u8], levels: &[i16], width: usize, count: us
 }
 
 pub(crate) fn put_accepted(out: &mut [u8], at: usize) -> usize
-    requires { ⌜ at + 9 ≤ length (now out) ⌝ }
+    requires { ⌜ at + acceptedRoom ≤ length (now out) ⌝ }
     ensures { λ r. ⌜ Put (now (out .entry)) at (lineOf (text "ACCEPTED") []) r (now (out .exit)) ⌝ }
-    ensures { λ r. ⌜ r ≤ at + 9 ⌝ }
+    ensures { λ r. ⌜ r ≤ at + acceptedRoom ⌝ }
 {
     put_text(out, at, b"ACCEPTED\n")
 }
@@ -137,26 +159,26 @@ pub(crate) fn put_broken(
     step: usize,
     number: usize,
 ) -> usize
-    requires { ⌜ at + 70 ≤ length (now out) ⌝ }
+    requires { ⌜ at + lastRoom ≤ length (now out) ⌝ }
     ensures { λ r. ⌜ Put (now (out .entry)) at (lineOf (text "BROKEN") (decimal kind ∷ decimal step ∷ decimal number ∷ [])) r (now (out .exit)) ⌝ }
-    ensures { λ r. ⌜ r ≤ at + 70 ⌝ }
+    ensures { λ r. ⌜ r ≤ at + lastRoom ⌝ }
 {
     let word = put_text(out, at, b"BROKEN");
     let one = put_number(out, word, kind);
     let two = put_number(out, one, step);
     let three = put_number(out, two, number);
-    out[three] = 10;
+    out[three] = LINE_FEED;
     three + 1
 }
 
 pub(crate) fn put_refused(out: &mut [u8], refusal: usize, line: usize) -> usize
-    requires { ⌜ 50 ≤ length (now out) ⌝ }
+    requires { ⌜ refusedRoom ≤ length (now out) ⌝ }
     ensures { λ r. ⌜ Put (now (out .entry)) 0 (refusedText refusal line) r (now (out .exit)) ⌝ }
-    ensures { λ r. ⌜ r ≤ 50 ⌝ }
+    ensures { λ r. ⌜ r ≤ refusedRoom ⌝ }
 {
     let word = put_text(out, 0, b"REFUSED");
     let one = put_number(out, word, refusal);
     let two = put_number(out, one, line);
-    out[two] = 10;
+    out[two] = LINE_FEED;
     two + 1
 }

@@ -1,5 +1,7 @@
 // The program's one function, from input bytes to output bytes.
 use crate::cut::sheet_place;
+use crate::print::LAST_LINE;
+use crate::print::STATE_LINE;
 use crate::print::put_accepted;
 use crate::print::put_broken;
 use crate::print::put_refused;
@@ -27,16 +29,17 @@ ghost use Rattle.bmap.specs.Judge as paper;
 ghost use Rattle.bmap.specs.Program.{lastLine, judgedText, judgedBy};
 ghost use Rattle.judge.specs.Answer.{verdictOf};
 ghost use Rattle.answer.specs.Put.{Put};
-ghost use Rattle.answer.specs.Answer.{outputSize, answered};
+ghost use Rattle.answer.specs.Room.{lastRoom, outputSize};
+ghost use Rattle.answer.specs.Answer.{answered};
 
-// Room for every output.
-pub const OUTPUT: usize = 16_384;
+// Room for every output: the states of the longest sheet, each in a line of the most fluents, and the last line.
+pub const OUTPUT: usize = (Sheet::STEPS + 1) * STATE_LINE + LAST_LINE;
 
 // "the last line is BROKEN kind step number"
 fn put_verdict(out: &mut [u8], at: usize, verdict: Verdict) -> usize
-    requires { ⌜ at + 70 ≤ length (now out) ⌝ }
+    requires { ⌜ at + lastRoom ≤ length (now out) ⌝ }
     ensures { λ r. ⌜ Put (now (out .entry)) at (lastLine (verdictOf verdict)) r (now (out .exit)) ⌝ }
-    ensures { λ r. ⌜ r ≤ at + 70 ⌝ }
+    ensures { λ r. ⌜ r ≤ at + lastRoom ⌝ }
 {
     match verdict {
         Verdict::Accepted => put_accepted(out, at),

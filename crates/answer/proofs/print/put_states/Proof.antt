@@ -6,13 +6,14 @@ use native.Mathlib.Omega.{arith}
 use Rattle.bmap.specs.Sheet.{rows}
 use Rattle.bmap.specs.Program.{stateLines}
 use Rattle.answer.specs.Put.{Put}
+use Rattle.answer.specs.Room.{statesRoom}
 use Rattle.answer.proofs.PutLaws.{put-nothing, put-length, states-more, states-whole, part-short, within, next-from}
 use Rattle.answer.proofs.print.put_states.Statement.{statement}
 use Rattle.answer.proofs.print.put_states.Tie as tie
 
 abbrev Inv-loop : tie.InvT-loop
 Inv-loop out₀ levels width count place₀ from₀ k₀ out place from k =
-    (k ≤ count) × (from ≡ k * width) × (place ≤ 248 * k) × Put out₀ 0 (stateLines 0 (rows width k levels)) place out
+    (k ≤ count) × (from ≡ k * width) × (place ≤ statesRoom k) × Put out₀ 0 (stateLines 0 (rows width k levels)) place out
 
 abbrev μ-loop : tie.MeasureT-loop
 μ-loop out₀ levels width count place₀ from₀ k₀ out place from k = count - k

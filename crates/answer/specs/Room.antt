@@ -1,0 +1,35 @@
+-- The bytes that a text of the output takes, at most.
+use Prim.Native.Nat.{ℕ, _+_, _*_}
+use Rattle.bmap.specs.Limits.{mostFluents, mostSteps}
+
+-- a space and the digits of a number of 64 bits
+abbrev pub numberRoom : ℕ
+numberRoom = 1 + 20
+
+-- a space, the sign and the digits of a number of 16 bits
+abbrev pub levelRoom : ℕ
+levelRoom = 1 + 1 + 5
+
+-- "S", the number of a state, so many levels, LF
+abbrev pub stateRoom : ℕ → ℕ
+stateRoom levels = 1 + numberRoom + levelRoom * levels + 1
+
+-- the lines of so many states of the most fluents
+abbrev pub statesRoom : ℕ → ℕ
+statesRoom states = stateRoom mostFluents * states
+
+-- "ACCEPTED", LF
+abbrev pub acceptedRoom : ℕ
+acceptedRoom = 8 + 1
+
+-- "BROKEN", three numbers, LF: no last line is longer
+abbrev pub lastRoom : ℕ
+lastRoom = 6 + 3 * numberRoom + 1
+
+-- "REFUSED", two numbers, LF
+abbrev pub refusedRoom : ℕ
+refusedRoom = 7 + 2 * numberRoom + 1
+
+-- room for every output: the states of the longest sheet, and the last line
+abbrev pub outputSize : ℕ
+outputSize = statesRoom (mostSteps + 1) + lastRoom

@@ -1,6 +1,7 @@
 // Document 01's cases of domain P, through the code: for each sheet the levels written, then the verdict.
 // It stands on `judge`, and on `number` for the bytes of a level.
 use bmap::LEVELS;
+use bmap::Sheet;
 use judge::Judgement;
 use judge::Verdict;
 use libc::STDOUT_FILENO;
@@ -100,6 +101,9 @@ const P: [u8; 91] = [
     0,
 ];
 
+// One step more than a sheet may have, of P's two agents.
+const TOO_LONG: usize = (Sheet::STEPS + 1) * 2;
+
 fn print(text: &[u8]) {
     io::write_all(STDOUT_FILENO, text);
 }
@@ -169,5 +173,5 @@ fn main() {
     judged(&[1, 0, 1, 0, 1, 0, 1, 0, 1, 0, 1, 0]);
     judged(&[1, 0, 1, 0, 1, 0, 1, 0, 1, 0, 1, 0, 1, 0]);
     judged(&[1, 0, 1]);
-    judged(&[0; 130]);
+    judged(&[0; TOO_LONG]);
 }

@@ -69,6 +69,7 @@ item-case n k p i lo q = go (eqb k 0xA1) (eqb k 0xA2) (eqb k 0xA3) (eqb k 0xA4) 
 pub record Passed (latest : ℕ) (n : Counts) (es : List Entry) (f : Frame) : Type 0 where
   pub item : Item
   pub checks : checked latest n es f ≡ got item
+  pub says : itemIn n (f .kind) (f .payload) ≡ some item
   pub case : Case n (f .kind) (f .payload) item
   pub order : latest ≤ f .kind
   pub fits : room n (f .kind) ≡ true
@@ -94,6 +95,7 @@ passed latest n es f e =
         record {
           item = i;
           checks = rw (a, b, q, w .0);
+          says = q;
           case = item-case n (f .kind) (f .payload) i lo q;
           order = la;
           fits = b;

@@ -299,7 +299,7 @@ lines-back (f ∷ fs) (and-spelt g gs) =
     ∙ ap (λ a. a ∷ framesOf (flat (map lineFor fs))) (decode-line f (g .kind) (g .payload) (g .most))
     ∙ ap (λ l. got f ∷ l) (lines-back fs gs)
 
-written-again : (s out : List ℕ) (d : Domain) → domainIn s ≡ got d → length (textOf s) ≤ length out
+pub written-again : (s out : List ℕ) (d : Domain) → domainIn s ≡ got d → length (textOf s) ≤ length out
     → writeDomain s out ≡ record { answer = got (length (textOf s)); buffer = over (textOf s) out }
 unfolding writeDomain
 written-again s out d e h =

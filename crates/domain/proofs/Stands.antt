@@ -109,15 +109,15 @@ law-same n m k p f e = rw (f, e)
 -- ---- the frames so far
 
 -- one where there is an agent
-abbrev one : ℕ → ℕ
+abbrev pub one : ℕ → ℕ
 one zero = 0
 one (suc n) = 1
 
-one-most : (n : ℕ) → one n ≤ 1
+pub one-most : (n : ℕ) → one n ≤ 1
 one-most zero = omega arith
 one-most (suc n) = omega arith
 
-one-some : (n : ℕ) → 1 ≤ n → one n ≡ 1
+pub one-some : (n : ℕ) → 1 ≤ n → one n ≡ 1
 one-some zero h = absurd (omega arith)
 one-some (suc n) h = refl
 

@@ -100,3 +100,7 @@ hex (b ∷ l) = digitFor (b / 16) ∷ digitFor (b % 16) ∷ hex l
 
 unfoldable pub lineFor : Frame → List ℕ
 lineFor f = hex (stored f) ++ (lineFeed ∷ [])
+
+-- the characters of a line whose payload has so many bytes: two for each byte, kind and count among them, and the LF
+abbrev pub lineSize : ℕ → ℕ
+lineSize payload = 2 * payload + 5

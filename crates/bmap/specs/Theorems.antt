@@ -1,19 +1,20 @@
--- What is to be shown of the definitions: lines round-trip exactly, 17 is exact, and a session's sheet and verdict are those of its standing edits. Each is proved in the crate that it is about.
-use Prim.Native.Nat.{ℕ, _≤_, _*_, _/_}
+-- What is to be shown of the definitions: lines round-trip exactly, no text that is written is longer than the limits allow, 17 is exact, and a session's sheet and verdict are those of its standing edits. Each is proved in the crate that it is about.
+use Prim.Native.Nat.{ℕ, _≤_, _+_, _*_, _/_}
 use mathlib.Core.Path.{_≡_}
-use mathlib.Core.Logic.{_↔_}
+use mathlib.Core.Logic.{_↔_, _⊎_}
 use mathlib.Core.Bool.{true}
-use mathlib.Core.List.{List, []}
+use mathlib.Core.List.{List, [], map}
 use lib.Dec.{T, ltb}
 use lib.IntN.{ℤ}
 use lib.ListN.{length, take}
-use Rattle.bmap.specs.Plain.{all}
-use Rattle.bmap.specs.Limits.{storeSize, sheetSize, levelsSize}
-use Rattle.bmap.specs.Refusal.{got, read}
+use Rattle.bmap.specs.Plain.{all, flat}
+use Rattle.bmap.specs.Limits.{mostAgents, mostFluents, mostKnowledge, mostEntries, mostLaws, mostPayload, mostSteps, storeSize, sheetSize, levelsSize}
+use Rattle.bmap.specs.Refusal.{got, refused, read}
+use Rattle.bmap.specs.Line.{lineSize}
 use Rattle.bmap.specs.Domain.{Domain, Names}
 use Rattle.bmap.specs.Buffer.{padded, over}
-use Rattle.bmap.specs.Store.{reading, readDomain, writeDomain, domainIn}
-use Rattle.bmap.specs.Sheet.{stepsIn, readSheet, writeSheet}
+use Rattle.bmap.specs.Store.{reading, readDomain, textOf, writeDomain, domainIn}
+use Rattle.bmap.specs.Sheet.{stepsIn, readSheet, agentsKnown, sheetOf, stepLine, writeSheet}
 use Rattle.bmap.specs.Judge.{judge}
 use Rattle.bmap.specs.Verdict.{judgement}
 use Rattle.bmap.specs.Session.{isOpen, CouldBeLeft, Call, opened, after, replies, standingSheet, replayed, layout, openSession, verdictOf}
@@ -51,6 +52,24 @@ SheetReturns =
     AreBytes sheet → writeSheet sheet agents text .answer ≡ got n → sheetSize ≤ length buffer →
     readSheet agents (take n (writeSheet sheet agents text .buffer)) buffer
     ≡ record { answer = read (length sheet / agents); buffer = padded (length buffer) sheet }
+
+-- one A1 of 1 byte, and the most A2 of 6, A3 of 3, A4 of 3 and laws of the most bytes that a payload has
+abbrev pub longestDomain : ℕ
+longestDomain = lineSize 1 + mostFluents * lineSize 6 + mostKnowledge * lineSize 3 + mostEntries * lineSize 3 + mostLaws * lineSize mostPayload
+
+-- no text of an accepted domain is longer, so a buffer of that length is never refused by 10: the writer writes, or refuses by 15
+pub record DomainTextFits : Type 0 where
+  pub most : (store : List ℕ) (d : Domain) → domainIn store ≡ got d → length (textOf store) ≤ longestDomain
+  pub room : (store text : List ℕ) (n : ℕ) → longestDomain ≤ length text → writeDomain store text .answer ≡ refused n → n ≡ 15
+
+-- the most steps of the most agents
+abbrev pub longestSheet : ℕ
+longestSheet = mostSteps * lineSize mostAgents
+
+-- no text of a sheet is longer, so a buffer of that length is never refused by 10: the writer writes, or refuses by 4, 8 or 9
+pub record SheetTextFits : Type 0 where
+  pub most : (agents : ℕ) (sheet : List ℕ) (steps : List Names) → agentsKnown agents (sheetOf agents sheet) ≡ got steps → length (flat (map stepLine steps)) ≤ longestSheet
+  pub room : (agents : ℕ) (sheet text : List ℕ) (n : ℕ) → longestSheet ≤ length text → writeSheet sheet agents text .answer ≡ refused n → (n ≡ 4) ⊎ (n ≡ 8) ⊎ (n ≡ 9)
 
 -- the test for 17 decides what an accepted opening and calls after it could leave
 abbrev pub OpenExactly : Type 0

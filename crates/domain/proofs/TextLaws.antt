@@ -4,20 +4,20 @@ use native.Mathlib.Omega.{arith}
 use mathlib.Core.Path.{_≡_, refl, sym, ap, subst, _∙_}
 use mathlib.Core.Bool.{Bool, true, false}
 use mathlib.Core.List.{List, [], _∷_, _++_, map}
-use mathlib.Core.Logic.{_⊎_, inl, inr}
 use mathlib.Core.Option.{Option, none, some}
 use lib.Dec.{eqb}
 use lib.ListN.{length, drop, length-append}
 use borrow.Author.Tests.{eqb-true}
 use Rattle.bmap.specs.Plain.{both, if-else, maybe, flat}
-use Rattle.bmap.specs.Limits.{mostFluents, mostKnowledge, mostEntries, mostLaws, mostPayload}
+use Rattle.bmap.specs.Limits.{mostPayload}
 use Rattle.bmap.specs.Refusal.{Answer, got, refused, need, then, read, atLine}
-use Rattle.bmap.specs.Line.{Frame, stored, lineFor}
+use Rattle.bmap.specs.Line.{Frame, stored, lineFor, lineSize}
 use Rattle.bmap.specs.Domain.{Domain, Entry}
-use Rattle.bmap.specs.Payload.{Item, agents, fluent, knowledge, entry, law, byte, only, agentsFit, fluentFits, knowledgeFits, entryFits, fluentIn, knowledgeIn, entryIn, itemIn}
-use Rattle.bmap.specs.Accept.{Partial, nothing, countsOf, checked, add, accept, complete, takenFrom}
+use Rattle.bmap.specs.Payload.{Item, agents, fluent, knowledge, entry, byte, agentsFit, fluentFits, knowledgeFits, entryFits, fluentIn, knowledgeIn, entryIn, itemIn}
+use Rattle.bmap.specs.Accept.{Partial, nothing, countsOf, checked, add, complete, takenFrom}
 use Rattle.bmap.specs.Buffer.{Written}
 use Rattle.bmap.specs.Store.{frameAt, zeros, framesFrom, domainIn, textOf, writeDomain}
+use Rattle.bmap.specs.Theorems.{longestDomain, DomainTextFits}
 use Rattle.bmap.specs.declared.limits.Counts.{Counts}
 use Rattle.bmap.proofs.PlainLaws.{both-true}
 use Rattle.bmap.proofs.PayloadLaws.{only-some}
@@ -28,13 +28,7 @@ use Rattle.domain.proofs.CheckLaws.{room-agents}
 use Rattle.domain.proofs.Passed.{Case, is-agents, is-fluent, is-knowledge, is-entry, is-law, Passed, passed}
 use Rattle.domain.proofs.Stands.{no-more, here, one, one-most, one-some, Few, with, accept-is}
 use Rattle.domain.proofs.Accepted.{domained, refused-15}
-use Rattle.domain.proofs.RoundTrip.{Fine, Fines, no-frames, and-frame, written-again}
-
-abbrev pub lineSize : ℕ → ℕ
-lineSize payload = 2 * payload + 5
-
-abbrev pub longestDomain : ℕ
-longestDomain = lineSize 1 + mostFluents * lineSize 6 + mostKnowledge * lineSize 3 + mostEntries * lineSize 3 + mostLaws * lineSize mostPayload
+use Rattle.domain.proofs.RoundTrip.{Fines, no-frames, and-frame, written-again}
 
 -- ---- the size of a payload, by its kind
 
@@ -150,7 +144,7 @@ stored-fine (suc looks) s at fs e = step (frameAt s at) refl e (λ f rest. store
 
 -- ---- the whole text
 
-pub text-most : (s : List ℕ) (d : Domain) → domainIn s ≡ got d → length (textOf s) ≤ longestDomain
+text-most : (s : List ℕ) (d : Domain) → domainIn s ≡ got d → length (textOf s) ≤ longestDomain
 text-most s d e =
     let m = domained s d e in
     let text : textOf s ≡ flat (map lineFor (m .frames)) = ap (λ o. maybe o [] (λ fs. flat (map lineFor fs))) (m .are) in
@@ -158,11 +152,18 @@ text-most s d e =
     = taken-lines 0 nothing (m .frames) d (stored-fine (suc (length s)) s 0 (m .frames) (m .are)) (m .read-as) in
     omega (arith, ap length text, few-lines d (m .all .stands .few))
 
-pub text-fits : (s text : List ℕ) → longestDomain ≤ length text
-    → (writeDomain s text .answer ≡ got (length (textOf s))) ⊎ (writeDomain s text .answer ≡ refused 15)
+text-fits : (s text : List ℕ) (n : ℕ) → longestDomain ≤ length text → writeDomain s text .answer ≡ refused n → n ≡ 15
 unfolding writeDomain
-text-fits s text h = go (domainIn s) refl
+text-fits s text n h e = go (domainIn s) refl
   where
-    go : (a : Answer Domain) → domainIn s ≡ a → (writeDomain s text .answer ≡ got (length (textOf s))) ⊎ (writeDomain s text .answer ≡ refused 15)
-    go (got d) e = inl (ap (λ (w : Written). w .answer) (written-again s text d e (omega (arith, text-most s d e))))
-    go (refused n) e = inr (rw e (ap refused (refused-15 s n e)))
+    go : (a : Answer Domain) → domainIn s ≡ a → n ≡ 15
+    go (got d) q =
+        absurd (let w = ap (λ (w : Written). w .answer) (written-again s text d q (omega (arith, text-most s d q))) in let z : _≡_ {A = ℕ} 0 1 = cc in omega arith)
+    go (refused m) q =
+        let w : refused m ≡ refused n = simp q at e in
+        let same : n ≡ m = cc in
+        same ∙ refused-15 s m q
+
+-- THEOREM. No text of an accepted domain is longer than `longestDomain`, and a buffer of that length is never refused by 10.
+pub domain-text-fits : DomainTextFits
+domain-text-fits = record { most = text-most; room = text-fits }

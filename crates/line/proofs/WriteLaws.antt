@@ -10,7 +10,7 @@ use lib.Seq.{drop-cons, take-length, set-at, take-at, drop-at, drop-drop}
 use borrow.Author.Tests.{le-leb, lt-leb}
 use Rattle.bmap.specs.Limits.{mostPayload}
 use Rattle.bmap.specs.Refusal.{got, refused}
-use Rattle.bmap.specs.Line.{digitFor, hex, lineFor}
+use Rattle.bmap.specs.Line.{digitFor, hex, lineFor, lineSize}
 use Rattle.bmap.specs.Buffer.{over}
 use Rattle.line.specs.Write.{lineWritten}
 use Rattle.line.proofs.Lists.{part-to-end}
@@ -41,7 +41,7 @@ hex-done i s d e = rw (e, take-length s, length-hex s) refl
 
 -- ---- the line
 
-pub length-line : (kind : ℕ) (p : List ℕ) → length (lineFor (record { kind = kind; payload = p })) ≡ 2 * length p + 5
+pub length-line : (kind : ℕ) (p : List ℕ) → length (lineFor (record { kind = kind; payload = p })) ≡ lineSize (length p)
 unfolding lineFor
 length-line kind p = rw (length-append (hex (kind ∷ length p ∷ p)), length-hex) (omega arith)
 

@@ -1,5 +1,5 @@
 -- The text of a sheet is no longer than the limits allow.
-use Prim.Native.Nat.{ℕ, _*_, _/_, _%_, _≤_}
+use Prim.Native.Nat.{ℕ, _/_, _%_, _≤_}
 use native.Mathlib.Omega.{arith}
 use mathlib.Core.Path.{_≡_, refl, sym, ap, _∙_}
 use mathlib.Core.Bool.{Bool, true, false}
@@ -9,18 +9,17 @@ use lib.Dec.{eqb, leb}
 use lib.ListN.{length}
 use borrow.Author.Tests.{eqb-true, eqb-false, leb-true, leb-false, le-leb}
 use Rattle.bmap.specs.Plain.{flat}
-use Rattle.bmap.specs.Limits.{mostAgents, mostSteps}
+use Rattle.bmap.specs.Limits.{mostSteps}
 use Rattle.bmap.specs.Refusal.{Answer, got, refused, need}
+use Rattle.bmap.specs.Line.{lineSize}
 use Rattle.bmap.specs.Domain.{Names}
-use Rattle.bmap.specs.Buffer.{Written, written}
+use Rattle.bmap.specs.Buffer.{Written}
 use Rattle.bmap.specs.Sheet.{agentsKnown, rows, sheetOf, stepLine, writeSheet}
+use Rattle.bmap.specs.Theorems.{longestSheet, SheetTextFits}
 use Rattle.line.proofs.Answers.{need-got}
-use Rattle.sheet.specs.Step.{agentsAllowed, lineSize, linesIn}
+use Rattle.sheet.specs.Step.{agentsAllowed, linesIn}
 use Rattle.sheet.proofs.Agents.{known-agents}
 use Rattle.sheet.proofs.WriteLaws.{length-lines, total-most, whole-steps, written-is, write-agents, write-not-whole, write-too-long}
-
-abbrev pub longestSheet : ℕ
-longestSheet = mostSteps * lineSize mostAgents
 
 module _ (agents : ℕ) (sheet : List ℕ) where
   -- whole steps, no more than a sheet may have
@@ -61,3 +60,7 @@ module _ (agents : ℕ) (sheet : List ℕ) where
           inr (inr (number 9 (write-too-long sheet text agents p (eqb-true (length sheet % agents) 0 q) (leb-false (length sheet / agents) mostSteps r) .0)))
       go true p false q t r = inr (inl (number 8 (write-not-whole sheet text agents p (eqb-false (length sheet % agents) 0 q) .0)))
       go false p s q t r = inl (number 4 (write-agents sheet text agents p .0))
+
+-- THEOREM. No text of a sheet is longer than `longestSheet`, and a buffer of that length is never refused by 10.
+pub sheet-text-fits : SheetTextFits
+sheet-text-fits = record { most = text-most; room = text-fits }

@@ -11,12 +11,13 @@ use borrow.Author.Tests.{le-leb, lt-leb, eq-eqb, ne-eqb}
 use Rattle.bmap.specs.Plain.{flat}
 use Rattle.bmap.specs.Limits.{mostAgents, mostSteps}
 use Rattle.bmap.specs.Refusal.{got, refused}
+use Rattle.bmap.specs.Line.{lineSize}
 use Rattle.bmap.specs.Buffer.{over, written}
 use Rattle.bmap.specs.Sheet.{rows, sheetOf, stepLine, writeSheet}
 use Rattle.line.specs.Write.{lineWritten}
 use Rattle.line.proofs.Lists.{part-to-end}
 use Rattle.line.proofs.WriteLaws.{length-line, put-in-room}
-use Rattle.sheet.specs.Step.{agentsAllowed, lineSize, linesIn}
+use Rattle.sheet.specs.Step.{agentsAllowed, linesIn}
 
 -- ---- the lines
 

@@ -1,5 +1,5 @@
 -- What the functions within `read` and `write` promise each other: the lines of a sheet one by one.
-use Prim.Native.Nat.{ℕ, _+_, _*_, _≤_, _<_}
+use Prim.Native.Nat.{ℕ, _≤_, _<_}
 use mathlib.Core.Bool.{Bool}
 use mathlib.Core.List.{List, [], _∷_, map}
 use mathlib.Core.Path.{_≡_}
@@ -55,10 +55,6 @@ NextIs agents steps rest frame (next.Refused r) = LineRefused agents steps rest 
 NextIs agents steps rest frame (next.Step characters) = LineStep agents steps rest frame characters
 
 -- ---- the writer
-
--- the characters of a step's line
-abbrev pub lineSize : ℕ → ℕ
-lineSize agents = 2 * agents + 5
 
 -- the lines of so many steps
 unfoldable pub linesIn : ℕ → ℕ → List ℕ → List ℕ

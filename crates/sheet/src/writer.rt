@@ -10,9 +10,10 @@ ghost use Prim.Native.Nat.{_*_, _≤_};
 ghost use lib.ListN.{length};
 ghost use Rattle.bmap.specs.Buffer.{over};
 ghost use Rattle.bmap.specs.Limits.{mostAgents};
+ghost use Rattle.bmap.specs.Line.{lineSize};
 ghost use Rattle.bmap.specs.Sheet.{writeSheet};
 ghost use Rattle.line.specs.Write.{answerOf};
-ghost use Rattle.sheet.specs.Step.{lineSize, linesIn};
+ghost use Rattle.sheet.specs.Step.{linesIn};
 
 // The lines of a sheet to the front of a text: its length is tested before anything is written.
 pub fn write(sheet: &[u8], agents: usize, text: &mut [u8]) -> Written

@@ -1,5 +1,5 @@
 use Rattle.sheet.proofs.WriteLaws.{Put, put-start, put-more, put-end, step-left}
-use Rattle.sheet.specs.Step.{lineSize}
+use Rattle.bmap.specs.Line.{lineSize}
 use borrow.Author.Needs.{needs}
 use native.Mathlib.Omega.{arith}
 use lib.Seq.{length-take-le}

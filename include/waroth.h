@@ -33,12 +33,17 @@ enum {
     WAROTH_EDITS = 200
 };
 
+/* The characters of a line of the program's output, at most: "S", a number, a level for each fluent, LF; then "BROKEN", three
+ * numbers, LF. A number takes 21 with the space before it, a level 7. */
+#define WAROTH_STATE_LINE (1 + 21 + 7 * WAROTH_FLUENTS + 1)
+#define WAROTH_LAST_LINE (6 + 3 * 21 + 1)
+
 /* The least size of each buffer that is lent to be written. */
 enum {
-    WAROTH_STORE = 36000,                                                              /* bytes: a domain is read into it */
-    WAROTH_SHEET = WAROTH_STEPS * WAROTH_AGENTS,                                       /* bytes: a sheet is read into it */
-    WAROTH_LEVELS = (WAROTH_STEPS + 1) * WAROTH_FLUENTS,                               /* numbers: levels */
-    WAROTH_OUTPUT = (WAROTH_STEPS + 1) * (24 + 7 * WAROTH_FLUENTS) + 70                /* bytes: the program's output */
+    WAROTH_STORE = 36000,                                /* bytes: a domain is read into it */
+    WAROTH_SHEET = WAROTH_STEPS * WAROTH_AGENTS,         /* bytes: a sheet is read into it */
+    WAROTH_LEVELS = (WAROTH_STEPS + 1) * WAROTH_FLUENTS, /* numbers: levels */
+    WAROTH_OUTPUT = (WAROTH_STEPS + 1) * WAROTH_STATE_LINE + WAROTH_LAST_LINE /* bytes: the program's output */
 };
 
 /* The most bytes of the program's input. */

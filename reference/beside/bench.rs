@@ -12,7 +12,7 @@ use std::hint::black_box;
 use std::time::{Duration, Instant};
 use waroth_reference::generate::draft::sheet_text;
 use waroth_reference::generate::{random::Random, sheets, Answer};
-use waroth_reference::judge::{Verdict, LEVELS};
+use waroth_reference::judge::{Judged, Verdict, LEVELS};
 use waroth_reference::sheet::SHEET_BYTES;
 use waroth_reference::store::STORE_BYTES;
 use waroth_reference::{judge, plain, read_domain, read_sheet};
@@ -53,11 +53,14 @@ fn verdicts(input: &Input) {
     let (store, sheet) = (input.draft.store(), &input.sheet);
     let mut levels = [(); 3].map(|()| vec![0; LEVELS]);
     let [ours, theirs, plains] = &mut levels;
-    let accepted = Ok(Verdict::Accepted);
-    assert_eq!(judge(&store, sheet, theirs), accepted);
-    assert_eq!(plain::judge(&store, sheet, plains), accepted);
+    let accepted = Judged {
+        verdict: Verdict::Accepted,
+        states: sheet.len() / input.draft.agents + 1,
+    };
+    assert_eq!(judge(&store, sheet, theirs), Ok(accepted));
+    assert_eq!(plain::judge(&store, sheet, plains), Ok(accepted));
     let answer = desk::judge(&store, sheet, ours);
-    assert_eq!(answer, Answer::Verdict(Verdict::Accepted));
+    assert_eq!(answer, Answer::Judged(accepted));
     let [library, second, plain] = best([
         &mut || {
             black_box(desk::judge(black_box(&store), sheet, ours));

@@ -22,6 +22,7 @@ pub fn run_library(case: &Case) -> Result<Outcome, String> {
             let answer = Answer::Truth(opened == Answer::Done);
             outcome.answers.push(("accepted", answer));
         }
+        Case::Counts { store } => outcome.answers.push(("counts", desk::counts(store))),
         Case::WriteDomain { store, text } => {
             let mut text = Lent::of(text);
             let answer = desk::write_domain(store, text.part());

@@ -1,13 +1,17 @@
 //! The proved library's calls as include/waroth.h declares them, behind functions with Rust's own types.
 
 use waroth_reference::generate::Answer;
-use waroth_reference::judge::Verdict;
-use waroth_reference::Session;
+use waroth_reference::judge::{Judged, Verdict};
+use waroth_reference::{Counts, Session};
+
+// The header's size_t has 64 bits, as the numbers of a session have here, and nothing stands between a session's parts.
+const _: () = assert!(size_of::<usize>() == 8 && size_of::<Session>() == Session::BYTES);
 
 #[link(name = "desk", kind = "static")]
 extern "C" {
     fn waroth_read_domain(text: *const u8, length: usize, store: *mut u8, room: usize) -> u64;
     fn waroth_write_domain(store: *const u8, length: usize, text: *mut u8, room: usize) -> u64;
+    fn waroth_counts(store: *const u8, length: usize) -> u64;
     fn waroth_frame(store: *const u8, length: usize, place: usize) -> u64;
     fn waroth_read_sheet(
         text: *const u8,
@@ -31,12 +35,12 @@ extern "C" {
         levels: *mut i16,
         room: usize,
     ) -> u64;
-    fn waroth_open(session: *mut Session, store: *const u8, length: usize) -> u8;
-    fn waroth_enter(session: *mut Session, names: *const u8, length: usize) -> u8;
-    fn waroth_strike(session: *mut Session) -> u8;
-    fn waroth_amend(session: *mut Session, step: usize, names: *const u8, length: usize) -> u8;
-    fn waroth_undo(session: *mut Session) -> u8;
-    fn waroth_redo(session: *mut Session) -> u8;
+    fn waroth_open(session: *mut Session, store: *const u8, length: usize) -> u64;
+    fn waroth_enter(session: *mut Session, names: *const u8, length: usize) -> u64;
+    fn waroth_strike(session: *mut Session) -> u64;
+    fn waroth_amend(session: *mut Session, step: usize, names: *const u8, length: usize) -> u64;
+    fn waroth_undo(session: *mut Session) -> u64;
+    fn waroth_redo(session: *mut Session) -> u64;
     fn waroth_verdict(
         session: Session,
         store: *const u8,
@@ -47,44 +51,107 @@ extern "C" {
     fn waroth_answer(input: *const u8, length: usize, output: *mut u8, room: usize) -> u64;
 }
 
-/// A refusal's number in the upper half and its line in the lower, or the count alone.
-fn count(answer: u64) -> Answer {
-    let (number, rest) = ((answer >> 32) as u8, (answer & 0xFFFF_FFFF) as usize);
-    match number {
-        0 => Answer::Count(rest),
-        number => Answer::Refused { number, line: rest },
+/// What include/waroth.h calls WAROTH_ACCEPTED and WAROTH_REFUSED.
+const ACCEPTED: u64 = 128;
+const REFUSED: u64 = 255;
+
+/// What the header's functions read from an answer, if that makes up the whole of it: any bit besides is a difference.
+fn whole(answer: u64, parts: u64, read: Answer) -> Answer {
+    match answer == parts {
+        true => read,
+        false => Answer::Unreadable(answer),
     }
 }
 
-/// A refusal's number in the upper half, or kind, step and number of a fault; 0 is accepted.
-fn verdict(answer: u64) -> Answer {
-    let byte = |at: u32| (answer >> at) as u8;
-    match (byte(32), byte(16)) {
-        (0, 0) => Answer::Verdict(Verdict::Accepted),
-        (0, kind) => Answer::Verdict(Verdict::Broken {
-            kind,
-            step: byte(8),
-            number: byte(0),
-        }),
-        (number, _) => Answer::Refused { number, line: 0 },
+/// The byte of an answer whose lowest bit is this one.
+fn byte(answer: u64, lowest: u32) -> u8 {
+    (answer >> lowest) as u8
+}
+
+/// A refusal's number in the upper half; in the lower bit 31, and this beside it.
+fn refused(answer: u64, line: u64, beside: u64) -> Answer {
+    let parts = u64::from(byte(answer, 32)) << 32 | 1 << 31 | beside;
+    let read = Answer::Refused {
+        number: byte(answer, 32),
+        line: line as usize,
+    };
+    whole(answer, parts, read)
+}
+
+/// Bytes or steps, or a refusal and its line.
+fn counted(answer: u64) -> Answer {
+    let below = answer & 0x7FFF_FFFF;
+    match answer >> 32 {
+        0 => whole(answer, below, Answer::Count(below as usize)),
+        _ => refused(answer, below, below),
     }
 }
 
-fn done(number: u8) -> Answer {
-    match number {
+/// Bytes, or a refusal that has no line.
+fn written(answer: u64) -> Answer {
+    match answer >> 32 {
+        0 => counted(answer),
+        _ => refused(answer, 0, 0),
+    }
+}
+
+/// Kind, step and number, and above them the states.
+fn judged(answer: u64) -> Answer {
+    let (kind, states) = (byte(answer, 16), answer >> 24 & 0x7F);
+    let (verdict, below) = match u64::from(kind) {
+        _ if answer >> 32 != 0 => return refused(answer, 0, REFUSED << 16),
+        ACCEPTED => (Verdict::Accepted, 0),
+        _ => {
+            let (step, number) = (byte(answer, 8), byte(answer, 0));
+            let below = u64::from(step) << 8 | u64::from(number);
+            (Verdict::Broken { kind, step, number }, below)
+        }
+    };
+    let judged = Judged {
+        verdict,
+        states: states as usize,
+    };
+    let parts = states << 24 | u64::from(kind) << 16 | below;
+    whole(answer, parts, Answer::Judged(judged))
+}
+
+/// Agents, fluents, entries and laws, a byte each.
+fn numbered(answer: u64) -> Answer {
+    let count = |lowest| usize::from(byte(answer, lowest));
+    let counts = Counts {
+        agents: count(24),
+        fluents: count(16),
+        entries: count(8),
+        laws: count(0),
+    };
+    match answer >> 32 {
+        0 => whole(answer, answer & 0x7FFF_FFFF, Answer::Counts(counts)),
+        _ => refused(answer, 0, 0),
+    }
+}
+
+/// 0, or a refusal.
+fn done(answer: u64) -> Answer {
+    match answer {
         0 => Answer::Done,
-        number => Answer::Refused { number, line: 0 },
+        _ => refused(answer, 0, 0),
     }
 }
 
 pub fn read_domain(text: &[u8], store: &mut [u8]) -> Answer {
-    count(unsafe { waroth_read_domain(text.as_ptr(), text.len(), store.as_mut_ptr(), store.len()) })
+    counted(unsafe {
+        waroth_read_domain(text.as_ptr(), text.len(), store.as_mut_ptr(), store.len())
+    })
 }
 
 pub fn write_domain(store: &[u8], text: &mut [u8]) -> Answer {
-    count(unsafe {
+    written(unsafe {
         waroth_write_domain(store.as_ptr(), store.len(), text.as_mut_ptr(), text.len())
     })
+}
+
+pub fn counts(store: &[u8]) -> Answer {
+    numbered(unsafe { waroth_counts(store.as_ptr(), store.len()) })
 }
 
 /// The size of the frame at a place, 0 where none stands.
@@ -94,16 +161,16 @@ pub fn frame(store: &[u8], place: usize) -> usize {
 
 pub fn read_sheet(text: &[u8], agents: usize, buffer: &mut [u8]) -> Answer {
     let (room, to) = (buffer.len(), buffer.as_mut_ptr());
-    count(unsafe { waroth_read_sheet(text.as_ptr(), text.len(), agents, to, room) })
+    counted(unsafe { waroth_read_sheet(text.as_ptr(), text.len(), agents, to, room) })
 }
 
 pub fn write_sheet(sheet: &[u8], agents: usize, text: &mut [u8]) -> Answer {
     let (room, to) = (text.len(), text.as_mut_ptr());
-    count(unsafe { waroth_write_sheet(sheet.as_ptr(), sheet.len(), agents, to, room) })
+    written(unsafe { waroth_write_sheet(sheet.as_ptr(), sheet.len(), agents, to, room) })
 }
 
 pub fn judge(store: &[u8], sheet: &[u8], levels: &mut [i16]) -> Answer {
-    verdict(unsafe {
+    judged(unsafe {
         waroth_judge(
             store.as_ptr(),
             store.len(),
@@ -142,7 +209,7 @@ pub fn redo(session: &mut Session) -> Answer {
 pub fn verdict_of(session: &Session, store: &[u8], levels: &mut [i16]) -> Answer {
     let (room, to) = (levels.len(), levels.as_mut_ptr());
     let session = session.clone();
-    verdict(unsafe { waroth_verdict(session, store.as_ptr(), store.len(), to, room) })
+    judged(unsafe { waroth_verdict(session, store.as_ptr(), store.len(), to, room) })
 }
 
 /// What the program prints for an input: the bytes written to the front of the output.

@@ -1,7 +1,9 @@
 //! What the benchmark runs on: accepted domains, and sheets of 64 steps for them that are accepted.
 
-use waroth_reference::generate::draft::{law, mask_frame, Draft};
+use waroth_reference::generate::draft::{law, Draft};
 use waroth_reference::generate::laws::{constant, node};
+use waroth_reference::generate::random::Random;
+use waroth_reference::generate::shapes::longest;
 
 const STEPS: usize = 64;
 
@@ -30,13 +32,7 @@ pub fn pool() -> Input {
 
 /// As many of everything as is allowed; in each step each agent acts.
 pub fn full() -> Input {
-    let entries: Vec<_> = (0..64).map(|e| (1 + e / 16, 1 << (e % 16))).collect();
-    let mut draft = Draft::new(16, &[[-1000, 1000, 0]; 32], &entries);
-    for mask in [0x00FF, 0xFF00] {
-        for number in 0..32 {
-            draft.insert(mask_frame(0xA3, number, mask));
-        }
-    }
+    let mut draft = Draft::crowded();
     for entry in 0..64usize {
         let condition = at_least(&fluent(entry % 32), -1000);
         draft.insert(law(0xA5, &[&[entry as u8], &condition]));
@@ -85,29 +81,11 @@ pub fn deep() -> Input {
     }
 }
 
-/// "And" over so many comparisons, in halves.
-fn joined(comparisons: usize) -> Vec<u8> {
-    match comparisons {
-        1 => at_least(&fluent(31), 0),
-        _ => {
-            let half = comparisons / 2;
-            node(0x26, &[&joined(half), &joined(comparisons - half)])
-        }
-    }
-}
-
-/// A domain with the longest text: every law fills its line.
+/// A domain with the longest text, and nobody acts.
 pub fn long_text() -> Input {
-    let Input { mut draft, .. } = full();
-    draft.frames.retain(|frame| frame[0] < 0xA5);
-    let constraint = joined(15);
-    for entry in 0..64 {
-        draft.insert(law(0xA5, &[&[entry], &constraint]));
-        draft.insert(law(0xA7, &[&constraint]));
-    }
     Input {
         name: "longest text",
-        draft,
-        sheet: Vec::new(),
+        draft: longest(&mut Random::seeded(8)),
+        sheet: vec![0; 16 * STEPS],
     }
 }

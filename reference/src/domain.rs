@@ -44,6 +44,15 @@ pub struct Law {
     end: u16,
 }
 
+/// How many of each a domain has.
+#[derive(Clone, Copy, PartialEq, Eq, Debug)]
+pub struct Counts {
+    pub agents: usize,
+    pub fluents: usize,
+    pub entries: usize,
+    pub laws: usize,
+}
+
 /// A domain, finished once [`Domain::finish`] has agreed. With the target
 /// `Vec<Op>` its laws can be evaluated, with `Nowhere` it is only checked.
 pub struct Domain<T = Vec<Op>> {
@@ -125,6 +134,15 @@ impl<T: Target> Domain<T> {
 
     pub fn entries(&self) -> &[Entry] {
         &self.entries[..self.entry_count]
+    }
+
+    pub fn counts(&self) -> Counts {
+        Counts {
+            agents: self.agents,
+            fluents: self.fluent_count,
+            entries: self.entry_count,
+            laws: self.law_count,
+        }
     }
 
     pub fn law(&self, number: usize) -> &Law {

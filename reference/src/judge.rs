@@ -27,51 +27,61 @@ pub enum Verdict {
     Broken { kind: u8, step: u8, number: u8 },
 }
 
+/// A verdict, and how many states the levels buffer received.
+#[derive(Clone, Copy, PartialEq, Eq, Debug)]
+pub struct Judged {
+    pub verdict: Verdict,
+    pub states: usize,
+}
+
 /// A fault without its step: kind, and the number of agent, entry, fluent or law.
 struct Fault(u8, usize);
 
 /// Judges a sheet, writes the states reached into `levels` and touches none of
 /// the numbers after them. Refusals 10, 15, 8 and 9, in this order.
-pub fn judge(store: &[u8], sheet: &[u8], levels: &mut [i16]) -> Result<Verdict, u8> {
+pub fn judge(store: &[u8], sheet: &[u8], levels: &mut [i16]) -> Result<Judged, u8> {
     if levels.len() < LEVELS {
         return Err(refusal::BUFFER);
     }
     let domain = store::parse(store).ok_or(refusal::STORE)?;
     steps_of(sheet, domain.agents())?;
-    Ok(run(&domain, sheet, levels).0)
+    Ok(run(&domain, sheet, levels))
 }
 
-/// Judges whole steps, at most 64 of them, over a domain. Returns the verdict
-/// and the number of states written.
-pub fn run(domain: &Domain, sheet: &[u8], levels: &mut [i16]) -> (Verdict, usize) {
+/// Judges whole steps, at most 64 of them, over a domain.
+pub fn run(domain: &Domain, sheet: &[u8], levels: &mut [i16]) -> Judged {
     let mut trial = Trial::start(domain);
     let width = domain.fluents().len();
     if let Err(fault) = trial.statics(0) {
-        return (fault.at(0), 0);
+        return fault.at(0, 0);
     }
     levels[..width].copy_from_slice(&trial.states[0][..width]);
     let mut step = 0;
     for names in sheet.chunks_exact(domain.agents()) {
         step += 1;
         if let Err(fault) = trial.step(step, names) {
-            return (fault.at(step), step);
+            return fault.at(step, step);
         }
         levels[step * width..][..width].copy_from_slice(&trial.states[step][..width]);
     }
-    let verdict = match trial.all_true(domain.laws_of(GOAL), step, GOAL_MISSED) {
-        Ok(()) => Verdict::Accepted,
-        Err(fault) => fault.at(step),
-    };
-    (verdict, step + 1)
+    let states = step + 1;
+    match trial.all_true(domain.laws_of(GOAL), step, GOAL_MISSED) {
+        Ok(()) => Judged {
+            verdict: Verdict::Accepted,
+            states,
+        },
+        Err(fault) => fault.at(step, states),
+    }
 }
 
 impl Fault {
-    fn at(self, step: usize) -> Verdict {
-        Verdict::Broken {
+    fn at(self, step: usize, states: usize) -> Judged {
+        let verdict = Verdict::Broken {
             kind: self.0,
             step: step as u8,
             number: self.1 as u8,
-        }
+        };
+        Judged { verdict, states }
     }
 }
 

@@ -14,8 +14,8 @@ pub mod session;
 pub mod sheet;
 pub mod store;
 
-pub use domain::Domain;
-pub use judge::{judge, Verdict};
+pub use domain::{Counts, Domain};
+pub use judge::{judge, Judged, Verdict};
 pub use session::Session;
 pub use sheet::{read_sheet, write_sheet};
-pub use store::{accepted, read_domain, write_domain, FrameReader};
+pub use store::{accepted, counts, read_domain, write_domain, FrameReader};

@@ -4,7 +4,7 @@
 
 use crate::domain::{AGENTS, CONCURRENCY, EFFECT, ENTRY, EXECUTABILITY, FLUENT, KNOWS, STATIC};
 use crate::judge::{
-    Verdict, DISAGREEMENT, GOAL_MISSED, LEVELS, NOT_EXECUTABLE, NOT_TAKEN_UP, NOT_TOGETHER,
+    Judged, Verdict, DISAGREEMENT, GOAL_MISSED, LEVELS, NOT_EXECUTABLE, NOT_TAKEN_UP, NOT_TOGETHER,
     NO_VALUE, OUT_OF_RANGE, STATE_REFUSED,
 };
 use crate::number;
@@ -13,7 +13,7 @@ use crate::sheet::steps_of;
 use crate::store::FrameReader;
 
 /// Judges as [`crate::judge::judge`] does.
-pub fn judge(store: &[u8], sheet: &[u8], levels: &mut [i16]) -> Result<Verdict, u8> {
+pub fn judge(store: &[u8], sheet: &[u8], levels: &mut [i16]) -> Result<Judged, u8> {
     if levels.len() < LEVELS {
         return Err(refusal::BUFFER);
     }
@@ -30,7 +30,8 @@ pub fn judge(store: &[u8], sheet: &[u8], levels: &mut [i16]) -> Result<Verdict, 
         .iter_mut()
         .zip(numbers)
         .for_each(|(level, &value)| *level = value as i16);
-    Ok(verdict)
+    let states = history.states.len();
+    Ok(Judged { verdict, states })
 }
 
 enum Expression {

@@ -1,6 +1,6 @@
 //! The program: a domain and a sheet in, states and a verdict out.
 
-use crate::judge::{self, Verdict, LEVELS};
+use crate::judge::{self, Judged, Verdict, LEVELS};
 use crate::refusal;
 use crate::sheet::{self, SHEET_BYTES};
 use crate::store::{self, STORE_BYTES};
@@ -44,8 +44,8 @@ fn print(input: &[u8]) -> Result<Vec<u8>, (u8, usize)> {
 
     let mut levels = [0; LEVELS];
     let names = &sheet[..steps * domain.agents()];
-    let (verdict, states) = judge::run(&domain, names, &mut levels);
-    Ok(report(&levels, states, domain.fluents().len(), verdict))
+    let judged = judge::run(&domain, names, &mut levels);
+    Ok(report(&levels, domain.fluents().len(), judged))
 }
 
 /// Where the first line that starts with "B1" begins, or the end.
@@ -60,7 +60,8 @@ fn sheet_start(input: &[u8]) -> usize {
     start
 }
 
-fn report(levels: &[i16], states: usize, width: usize, verdict: Verdict) -> Vec<u8> {
+fn report(levels: &[i16], width: usize, judged: Judged) -> Vec<u8> {
+    let Judged { verdict, states } = judged;
     let mut out = Vec::with_capacity(64 + states * (8 + 7 * width));
     // Writing to a vector cannot fail.
     for (number, state) in levels.chunks_exact(width).take(states).enumerate() {

@@ -6,7 +6,7 @@
 //! is sound exactly if replaying its log gives its sheet.
 
 use crate::domain::Domain;
-use crate::judge::{self, Verdict, LEVELS};
+use crate::judge::{self, Judged, LEVELS};
 use crate::refusal;
 use crate::sheet::{MAX_STEPS, SHEET_BYTES};
 use crate::store::{self, all_zero};
@@ -113,7 +113,7 @@ impl Session {
     /// Opens over a domain; refusal 15 leaves the session closed.
     pub fn open(&mut self, store: &[u8]) -> Result<(), u8> {
         *self = Session::closed();
-        self.agents = store::agents(store).ok_or(refusal::STORE)? as u64;
+        self.agents = store::counts(store)?.agents as u64;
         Ok(())
     }
 
@@ -165,7 +165,7 @@ impl Session {
     }
 
     /// The judge's verdict on the sheet. Refusals 17, 10, 15 and 16.
-    pub fn verdict(&self, store: &[u8], levels: &mut [i16]) -> Result<Verdict, u8> {
+    pub fn verdict(&self, store: &[u8], levels: &mut [i16]) -> Result<Judged, u8> {
         let sheet = self.check()?;
         if levels.len() < LEVELS {
             return Err(refusal::BUFFER);
@@ -175,7 +175,7 @@ impl Session {
             return Err(refusal::AGENTS_DIFFER);
         }
         let names = &self.sheet[..sheet.steps * sheet.agents];
-        Ok(judge::run(&domain, names, levels).0)
+        Ok(judge::run(&domain, names, levels))
     }
 
     /// Whether an accepted opening and calls after it could leave this session.

@@ -10,6 +10,9 @@ pub const MAX_STEPS: usize = 64;
 /// Bytes that the sheet reader asks of its buffer: the longest sheet.
 pub const SHEET_BYTES: usize = MAX_STEPS * Domain::MAX_AGENTS;
 
+/// Bytes of the longest text.
+pub const LONGEST_TEXT: usize = MAX_STEPS * line_length(2 + Domain::MAX_AGENTS);
+
 fn check_agents(agents: usize) -> Result<(), u8> {
     let known = (1..=Domain::MAX_AGENTS).contains(&agents);
     known.then_some(()).ok_or(refusal::PAYLOAD)

@@ -1,12 +1,18 @@
 //! The store: a domain's frames end to end, then zeros.
 
-use crate::domain::Domain;
+use crate::domain::{Counts, Domain};
 use crate::law::Target;
 use crate::line::{line_length, write_line, Lines, MAX_PAYLOAD};
 use crate::refusal;
 
 /// Bytes that the domain reader asks of its store.
 pub const STORE_BYTES: usize = 36_000;
+
+/// Bytes of the longest text: every limit reached, every law's line full.
+pub const LONGEST_TEXT: usize = line_length(2 + 1)
+    + Domain::MAX_FLUENTS * line_length(2 + 6)
+    + (Domain::MAX_KNOWS + Domain::MAX_ENTRIES) * line_length(2 + 3)
+    + Domain::MAX_LAWS * line_length(2 + MAX_PAYLOAD);
 
 /// Reads a domain text into the store and returns the bytes used, or the
 /// refusal and its line.
@@ -82,12 +88,14 @@ pub(crate) fn all_zero(bytes: &[u8]) -> bool {
 
 /// Whether the store is an accepted domain followed by zeros.
 pub fn accepted(store: &[u8]) -> bool {
-    agents(store).is_some()
+    counts(store).is_ok()
 }
 
-/// The number of agents of an accepted domain.
-pub fn agents(store: &[u8]) -> Option<usize> {
-    gather(store, Domain::checking()).map(|domain| domain.agents())
+/// How many agents, fluents, entries and laws an accepted domain has; refusal
+/// 15.
+pub fn counts(store: &[u8]) -> Result<Counts, u8> {
+    let domain = gather(store, Domain::checking()).ok_or(refusal::STORE)?;
+    Ok(domain.counts())
 }
 
 /// The domain of an accepted store, its laws compiled.

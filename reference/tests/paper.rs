@@ -3,7 +3,7 @@
 use waroth_reference::domain::Domain;
 use waroth_reference::generate::draft::{mask_frame, Draft};
 use waroth_reference::generate::laws::{constant, node};
-use waroth_reference::judge::{judge, Verdict, LEVELS};
+use waroth_reference::judge::{judge, Judged, Verdict, LEVELS};
 use waroth_reference::law::{evaluate, Moment, Op, Parser, Scope};
 use waroth_reference::store::STORE_BYTES;
 use waroth_reference::{number, program, read_domain, read_sheet};
@@ -33,11 +33,12 @@ fn pool() -> Vec<u8> {
 /// The verdict on a sheet of P, and the states written.
 fn judged(sheet: &[u8]) -> (Verdict, Vec<i16>) {
     let mut levels = vec![UNTOUCHED; LEVELS];
-    let verdict = judge(&pool(), sheet, &mut levels).expect("no refusal");
+    let judged = judge(&pool(), sheet, &mut levels).expect("no refusal");
     let written = levels.iter().position(|&level| level == UNTOUCHED);
     let (states, rest) = levels.split_at(written.unwrap_or(LEVELS));
     assert!(rest.iter().all(|&level| level == UNTOUCHED));
-    (verdict, states.to_vec())
+    assert_eq!(judged.states, states.len());
+    (judged.verdict, states.to_vec())
 }
 
 fn broken(kind: u8, step: u8, number: u8) -> Verdict {
@@ -187,7 +188,8 @@ fn errors_that_look_reasonable() {
     ];
     draft.insert(waroth_reference::generate::draft::law(0xA5, &both));
     let mut levels = vec![UNTOUCHED; LEVELS];
-    let verdict = judge(&draft.bytes(), &[1], &mut levels);
-    assert_eq!(verdict, Ok(broken(2, 1, 0)));
+    let (verdict, states) = (broken(2, 1, 0), 1);
+    let judged = judge(&draft.bytes(), &[1], &mut levels);
+    assert_eq!(judged, Ok(Judged { verdict, states }));
     assert_eq!(levels[..3], [5, 5, UNTOUCHED]);
 }

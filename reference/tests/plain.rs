@@ -2,17 +2,20 @@
 
 use waroth_reference::generate::draft::Draft;
 use waroth_reference::generate::random::Random;
-use waroth_reference::generate::{sheets, verdicts};
-use waroth_reference::judge::{judge, Verdict, LEVELS};
+use waroth_reference::generate::{sheets, verdicts, Expect};
+use waroth_reference::judge::{judge, Judged, Verdict, LEVELS};
 use waroth_reference::plain;
 
-fn compare(draft: &Draft, sheet: &[u8]) -> Verdict {
-    let (store, mut levels) = (draft.bytes(), vec![-777; LEVELS]);
-    let mut others = levels.clone();
-    let verdict = judge(&store, sheet, &mut levels);
-    assert_eq!(verdict, plain::judge(&store, sheet, &mut others));
-    assert!(levels == others);
-    verdict.expect("a sheet of the domain")
+/// The two judge alike, and as many states are written as they say.
+fn compare(draft: &Draft, sheet: &[u8]) -> Judged {
+    let (store, mut levels, mut others) = (draft.bytes(), vec![-777; LEVELS], vec![778; LEVELS]);
+    let judged = judge(&store, sheet, &mut levels).expect("a sheet of the domain");
+    assert_eq!(plain::judge(&store, sheet, &mut others), Ok(judged));
+    let written = judged.states * draft.fluents.len();
+    assert!(levels[..written] == others[..written]);
+    assert!(levels[written..].iter().all(|&level| level == -777));
+    assert!(others[written..].iter().all(|&level| level == 778));
+    judged
 }
 
 #[test]
@@ -22,10 +25,21 @@ fn random_sheets() {
     for _ in 0..4_000 {
         let draft = Draft::random(&mut r);
         let sheet = sheets::sheet(&mut r, &draft);
-        match compare(&draft, &sheet) {
-            Verdict::Accepted => kinds[0] += 1,
-            Verdict::Broken { kind, .. } => kinds[kind as usize] += 1,
-        }
+        let Judged { verdict, states } = compare(&draft, &sheet);
+        let all = sheet.len() / draft.agents + 1;
+        let (kind, possible) = match verdict {
+            Verdict::Accepted => (0, [all, all]),
+            Verdict::Broken { kind, step, .. } => {
+                let before = usize::from(step);
+                match kind {
+                    7 if before + 1 == all => (7, [before, all]),
+                    8 => (8, [all, all]),
+                    kind => (kind, [before, before]),
+                }
+            }
+        };
+        assert!(possible.contains(&states), "{verdict:?}, {states} states");
+        kinds[kind as usize] += 1;
     }
     assert!(kinds.iter().all(|&met| met > 0), "{kinds:?}");
 }
@@ -33,14 +47,16 @@ fn random_sheets() {
 #[test]
 fn wanted_verdicts() {
     let mut r = Random::seeded(22);
-    for (label, kind, make) in verdicts::trials() {
+    for (label, expect, make) in verdicts::trials() {
         for _ in 0..10 {
             let (draft, sheet) = make(&mut r);
-            let met = match compare(&draft, &sheet) {
-                Verdict::Accepted => 0,
-                Verdict::Broken { kind, .. } => kind,
+            let Judged { verdict, states } = compare(&draft, &sheet);
+            let met = match verdict {
+                Verdict::Accepted => Expect::Accepted,
+                Verdict::Broken { kind, step, .. } if states > step.into() => Expect::Goal(kind),
+                Verdict::Broken { kind, .. } => Expect::Broken(kind),
             };
-            assert_eq!(met, kind, "{label}");
+            assert_eq!(met, expect, "{label}");
         }
     }
 }

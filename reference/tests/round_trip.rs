@@ -2,9 +2,10 @@
 
 use waroth_reference::generate::draft::{sheet_text, Draft};
 use waroth_reference::generate::random::Random;
+use waroth_reference::generate::shapes::longest;
 use waroth_reference::generate::{run_reference, Coverage, Generator};
-use waroth_reference::store::STORE_BYTES;
-use waroth_reference::{read_domain, read_sheet, write_domain, write_sheet};
+use waroth_reference::store::{self, STORE_BYTES};
+use waroth_reference::{read_domain, read_sheet, sheet, write_domain, write_sheet};
 
 #[test]
 fn domains() {
@@ -35,6 +36,20 @@ fn sheets() {
         let mut again = vec![b'?'; text.len() + 1];
         assert_eq!(write_sheet(&sheet, agents, &mut again), Ok(text.len()));
         assert_eq!(again[..text.len()], text);
+    }
+}
+
+#[test]
+fn the_longest_texts() {
+    assert_eq!((store::LONGEST_TEXT, sheet::LONGEST_TEXT), (33_319, 2_368));
+    let mut r = Random::seeded(9);
+    for _ in 0..20 {
+        let (domain, names) = (longest(&mut r).store(), r.bytes(1024));
+        let mut text = vec![b'?'; 33_319];
+        assert_eq!(write_domain(&domain, &mut text[..33_318]), Err(10));
+        assert_eq!(write_domain(&domain, &mut text), Ok(33_319));
+        assert_eq!(write_sheet(&names, 16, &mut text[..2_367]), Err(10));
+        assert_eq!(write_sheet(&names, 16, &mut text[..2_368]), Ok(2_368));
     }
 }
 

@@ -3,7 +3,7 @@
 use waroth_reference::generate::draft::Draft;
 use waroth_reference::generate::random::Random;
 use waroth_reference::generate::sheets::{self, SESSION_FAULTS};
-use waroth_reference::judge::{Verdict, LEVELS};
+use waroth_reference::judge::{Judged, Verdict, LEVELS};
 use waroth_reference::session::{Session, AMEND, EDIT_BYTES, ENTER, STRIKE};
 
 fn opened() -> Session {
@@ -112,8 +112,9 @@ fn verdicts() {
     let other = Draft::new(3, &[[0, 1, 0]], &[(1, 1)]).free();
     assert_eq!(session.verdict(&other.bytes(), &mut levels), Err(16));
     assert!(levels.iter().all(|&level| level == -1));
-    let verdict = session.verdict(&store, &mut levels);
-    assert_eq!(verdict, Ok(Verdict::Accepted));
+    let (verdict, states) = (Verdict::Accepted, 3);
+    let judged = session.verdict(&store, &mut levels);
+    assert_eq!(judged, Ok(Judged { verdict, states }));
     assert_eq!(levels[..4], [300, 286, 280, -1]);
 }
 

@@ -9,6 +9,7 @@ use super::random::Random;
 use super::sheets::{self, SESSION_FAULTS};
 use super::texts::{damaged_line, CHARACTER_FAULTS, ORDER_FAULTS, SHEET_FAULTS};
 use super::verdicts::{trials, Trial};
+use crate::domain::Counts;
 use crate::judge::LEVELS;
 use crate::program::OUTPUT_BYTES;
 use crate::refusal::*;
@@ -21,10 +22,17 @@ use std::rc::Rc;
 pub enum Expect {
     /// The last call is refused with this number.
     Refused(u8),
-    /// The verdict is this kind of fault.
+    /// The verdict is this kind of fault, and the states are those before it.
     Broken(u8),
+    /// The verdict is this kind of fault of a goal law, and all states are
+    /// there.
+    Goal(u8),
     /// The verdict is Accepted.
     Accepted,
+    /// So many agents, fluents, entries and laws.
+    Counts(Counts),
+    /// So many bytes or steps.
+    Count(usize),
     /// The program's call prints nothing.
     Silent,
     /// The last call is not refused.
@@ -89,7 +97,7 @@ pub fn on(session: Session, call: Call) -> Case {
 
 /// Some call that reads the store.
 pub fn over_store(r: &mut Random, store: Vec<u8>) -> Case {
-    match r.below(6) {
+    match r.below(7) {
         0 => Case::WriteDomain {
             store,
             text: r.bytes(40_000),
@@ -105,6 +113,7 @@ pub fn over_store(r: &mut Random, store: Vec<u8>) -> Case {
             on(sheets::session(r, 3, calls), Call::Open { store })
         }
         4 => Case::Accepted { store },
+        5 => Case::Counts { store },
         _ => {
             let agents = store.get(2).map_or(1, |&n| n.clamp(1, 16)) as usize;
             let levels = enough_levels(r);
@@ -201,11 +210,7 @@ impl Aims {
     }
 
     /// A trial, before the judge, as a session and as a program's input.
-    fn trial(&mut self, (label, kind, make): Trial) {
-        let expect = match kind {
-            0 => Expect::Accepted,
-            _ => Expect::Broken(kind),
-        };
+    fn trial(&mut self, (label, expect, make): Trial) {
         let make = Rc::new(make);
         let again = make.clone();
         self.add(format!("judge: {label}"), expect, move |r| {

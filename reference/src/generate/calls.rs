@@ -1,19 +1,40 @@
 //! Cases of each call made for one refusal, or for the edge just before it.
 
-use super::aims::Expect::{self, Fine, Refused, Silent};
+use super::aims::Expect::{self, Count, Fine, Refused, Silent};
 use super::aims::{
     enough, enough_levels, on, over_store, printing, stored, too_few_levels, too_short,
 };
 use super::case::{Call, Case};
-use super::draft::{frame, text_of, Draft};
+use super::draft::{frame, sheet_text, text_of, Draft};
 use super::faults::roomy;
 use super::random::Random;
+use super::shapes::longest;
 use super::sheets;
+use crate::domain::Counts;
 use crate::line::line_length;
 use crate::program::OUTPUT_BYTES;
 use crate::refusal::*;
-use crate::sheet::SHEET_BYTES;
-use crate::store::STORE_BYTES;
+use crate::sheet::{self, SHEET_BYTES};
+use crate::store::{self, STORE_BYTES};
+
+const fn counts(agents: usize, fluents: usize, entries: usize, laws: usize) -> Expect {
+    Expect::Counts(Counts {
+        agents,
+        fluents,
+        entries,
+        laws,
+    })
+}
+
+const COUNTS_OF_POOL: Expect = counts(2, 1, 2, 5);
+
+/// Asks for the counts of a domain that so far lacks its A5 laws.
+fn counted(r: &mut Random, draft: Draft) -> Case {
+    let bytes = draft.free().bytes();
+    Case::Counts {
+        store: stored(r, bytes),
+    }
+}
 
 pub type CallAim = (&'static str, Expect, fn(&mut Random) -> Case);
 
@@ -99,6 +120,98 @@ pub const CALLS: &[CallAim] = &[
             store: stored(r, draft.bytes()),
             text,
         }
+    }),
+    ("read_domain: longest text", Fine, |r| Case::ReadDomain {
+        text: longest(r).text(),
+        store: enough(r, STORE_BYTES),
+    }),
+    (
+        "write_domain: longest text",
+        Count(store::LONGEST_TEXT),
+        |r| Case::WriteDomain {
+            store: longest(r).store(),
+            text: r.bytes(store::LONGEST_TEXT),
+        },
+    ),
+    (
+        "write_domain: a byte less than the longest text",
+        Refused(BUFFER),
+        |r| Case::WriteDomain {
+            store: longest(r).store(),
+            text: r.bytes(store::LONGEST_TEXT - 1),
+        },
+    ),
+    (
+        "write_sheet: longest text",
+        Count(sheet::LONGEST_TEXT),
+        |r| Case::WriteSheet {
+            sheet: r.bytes(SHEET_BYTES),
+            agents: 16,
+            text: r.bytes(sheet::LONGEST_TEXT),
+        },
+    ),
+    (
+        "write_sheet: a byte less than the longest text",
+        Refused(BUFFER),
+        |r| Case::WriteSheet {
+            sheet: r.bytes(SHEET_BYTES),
+            agents: 16,
+            text: r.bytes(sheet::LONGEST_TEXT - 1),
+        },
+    ),
+    ("program: longest texts", Fine, |r| {
+        let draft = longest(r);
+        let names: Vec<_> = (0..64).flat_map(|_| sheets::step(r, &draft)).collect();
+        let input = [draft.text(), sheet_text(&names, draft.agents)].concat();
+        printing(r, input)
+    }),
+    ("counts: smallest domain", counts(1, 1, 1, 1), |r| {
+        counted(r, Draft::new(1, &[[0, 0, 0]], &[(1, 1)]))
+    }),
+    ("counts: 16 agents", counts(16, 1, 1, 1), |r| {
+        counted(r, Draft::new(16, &[[0, 9, 5]], &[(1, 0xFFFF)]))
+    }),
+    ("counts: 32 fluents", counts(1, 32, 1, 1), |r| {
+        counted(r, Draft::new(1, &[[0, 9, 5]; 32], &[(1, 1)]))
+    }),
+    ("counts: 64 entries", counts(1, 1, 64, 64), |r| {
+        let entries: Vec<_> = (1..=64).map(|name| (name, 1)).collect();
+        counted(r, Draft::new(1, &[[0, 9, 5]], &entries))
+    }),
+    ("counts: 128 laws", counts(1, 1, 1, 128), |r| {
+        let mut draft = Draft::new(1, &[[0, 9, 5]], &[(1, 1)]);
+        for _ in 1..128 {
+            let kind = r.from_to(0xA7, 0xA9) as u8;
+            draft.insert(frame(kind, &[0x2A]));
+        }
+        counted(r, draft)
+    }),
+    ("counts: every limit", counts(16, 32, 64, 128), |r| {
+        let bytes = longest(r).bytes();
+        Case::Counts {
+            store: stored(r, bytes),
+        }
+    }),
+    ("counts: store over 36,000 bytes", COUNTS_OF_POOL, |r| {
+        let mut store = Draft::pool().store();
+        store.resize(STORE_BYTES + r.from_to(1, 40_000), 0);
+        Case::Counts { store }
+    }),
+    ("counts: store under 36,000 bytes", COUNTS_OF_POOL, |r| {
+        let mut store = Draft::pool().store();
+        let used = Draft::pool().bytes().len();
+        store.truncate(r.from_to(used, STORE_BYTES - 1));
+        Case::Counts { store }
+    }),
+    ("counts: byte after the frames", Refused(STORE), |r| {
+        let mut store = Draft::pool().store();
+        let used = Draft::pool().bytes().len();
+        let place = *r.pick(&[used, used + 1, STORE_BYTES - 1]);
+        store[place] = r.from_to(1, 255) as u8;
+        Case::Counts { store }
+    }),
+    ("counts: empty store", Refused(STORE), |r| Case::Counts {
+        store: vec![0; *r.pick(&[0, 1, STORE_BYTES])],
     }),
     ("judge: levels short", Refused(BUFFER), |r| {
         let store = if r.one_in(2) {

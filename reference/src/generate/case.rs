@@ -1,7 +1,8 @@
 //! A case: one public call, or a series of session calls, with all that it is
 //! given; and what comes of it.
 
-use crate::judge::{self, Verdict};
+use crate::domain::Counts;
+use crate::judge::{self, Judged};
 use crate::session::Session;
 use crate::store::{self, FrameReader};
 use crate::{program, sheet};
@@ -26,6 +27,9 @@ pub enum Case {
         store: Vec<u8>,
     },
     Accepted {
+        store: Vec<u8>,
+    },
+    Counts {
         store: Vec<u8>,
     },
     WriteDomain {
@@ -78,13 +82,16 @@ pub enum Answer {
         start: usize,
         bytes: Vec<u8>,
     },
-    Verdict(Verdict),
+    Judged(Judged),
+    Counts(Counts),
     Printed(Vec<u8>),
     /// Line 0 also where the call reports no line.
     Refused {
         number: u8,
         line: usize,
     },
+    /// A number that no call answers by; this implementation gives none.
+    Unreadable(u64),
 }
 
 /// The answer of each call made, under its name, and every buffer after it.
@@ -122,6 +129,10 @@ pub fn run_reference(case: &Case) -> Outcome {
         Case::Accepted { store } => {
             let answer = Answer::Truth(store::accepted(store));
             outcome.answers.push(("accepted", answer));
+        }
+        Case::Counts { store } => {
+            let answer = plain(store::counts(store), Answer::Counts);
+            outcome.answers.push(("counts", answer));
         }
         Case::WriteDomain { store, text } => {
             outcome.bytes = text.clone();
@@ -161,8 +172,8 @@ pub fn run_reference(case: &Case) -> Outcome {
             levels,
         } => {
             let mut levels = levels.clone();
-            let verdict = judge::judge(store, sheet, &mut levels);
-            let answer = plain(verdict, Answer::Verdict);
+            let judged = judge::judge(store, sheet, &mut levels);
+            let answer = plain(judged, Answer::Judged);
             outcome.answers.push(("judge", answer));
             outcome.levels.push(levels);
         }
@@ -208,8 +219,8 @@ fn make(call: &Call, session: &mut Session, outcome: &mut Outcome) {
         Call::Redo => ("redo", session.redo()),
         Call::Verdict { store, levels } => {
             let mut levels = levels.clone();
-            let verdict = session.verdict(store, &mut levels);
-            let answer = plain(verdict, Answer::Verdict);
+            let judged = session.verdict(store, &mut levels);
+            let answer = plain(judged, Answer::Judged);
             outcome.answers.push(("verdict", answer));
             outcome.levels.push(levels);
             return;

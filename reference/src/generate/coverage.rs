@@ -2,7 +2,8 @@
 
 use super::aims::{Aim, Expect};
 use super::case::{Answer, Outcome};
-use crate::judge::{Verdict, GOAL_MISSED};
+use crate::domain::Counts;
+use crate::judge::{Judged, Verdict};
 use std::collections::BTreeMap;
 use std::fmt;
 
@@ -10,6 +11,7 @@ use std::fmt;
 pub const ORDERS: &[(&str, &[u8])] = &[
     ("read_domain", &[10, 1, 2, 3, 5, 4, 6, 7]),
     ("read_sheet", &[10, 4, 1, 2, 3, 9, 8]),
+    ("counts", &[15]),
     ("judge", &[10, 15, 8, 9]),
     ("open", &[15]),
     ("enter", &[17, 14, 8, 9]),
@@ -30,15 +32,41 @@ const NEVER_REFUSED: &[&str] = &["accepted", "frame_at"];
 /// Calls that give a verdict.
 const JUDGES: &[&str] = &["judge", "verdict", "program"];
 
+/// Kind of a fault, and whether it leaves the state that its step led to: a
+/// goal law's fault does.
+type Fault = (u8, bool);
+
+const FAULTS: &[Fault] = &[
+    (1, false),
+    (2, false),
+    (3, false),
+    (4, false),
+    (5, false),
+    (6, false),
+    (7, false),
+    (7, true),
+    (8, true),
+];
+
+/// Those that are possible before step 1.
+const FAULTS_AT_START: &[Fault] = &[(6, false), (7, false), (7, true), (8, true)];
+
+fn named((kind, of_goal): Fault) -> String {
+    format!("{kind}{}", if of_goal { " of a goal" } else { "" })
+}
+
 /// What an answer comes to.
 #[derive(Clone, Copy, PartialEq, Eq, Debug)]
 enum Sense {
     Refused(u8),
     Broken {
         kind: u8,
-        step: u8,
+        step: usize,
+        states: usize,
     },
     Accepted,
+    Counts(Counts),
+    Count(usize),
     /// The program's call had no room and printed nothing.
     Silent,
     Other,
@@ -48,11 +76,16 @@ enum Sense {
 fn sense(answer: &Answer) -> Sense {
     match answer {
         Answer::Refused { number, .. } => Sense::Refused(*number),
-        Answer::Verdict(Verdict::Accepted) => Sense::Accepted,
-        Answer::Verdict(Verdict::Broken { kind, step, .. }) => {
-            let (kind, step) = (*kind, *step);
-            Sense::Broken { kind, step }
-        }
+        Answer::Judged(Judged { verdict, states }) => match *verdict {
+            Verdict::Accepted => Sense::Accepted,
+            Verdict::Broken { kind, step, .. } => Sense::Broken {
+                kind,
+                step: step.into(),
+                states: *states,
+            },
+        },
+        Answer::Counts(counts) => Sense::Counts(*counts),
+        Answer::Count(count) => Sense::Count(*count),
         // An unaccepted store is refusal 15 in all calls but this question.
         Answer::Truth(false) => Sense::Refused(15),
         Answer::Printed(text) if text.is_empty() => Sense::Silent,
@@ -64,7 +97,8 @@ fn sense(answer: &Answer) -> Sense {
                 "REFUSED" => Sense::Refused(number(1)),
                 "BROKEN" => Sense::Broken {
                     kind: number(1),
-                    step: number(2),
+                    step: number(2).into(),
+                    states: text.lines().count() - 1,
                 },
                 _ => Sense::Accepted,
             }
@@ -78,11 +112,13 @@ pub struct Coverage {
     cases: usize,
     /// By call: refusals, faults and acceptances met.
     refused: BTreeMap<(&'static str, u8), usize>,
-    broken: BTreeMap<(&'static str, u8), usize>,
+    broken: BTreeMap<(&'static str, Fault), usize>,
     accepted: BTreeMap<&'static str, usize>,
     calls: BTreeMap<&'static str, usize>,
-    /// Faults at step 0, by kind.
-    at_start: BTreeMap<u8, usize>,
+    /// Faults at step 0.
+    at_start: BTreeMap<Fault, usize>,
+    /// Faults that left neither the states before their step nor all.
+    odd_states: usize,
     /// By aim: how often tried and met.
     aims: Vec<(String, usize, usize)>,
 }
@@ -105,14 +141,16 @@ impl Coverage {
                 // Only the question itself was asked, nothing was refused.
                 Sense::Refused(_) if NEVER_REFUSED.contains(&call) => {}
                 Sense::Refused(number) => *self.refused.entry((call, number)).or_default() += 1,
-                Sense::Broken { kind, step } => {
-                    *self.broken.entry((call, kind)).or_default() += 1;
+                Sense::Broken { kind, step, states } => {
+                    let fault = (kind, states > step);
+                    self.odd_states += (states != step + fault.1 as usize) as usize;
+                    *self.broken.entry((call, fault)).or_default() += 1;
                     if step == 0 {
-                        *self.at_start.entry(kind).or_default() += 1;
+                        *self.at_start.entry(fault).or_default() += 1;
                     }
                 }
                 Sense::Accepted => *self.accepted.entry(call).or_default() += 1,
-                Sense::Silent | Sense::Other => {}
+                Sense::Counts(_) | Sense::Count(_) | Sense::Silent | Sense::Other => {}
             }
         }
         let Some((aim, expect)) = aim else { return };
@@ -123,8 +161,15 @@ impl Coverage {
         };
         let met = answer.is_some_and(|answer| match (expect, sense(answer)) {
             (Expect::Refused(wanted), Sense::Refused(number)) => wanted == number,
-            (Expect::Broken(wanted), Sense::Broken { kind, .. }) => wanted == kind,
+            (Expect::Broken(wanted), Sense::Broken { kind, step, states }) => {
+                (wanted, step) == (kind, states)
+            }
+            (Expect::Goal(wanted), Sense::Broken { kind, step, states }) => {
+                (wanted, step + 1) == (kind, states)
+            }
             (Expect::Accepted, Sense::Accepted) => true,
+            (Expect::Counts(wanted), Sense::Counts(counts)) => wanted == counts,
+            (Expect::Count(wanted), Sense::Count(count)) => wanted == count,
             (Expect::Silent, Sense::Silent) => true,
             (Expect::Fine, Sense::Refused(_)) => false,
             (Expect::Fine, _) => true,
@@ -139,8 +184,8 @@ impl Coverage {
         met.map(|(_, count)| count).sum()
     }
 
-    fn faults(&self, kind: u8) -> usize {
-        let met = self.broken.iter().filter(|((_, met), _)| *met == kind);
+    fn faults(&self, fault: Fault) -> usize {
+        let met = self.broken.iter().filter(|((_, met), _)| *met == fault);
         met.map(|(_, count)| count).sum()
     }
 
@@ -162,19 +207,30 @@ impl Coverage {
             }
         }
         for call in JUDGES {
-            for kind in 1..=GOAL_MISSED {
-                if !self.broken.contains_key(&(*call, kind)) {
-                    complaints.push(format!("{call}: fault {kind} never met"));
+            for &fault in FAULTS {
+                if !self.broken.contains_key(&(*call, fault)) {
+                    complaints.push(format!("{call}: fault {} never met", named(fault)));
                 }
             }
             if !self.accepted.contains_key(call) {
                 complaints.push(format!("{call}: nothing accepted"));
             }
         }
-        for kind in [6, 7, 8] {
-            if !self.at_start.contains_key(&kind) {
-                complaints.push(format!("fault {kind} never met at step 0"));
+        for &fault in FAULTS_AT_START {
+            if !self.at_start.contains_key(&fault) {
+                complaints.push(format!("fault {} never met at step 0", named(fault)));
             }
+        }
+        let met = self.broken.keys().map(|&(_, fault)| (fault, FAULTS));
+        let at_start = self.at_start.keys().map(|&f| (f, FAULTS_AT_START));
+        for (fault, possible) in met.chain(at_start) {
+            if !possible.contains(&fault) {
+                complaints.push(format!("fault {} is none", named(fault)));
+            }
+        }
+        if self.odd_states > 0 {
+            let number = self.odd_states;
+            complaints.push(format!("{number} faults left another number of states"));
         }
         for (label, tried, met) in &self.aims {
             if met < tried || *tried == 0 {
@@ -205,16 +261,16 @@ impl fmt::Display for Coverage {
                 .collect();
             writeln!(f, "refusal {number:2} {count:7}  {}", by_call.join(", "))?;
         }
-        for kind in 1..=GOAL_MISSED {
-            let by_call = self.broken.iter().filter(|((_, met), _)| *met == kind);
+        for &fault in FAULTS {
+            let by_call = self.broken.iter().filter(|((_, met), _)| *met == fault);
             let by_call: Vec<_> = by_call
                 .map(|((call, _), n)| format!("{call} {n}"))
                 .collect();
-            let start = self.at_start.get(&kind).copied().unwrap_or(0);
-            let count = self.faults(kind);
+            let start = self.at_start.get(&fault).copied().unwrap_or(0);
+            let (name, count) = (named(fault), self.faults(fault));
             writeln!(
                 f,
-                "fault {kind} {count:10}  {}; at step 0 {start}",
+                "fault {name:11} {count:7}  {}; at step 0 {start}",
                 by_call.join(", ")
             )?;
         }

@@ -94,6 +94,19 @@ impl Draft {
         draft
     }
 
+    /// As many agents, fluents, frames of knowledge and entries as is allowed;
+    /// it lacks its laws.
+    pub fn crowded() -> Self {
+        let entries: Vec<_> = (0..64).map(|e| (1 + e / 16, 1 << (e % 16))).collect();
+        let mut draft = Draft::new(16, &[[-1000, 1000, 0]; 32], &entries);
+        for mask in [0x00FF, 0xFF00] {
+            for fluent in 0..32 {
+                draft.insert(mask_frame(0xA3, fluent, mask));
+            }
+        }
+        draft
+    }
+
     /// Puts a frame behind the last one of its kind or a lower one.
     pub fn insert(&mut self, frame: Vec<u8>) -> &mut Self {
         let place = self.frames.partition_point(|held| held[0] <= frame[0]);

@@ -3,9 +3,8 @@
 //! are in order. Number 0 means that the domain is still accepted.
 
 use super::draft::{agents_frame, fluent_frame, frame, law, mask_frame, Draft};
-use super::laws::node;
 use super::random::Random;
-use super::shapes::{deep, law_around, law_with, occurrence_under_reified};
+use super::shapes::{deep, filling, law_around, law_with, occurrence_under_reified};
 use crate::refusal::*;
 
 pub type Lines = Vec<Vec<u8>>;
@@ -332,19 +331,9 @@ pub const LINE_FAULTS: &[LineFault] = &[
         plus(r, |r, draft| law_with(r, draft, true, &[0x29, 0, 63]))
     }),
     ("edge: count 120", 0, |r| {
-        plus(r, |_, _| {
-            // 60 leaves and 59 conjunctions, then a negation to fill up.
-            let mut parts = vec![vec![0x2A]; 60];
-            while parts.len() > 1 {
-                parts = parts
-                    .chunks(2)
-                    .map(|pair| match pair {
-                        [left, right] => node(0x26, &[left, right]),
-                        _ => pair.concat(),
-                    })
-                    .collect();
-            }
-            law(0xA7, &[&[0x28], &parts[0]])
+        plus(r, |r, draft| {
+            let kind = r.from_to(0xA5, 0xA9) as u8;
+            filling(r, draft, kind, 0)
         })
     }),
     ("edge: names 1 and 255, start at both bounds", 0, |_| {

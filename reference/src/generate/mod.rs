@@ -9,7 +9,7 @@ pub mod faults;
 pub mod laws;
 mod mix;
 pub mod random;
-mod shapes;
+pub mod shapes;
 pub mod sheets;
 pub mod texts;
 pub mod verdicts;

@@ -1,8 +1,9 @@
 //! Laws of a wanted shape, to be added to a domain in the making.
 
 use super::draft::{law, Draft};
-use super::laws::{constant, node, wrapped};
+use super::laws::{constant, lag, node, wrapped};
 use super::random::Random;
+use crate::line::MAX_PAYLOAD;
 
 /// A law of a random kind around a constraint; code 29 asks for A5, A6 or A8.
 pub fn law_with(r: &mut Random, draft: &Draft, occurrences: bool, constraint: &[u8]) -> Vec<u8> {
@@ -61,6 +62,54 @@ pub fn deep(r: &mut Random, draft: &Draft, depth: usize) -> Vec<u8> {
             law(0xA6, &[&[0, 0x2A, 0], &value])
         }
     }
+}
+
+/// Two numbers under one code: a fluent and a constant, 7 bytes.
+fn pair(r: &mut Random, draft: &Draft, code: u8) -> Vec<u8> {
+    let read = [0x11, r.below(draft.fluents.len()) as u8, lag(r)];
+    node(code, &[&read, &constant(r.value())])
+}
+
+/// So many comparisons joined by "and" or "or", in halves: 8 bytes each but
+/// for the first.
+fn joined(r: &mut Random, draft: &Draft, comparisons: usize) -> Vec<u8> {
+    if comparisons == 1 {
+        let code = r.from_to(0x20, 0x25) as u8;
+        return pair(r, draft, code);
+    }
+    let half = comparisons / 2;
+    let left = joined(r, draft, half);
+    let code = r.from_to(0x26, 0x27) as u8;
+    node(code, &[&left, &joined(r, draft, comparisons - half)])
+}
+
+/// A law of the kind whose payload is as long as any.
+pub fn filling(r: &mut Random, draft: &Draft, kind: u8, entry: u8) -> Vec<u8> {
+    let most = joined(r, draft, 14);
+    let bytes = match kind {
+        0xA5 => law(kind, &[&[entry], &joined(r, draft, 15)]),
+        0xA6 => law(kind, &[&[entry], &most, &[0], &pair(r, draft, 0x12)]),
+        _ => {
+            let last = node(0x28, &[&joined(r, draft, 1)]);
+            law(kind, &[&node(0x26, &[&most, &last])])
+        }
+    };
+    assert_eq!(bytes.len(), 2 + MAX_PAYLOAD);
+    bytes
+}
+
+/// As many of everything as is allowed, and laws that fill their lines: no
+/// domain has a longer text.
+pub fn longest(r: &mut Random) -> Draft {
+    let mut draft = Draft::crowded();
+    for entry in 0..draft.entries.len() as u8 {
+        let law = filling(r, &draft, 0xA5, entry);
+        draft.insert(law);
+        let kind = r.from_to(0xA5, 0xA9) as u8;
+        let law = filling(r, &draft, kind, entry);
+        draft.insert(law);
+    }
+    draft
 }
 
 pub fn occurrence_under_reified() -> Vec<u8> {

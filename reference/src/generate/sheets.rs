@@ -47,7 +47,7 @@ pub fn sheet(r: &mut Random, draft: &Draft) -> Vec<u8> {
         for attempt in 0.. {
             sheet.truncate(length);
             sheet.extend(step(r, draft));
-            match judge::run(&domain, &sheet, &mut levels).0 {
+            match judge::run(&domain, &sheet, &mut levels).verdict {
                 Verdict::Accepted => break,
                 Verdict::Broken { kind, .. } if kind == GOAL_MISSED => break,
                 // Give up: the fault is what this sheet is about.

@@ -1,10 +1,13 @@
-/* include/waroth.h, read by a C compiler and held against the library: what it declares is there, each limit is the one
- * that the calls keep, and the paper's river of one pool comes out of a day's calls as it should. */
+/* include/waroth.h, read by a C and by a C++ compiler and held against the library: what it declares is there, each limit
+ * is the one that the calls keep, the paper's river of one pool comes out of a day's calls as it should, and what is
+ * refused is read as nothing else. */
 #include "waroth.h"
 
-/* "A river of one pool", a line each. */
-enum { LINES = 10 };
+#include <assert.h>
+#include <stdio.h>
+#include <string.h>
 
+/* "A river of one pool", a line each. */
 static const char domain[] =
     "A10102\n"
     "A20600C80140012C\n"
@@ -19,23 +22,23 @@ static const char domain[] =
 
 static const char sheet[] = "B1020100\nB1020002\n";
 
-enum { DOMAIN = sizeof domain - 1, NAMES = 2, SHEET = sizeof sheet - 1 };
+enum { LINES = 10, DOMAIN_SIZE = sizeof domain - 1, NAMES = 2, SHEET_SIZE = sizeof sheet - 1 };
 
-static uint8_t store[WAROTH_STORE], names[WAROTH_SHEET], text[WAROTH_STORE], output[WAROTH_OUTPUT];
+static uint8_t store[WAROTH_STORE], names[WAROTH_SHEET], text[WAROTH_DOMAIN_TEXT], output[WAROTH_OUTPUT];
 static int16_t levels[WAROTH_LEVELS];
 static struct waroth_session session;
+
+static const uint8_t idle[] = {0, 0}, first[] = {1, 0}, both[] = {1, 2}, astray[] = {0, 1}, twice[] = {1, 0, 1, 0};
+
+static_assert(WAROTH_SHEET == 1024 && WAROTH_LEVELS == 2080, "the paper's buffers");
+static_assert(WAROTH_DOMAIN_TEXT == 33319 && WAROTH_SHEET_TEXT == 2368, "the longest texts");
+static_assert(sizeof(struct waroth_session) == 4 * sizeof(size_t) + WAROTH_SHEET + sizeof session.log, "no gaps");
+
+enum { TOO_MANY_AGENTS = WAROTH_AGENTS + 1, TOO_FEW_LEVELS = WAROTH_LEVELS - 1 };
 
 static const uint8_t *bytes(const char *characters)
 {
     return (const uint8_t *)characters;
-}
-
-static int starts(const uint8_t *found, const char *wanted, size_t size)
-{
-    for (size_t i = 0; i < size; i++)
-        if (found[i] != (uint8_t)wanted[i])
-            return 0;
-    return 1;
 }
 
 #define EXPECT(what)         \
@@ -44,60 +47,162 @@ static int starts(const uint8_t *found, const char *wanted, size_t size)
             return __LINE__; \
     } while (0)
 
-static int texts(void)
+/* What every refused answer is: not 0, and by its lower half alone no count, no 0 and nothing that was done. */
+static int refuses(uint64_t answer, unsigned number)
 {
-    EXPECT(WAROTH_REFUSAL(waroth_read_domain(bytes(domain), DOMAIN, store, WAROTH_STORE - 1)) == 10);
-    EXPECT(waroth_read_domain(bytes(domain), DOMAIN, store, WAROTH_STORE) == (DOMAIN - LINES) / 2);
-    EXPECT(waroth_write_domain(store, WAROTH_STORE, text, sizeof text) == DOMAIN);
-    EXPECT(starts(text, domain, DOMAIN));
+    uint32_t kept = (uint32_t)answer;
+    return waroth_refusal(answer) == number && waroth_count(answer) == 0 && answer != 0 && kept >> 31 == 1;
+}
+
+static int refuses_at(uint64_t answer, unsigned number, uint32_t line)
+{
+    return refuses(answer, number) && waroth_line(answer) == line;
+}
+
+/* A refused judgement is neither accepted nor a fault, also by its lower half alone, and has no states. */
+static int refuses_to_judge(uint64_t answer, unsigned number)
+{
+    uint32_t kept = (uint32_t)answer;
+    return refuses(answer, number) && waroth_kind(answer) == WAROTH_REFUSED && waroth_kind(kept) == WAROTH_REFUSED &&
+           waroth_kind(kept) != WAROTH_ACCEPTED && waroth_states(answer) == 0;
+}
+
+/* A judgement is not 0, and the same by its lower half alone. */
+static int judges(uint64_t answer, unsigned kind, unsigned step, unsigned number, unsigned states)
+{
+    return waroth_refusal(answer) == 0 && answer != 0 && answer == (uint32_t)answer && answer >> 31 == 0 &&
+           waroth_kind(answer) == kind && waroth_step(answer) == step && waroth_number(answer) == number &&
+           waroth_states(answer) == states;
+}
+
+static int counts(uint64_t answer, uint32_t count)
+{
+    return waroth_refusal(answer) == 0 && waroth_count(answer) == count && waroth_line(answer) == 0;
+}
+
+static int domains(void)
+{
+    uint64_t answer;
+    EXPECT(refuses_at(waroth_read_domain(bytes(domain), DOMAIN_SIZE, store, WAROTH_STORE - 1), WAROTH_NO_ROOM, 0));
+    EXPECT(refuses_at(waroth_read_domain(bytes(domain), DOMAIN_SIZE - 1, store, WAROTH_STORE), WAROTH_BAD_LINE, LINES));
+    EXPECT(refuses_at(waroth_read_domain(bytes(domain), 0, store, WAROTH_STORE), WAROTH_INCOMPLETE, 0));
+    EXPECT(refuses(waroth_write_domain(store, WAROTH_STORE, text, sizeof text), WAROTH_NOT_DOMAIN));
+    EXPECT(refuses(waroth_counts(store, WAROTH_STORE), WAROTH_NOT_DOMAIN));
+    EXPECT(counts(waroth_read_domain(bytes(domain), DOMAIN_SIZE, store, WAROTH_STORE), (DOMAIN_SIZE - LINES) / 2));
+    EXPECT(refuses(waroth_write_domain(store, WAROTH_STORE, text, DOMAIN_SIZE - 1), WAROTH_NO_ROOM));
+    EXPECT(counts(waroth_write_domain(store, WAROTH_STORE, text, sizeof text), DOMAIN_SIZE));
+    EXPECT(memcmp(text, domain, DOMAIN_SIZE) == 0);
+    answer = waroth_counts(store, WAROTH_STORE);
+    EXPECT(waroth_refusal(answer) == 0 && waroth_agents(answer) == NAMES && waroth_fluents(answer) == 1);
+    EXPECT(waroth_entries(answer) == 2 && waroth_laws(answer) == 5);
     EXPECT(waroth_frame(store, WAROTH_STORE, 0) == 3);
-    EXPECT(WAROTH_REFUSAL(waroth_read_sheet(bytes(sheet), SHEET, NAMES, names, WAROTH_SHEET - 1)) == 10);
-    EXPECT(WAROTH_REFUSAL(waroth_read_sheet(bytes(sheet), SHEET, WAROTH_AGENTS + 1, names, WAROTH_SHEET)) == 4);
-    EXPECT(waroth_read_sheet(bytes(sheet), SHEET, NAMES, names, WAROTH_SHEET) == 2);
-    EXPECT(waroth_write_sheet(names, 2 * NAMES, NAMES, text, sizeof text) == SHEET);
-    EXPECT(starts(text, sheet, SHEET));
-    EXPECT(WAROTH_REFUSAL(waroth_write_sheet(names, WAROTH_STEPS + 1, 1, text, sizeof text)) == 9);
+    EXPECT(waroth_frame(store, WAROTH_STORE, (DOMAIN_SIZE - LINES) / 2) == 0);
     return 0;
 }
 
-static int verdicts(void)
+static int sheets(void)
 {
-    EXPECT(WAROTH_REFUSAL(waroth_judge(store, WAROTH_STORE, names, 2 * NAMES, levels, WAROTH_LEVELS - 1)) == 10);
-    EXPECT(waroth_judge(store, WAROTH_STORE, names, 2 * NAMES, levels, WAROTH_LEVELS) == 0);
-    EXPECT(levels[0] == 300 && levels[1] == 286 && levels[2] == 280);
-    EXPECT(waroth_answer(bytes(sheet), SHEET, output, WAROTH_OUTPUT - 1) == 0);
-    EXPECT(waroth_answer(bytes(sheet), SHEET, output, WAROTH_OUTPUT) == 12);
-    EXPECT(starts(output, "REFUSED 7 0\n", 12));
+    EXPECT(refuses_at(waroth_read_sheet(bytes(sheet), SHEET_SIZE, NAMES, names, WAROTH_SHEET - 1), WAROTH_NO_ROOM, 0));
+    EXPECT(refuses_at(waroth_read_sheet(bytes(sheet), SHEET_SIZE, TOO_MANY_AGENTS, names, WAROTH_SHEET), WAROTH_BAD_PAYLOAD, 0));
+    EXPECT(refuses_at(waroth_read_sheet(bytes(sheet), SHEET_SIZE, NAMES + 1, names, WAROTH_SHEET), WAROTH_NOT_WHOLE, 1));
+    EXPECT(counts(waroth_read_sheet(bytes(sheet), SHEET_SIZE, NAMES, names, WAROTH_SHEET), 2));
+    EXPECT(refuses(waroth_write_sheet(names, 2 * NAMES, 0, text, sizeof text), WAROTH_BAD_PAYLOAD));
+    EXPECT(refuses(waroth_write_sheet(names, NAMES + 1, NAMES, text, sizeof text), WAROTH_NOT_WHOLE));
+    EXPECT(refuses(waroth_write_sheet(names, WAROTH_STEPS + 1, 1, text, sizeof text), WAROTH_TOO_LONG));
+    EXPECT(refuses(waroth_write_sheet(names, WAROTH_SHEET, WAROTH_AGENTS, text, WAROTH_SHEET_TEXT - 1), WAROTH_NO_ROOM));
+    EXPECT(counts(waroth_write_sheet(names, WAROTH_SHEET, WAROTH_AGENTS, text, WAROTH_SHEET_TEXT), WAROTH_SHEET_TEXT));
+    EXPECT(counts(waroth_write_sheet(names, 2 * NAMES, NAMES, text, sizeof text), SHEET_SIZE));
+    EXPECT(memcmp(text, sheet, SHEET_SIZE) == 0);
+    return 0;
+}
+
+static uint64_t judged(const uint8_t *of, size_t size)
+{
+    return waroth_judge(store, WAROTH_STORE, of, size, levels, WAROTH_LEVELS);
+}
+
+static int judgements(void)
+{
+    levels[0] = levels[3] = -1;
+    EXPECT(refuses_to_judge(waroth_judge(store, WAROTH_STORE, names, 2 * NAMES, levels, TOO_FEW_LEVELS), WAROTH_NO_ROOM));
+    EXPECT(refuses_to_judge(waroth_judge(store, 0, names, 2 * NAMES, levels, WAROTH_LEVELS), WAROTH_NOT_DOMAIN));
+    EXPECT(refuses_to_judge(judged(names, NAMES + 1), WAROTH_NOT_WHOLE));
+    EXPECT(refuses_to_judge(judged(names, NAMES * (WAROTH_STEPS + 1)), WAROTH_TOO_LONG));
+    EXPECT(levels[0] == -1);
+    EXPECT(judges(judged(names, 2 * NAMES), WAROTH_ACCEPTED, 0, 0, 3));
+    EXPECT(levels[0] == 300 && levels[1] == 286 && levels[2] == 280 && levels[3] == -1);
+    EXPECT(judges(judged(names, 0), WAROTH_ACCEPTED, 0, 0, 1));
+    EXPECT(judges(judged(idle, NAMES), WAROTH_ACCEPTED, 0, 0, 2));
+    EXPECT(judges(judged(astray, NAMES), WAROTH_MISPLACED, 1, 1, 1));
+    EXPECT(judges(judged(both, NAMES), WAROTH_CONFLICT, 1, 3, 1));
+    EXPECT(judges(judged(twice, 2 * NAMES), WAROTH_GOAL, 2, 4, 3));
+    return 0;
+}
+
+static int program(void)
+{
+    static const char expected[] = "REFUSED 7 0\n";
+    EXPECT(waroth_answer(bytes(sheet), SHEET_SIZE, output, WAROTH_OUTPUT - 1) == 0);
+    EXPECT(waroth_answer(bytes(sheet), SHEET_SIZE, output, WAROTH_OUTPUT) == sizeof expected - 1);
+    EXPECT(memcmp(output, expected, sizeof expected - 1) == 0);
     return 0;
 }
 
 static int edits(void)
 {
+    EXPECT(refuses(waroth_open(&session, store, 0), WAROTH_NOT_DOMAIN));
+    EXPECT(refuses(waroth_enter(&session, first, NAMES), WAROTH_NOT_SESSION));
     EXPECT(waroth_open(&session, store, WAROTH_STORE) == 0);
-    EXPECT(waroth_enter(&session, names, NAMES) == 0);
-    EXPECT(waroth_amend(&session, 1, names + NAMES, NAMES) == 0);
+    EXPECT(refuses(waroth_undo(&session), WAROTH_NOTHING_STANDS));
+    EXPECT(refuses(waroth_redo(&session), WAROTH_NOTHING_UNDONE));
+    EXPECT(refuses(waroth_strike(&session), WAROTH_NO_STEP));
+    EXPECT(refuses(waroth_enter(&session, first, NAMES - 1), WAROTH_NOT_WHOLE));
+    EXPECT(waroth_enter(&session, first, NAMES) == 0);
+    EXPECT(refuses(waroth_amend(&session, 2, first, NAMES), WAROTH_NO_STEP));
+    EXPECT(waroth_amend(&session, 1, both, NAMES) == 0);
     EXPECT(waroth_undo(&session) == 0);
     EXPECT(waroth_redo(&session) == 0);
     EXPECT(waroth_strike(&session) == 0);
     EXPECT(session.agents == NAMES && session.steps == 0 && session.standing == 3 && session.total == 3);
     EXPECT(session.log[2 * (WAROTH_AGENTS + 2)] == 2);
-    EXPECT(waroth_verdict(session, store, WAROTH_STORE, levels, WAROTH_LEVELS) == 0);
-    EXPECT(waroth_enter(&session, names, NAMES) == 0);
-    for (int edit = 5; edit <= WAROTH_EDITS; edit++)
-        EXPECT(waroth_amend(&session, 1, names, NAMES) == 0);
-    EXPECT(waroth_amend(&session, 1, names, NAMES) == 14);
     return 0;
 }
 
-/* The line of what does not hold, 0 where all does. */
-int header_fails(void);
-
-int header_fails(void)
+static uint64_t verdict(struct waroth_session of)
 {
-    int line = texts();
-    if (line == 0)
-        line = verdicts();
-    if (line == 0)
-        line = edits();
-    return line;
+    return waroth_verdict(of, store, WAROTH_STORE, levels, WAROTH_LEVELS);
+}
+
+static int session_verdicts(void)
+{
+    struct waroth_session other = session;
+    EXPECT(judges(verdict(session), WAROTH_ACCEPTED, 0, 0, 1));
+    EXPECT(waroth_enter(&session, both, NAMES) == 0);
+    EXPECT(judges(verdict(session), WAROTH_CONFLICT, 1, 3, 1));
+    other.steps = 1;
+    EXPECT(refuses_to_judge(verdict(other), WAROTH_NOT_SESSION));
+    EXPECT(refuses_to_judge(waroth_verdict(session, store, WAROTH_STORE, levels, TOO_FEW_LEVELS), WAROTH_NO_ROOM));
+    EXPECT(refuses_to_judge(waroth_verdict(session, store, 0, levels, WAROTH_LEVELS), WAROTH_NOT_DOMAIN));
+    EXPECT(waroth_open(&other, store, WAROTH_STORE) == 0);
+    other.agents = WAROTH_AGENTS;
+    EXPECT(refuses_to_judge(verdict(other), WAROTH_OTHER_AGENTS));
+    while (session.standing < WAROTH_EDITS)
+        EXPECT(waroth_amend(&session, 1, first, NAMES) == 0);
+    EXPECT(refuses(waroth_amend(&session, 1, first, NAMES), WAROTH_LOG_FULL));
+    EXPECT(judges(verdict(session), WAROTH_ACCEPTED, 0, 0, 2));
+    return 0;
+}
+
+int main(void)
+{
+    static int (*const parts[])(void) = {domains, sheets, judgements, program, edits, session_verdicts};
+    size_t part;
+    for (part = 0; part < sizeof parts / sizeof parts[0]; part++) {
+        int line = parts[part]();
+        if (line != 0) {
+            printf("%s:%d: does not hold\n", __FILE__, line);
+            return 1;
+        }
+    }
+    return 0;
 }

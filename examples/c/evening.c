@@ -1,0 +1,207 @@
+/* An evening at the desk, by the calls of include/waroth.h: the file named on the command line has a domain's hex lines
+ * and then a sheet's, as the program takes them. It is read and judged; then the sheet is entered into a session and a
+ * step amended, and that is undone and redone, with the verdict each time. Nothing is allocated: the header names the
+ * size of every buffer.
+ *
+ *     rt staticlib desk
+ *     cc -std=c11 -I include examples/c/evening.c target/staticlib/libdesk.a -o evening
+ *     ./evening examples/pool/accepted.hex
+ *
+ * The exit code is 0 if the file's sheet is accepted, 1 if it is broken, 2 if something is refused or cannot be read. */
+#include "waroth.h"
+
+#include <stdio.h>
+#include <string.h>
+
+enum { IS_ACCEPTED, IS_BROKEN, IS_REFUSED };
+
+static uint8_t input[WAROTH_INPUT + 1]; /* a byte more, to see that there are too many */
+static uint8_t store[WAROTH_STORE];
+static uint8_t names[WAROTH_SHEET];
+static uint8_t text[WAROTH_SHEET_TEXT];
+static int16_t levels[WAROTH_LEVELS];
+static struct waroth_session session;
+
+/* ---- Words for numbers */
+
+static const char *refusal_words(unsigned number)
+{
+    switch (number) {
+    case WAROTH_BAD_LINE: return "a character, an odd or empty line, or no line feed";
+    case WAROTH_BAD_COUNT: return "the count is not the bytes that follow";
+    case WAROTH_BAD_KIND: return "the kind is unknown, out of order or not allowed here";
+    case WAROTH_BAD_PAYLOAD: return "the payload is not as described";
+    case WAROTH_TOO_MANY: return "there are more of this kind than allowed";
+    case WAROTH_REPEATED: return "the entry stands there already";
+    case WAROTH_INCOMPLETE: return "agents, fluents, entries or an entry's law are missing";
+    case WAROTH_NOT_WHOLE: return "a step has not one name for each agent";
+    case WAROTH_TOO_LONG: return "the sheet has too many steps";
+    case WAROTH_NO_ROOM: return "a buffer is too small";
+    case WAROTH_NO_STEP: return "there is no such step";
+    case WAROTH_NOTHING_STANDS: return "there is nothing to undo";
+    case WAROTH_NOTHING_UNDONE: return "there is nothing to redo";
+    case WAROTH_LOG_FULL: return "the log is full";
+    case WAROTH_NOT_DOMAIN: return "the store holds no domain";
+    case WAROTH_OTHER_AGENTS: return "the domain has another number of agents than the session";
+    case WAROTH_NOT_SESSION: return "the session is closed or damaged";
+    case WAROTH_LONG_INPUT: return "the input is too long";
+    default: return "unknown";
+    }
+}
+
+/* What is at fault, and what the number counts. */
+static const char *fault_words(unsigned kind)
+{
+    switch (kind) {
+    case WAROTH_MISPLACED: return "an action that is not the agent's, agent";
+    case WAROTH_BARRED: return "none of its conditions is true, entry";
+    case WAROTH_CONCURRENCY: return "not at the same time, law";
+    case WAROTH_CONFLICT: return "another value than an earlier law sets, law";
+    case WAROTH_RANGE: return "out of its range, fluent";
+    case WAROTH_STATIC: return "not true of the new state, law";
+    case WAROTH_NO_VALUE: return "no value, law";
+    case WAROTH_GOAL: return "the goal is missed, law";
+    default: return "unknown, number";
+    }
+}
+
+/* ---- Answers, printed */
+
+/* 0 where nothing is refused; else what is. */
+static int refused(const char *what, uint64_t answer)
+{
+    unsigned number = waroth_refusal(answer);
+    if (number == 0)
+        return 0;
+    printf("%s: refused (%u): %s\n", what, number, refusal_words(number));
+    return IS_REFUSED;
+}
+
+/* The same of a reader, whose lines begin after so many of the file. */
+static int refused_line(const char *what, uint64_t answer, unsigned lines_before)
+{
+    int end = refused(what, answer);
+    if (end != 0 && waroth_line(answer) != 0)
+        printf("%s: line %u of the file\n", what, lines_before + (unsigned)waroth_line(answer));
+    return end;
+}
+
+/* A judgement: every state that was written, and the verdict. */
+static int print_judgement(const char *what, uint64_t answer, unsigned fluents)
+{
+    unsigned state, fluent;
+    int end = refused(what, answer);
+    if (end != 0)
+        return end;
+    for (state = 0; state < waroth_states(answer); state++) {
+        printf("  after step %u:", state);
+        for (fluent = 0; fluent < fluents; fluent++)
+            printf(" %d", levels[state * fluents + fluent]);
+        printf("\n");
+    }
+    if (waroth_kind(answer) == WAROTH_ACCEPTED) {
+        printf("%s: accepted\n", what);
+        return IS_ACCEPTED;
+    }
+    printf("%s: broken in step %u: %s %u\n", what, waroth_step(answer), fault_words(waroth_kind(answer)),
+           waroth_number(answer));
+    return IS_BROKEN;
+}
+
+/* ---- The file */
+
+/* Where the first line that starts "B1" begins, and how many lines stand before it. */
+static size_t sheet_place(size_t size, unsigned *lines_before)
+{
+    size_t place = 0;
+    *lines_before = 0;
+    while (place < size) {
+        const uint8_t *end;
+        if (size - place >= 2 && memcmp(input + place, "B1", 2) == 0)
+            return place;
+        end = (const uint8_t *)memchr(input + place, '\n', size - place);
+        if (end == NULL)
+            return size;
+        place = (size_t)(end - input) + 1;
+        *lines_before += 1;
+    }
+    return size;
+}
+
+/* ---- The session */
+
+static int print_verdict(const char *what, unsigned fluents)
+{
+    uint64_t answer = waroth_verdict(session, store, sizeof store, levels, WAROTH_LEVELS);
+    return print_judgement(what, answer, fluents);
+}
+
+static void print_sheet(void)
+{
+    size_t size = session.steps * session.agents;
+    uint64_t answer = waroth_write_sheet(session.names, size, session.agents, text, sizeof text);
+    if (refused("sheet", answer) == 0)
+        printf("sheet:\n%.*s", (int)waroth_count(answer), (const char *)text);
+}
+
+/* The sheet's steps entered, the first amended so that everybody is idle, that undone and redone. After a refusal the
+ * session is as it was, and the desk goes on. */
+static void edit(unsigned agents, unsigned fluents, unsigned steps)
+{
+    static const uint8_t idle[WAROTH_AGENTS] = {0};
+    unsigned step;
+    if (refused("open", waroth_open(&session, store, sizeof store)) != 0)
+        return;
+    for (step = 0; step < steps; step++)
+        refused("enter", waroth_enter(&session, names + step * agents, agents));
+    print_sheet();
+    refused("amend", waroth_amend(&session, 1, idle, agents));
+    print_verdict("step 1 amended to idle", fluents);
+    refused("undo", waroth_undo(&session));
+    print_verdict("undone", fluents);
+    refused("redo", waroth_redo(&session));
+    print_verdict("redone", fluents);
+    refused("redo", waroth_redo(&session));
+    print_sheet();
+    printf("edits that stand: %u of %d\n", (unsigned)session.standing, WAROTH_EDITS);
+}
+
+int main(int argc, char **argv)
+{
+    size_t size, place;
+    unsigned lines_before, agents, fluents, steps;
+    uint64_t answer;
+    int end;
+    FILE *file = argc == 2 ? fopen(argv[1], "rb") : NULL;
+    if (file == NULL) {
+        fprintf(stderr, "usage: evening FILE, a file of hex lines\n");
+        return IS_REFUSED;
+    }
+    size = fread(input, 1, sizeof input, file);
+    fclose(file);
+    if (size > WAROTH_INPUT) {
+        printf("input: %s\n", refusal_words(WAROTH_LONG_INPUT));
+        return IS_REFUSED;
+    }
+
+    place = sheet_place(size, &lines_before);
+    answer = waroth_read_domain(input, place, store, sizeof store);
+    if ((end = refused_line("domain", answer, 0)) != 0)
+        return end;
+    answer = waroth_counts(store, sizeof store);
+    if ((end = refused("domain", answer)) != 0)
+        return end;
+    agents = waroth_agents(answer);
+    fluents = waroth_fluents(answer);
+    printf("agents %u, fluents %u, entries %u, laws %u\n", agents, fluents, waroth_entries(answer), waroth_laws(answer));
+
+    answer = waroth_read_sheet(input + place, size - place, agents, names, sizeof names);
+    if ((end = refused_line("sheet", answer, lines_before)) != 0)
+        return end;
+    steps = waroth_count(answer);
+    /* Exactly the names of these steps, not the whole buffer. */
+    answer = waroth_judge(store, sizeof store, names, (size_t)steps * agents, levels, WAROTH_LEVELS);
+    end = print_judgement("the file's sheet", answer, fluents);
+    edit(agents, fluents, steps);
+    return end;
+}

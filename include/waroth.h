@@ -9,6 +9,10 @@
  * - no pointer is null, not even with size 0, where it may be any other and no byte stands behind it;
  * - a buffer that is lent to be written overlaps no other buffer of the same call; two that are only read may overlap;
  * - levels are aligned as int16_t, a session as struct waroth_session.
+ *
+ * Stack. The calls recurse no deeper than a law nests, and what they need besides their buffers stands on the stack. Each
+ * takes at most what WAROTH_STACK_... says of its kind, the session that waroth_verdict is passed among it. That is measured
+ * over the hardest inputs, not proved.
  */
 #ifndef WAROTH_H
 #define WAROTH_H
@@ -48,6 +52,19 @@ enum {
 
 /* The most bytes of the program's input. */
 enum { WAROTH_INPUT = 60000 };
+
+/* The most stack of a call, in bytes: what was measured, with room to spare. Measured by reference/beside/stack.c:
+ *
+ *   waroth_read_domain  2,224   waroth_read_sheet    312   waroth_open    5,408   waroth_undo   17,360
+ *   waroth_write_domain 5,456   waroth_write_sheet    69   waroth_enter  16,352   waroth_redo   20,992
+ *   waroth_counts       5,392   waroth_judge      48,592   waroth_strike 16,352   waroth_verdict 60,912
+ *   waroth_frame            8   waroth_answer      90,000  waroth_amend  16,352 */
+enum {
+    WAROTH_STACK_TEXTS = 8192,     /* domains and sheets */
+    WAROTH_STACK_VERDICTS = 65536, /* waroth_judge, waroth_verdict */
+    WAROTH_STACK_ANSWER = 131072,  /* waroth_answer */
+    WAROTH_STACK_SESSIONS = 32768  /* sessions, but for the verdict */
+};
 
 /* The characters of a line whose payload has so many bytes: two for each byte, kind and count among them, and the LF. */
 #define WAROTH_LINE_TEXT(payload) (2 * (2 + (payload)) + 1)

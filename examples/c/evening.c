@@ -93,18 +93,18 @@ static int print_judgement(const char *what, uint64_t answer, unsigned fluents)
     int end = refused(what, answer);
     if (end != 0)
         return end;
+    printf("%s:\n", what);
     for (state = 0; state < waroth_states(answer); state++) {
-        printf("  after step %u:", state);
+        printf("  state %u:", state);
         for (fluent = 0; fluent < fluents; fluent++)
             printf(" %d", levels[state * fluents + fluent]);
         printf("\n");
     }
     if (waroth_kind(answer) == WAROTH_ACCEPTED) {
-        printf("%s: accepted\n", what);
+        printf("  accepted\n");
         return IS_ACCEPTED;
     }
-    printf("%s: broken in step %u: %s %u\n", what, waroth_step(answer), fault_words(waroth_kind(answer)),
-           waroth_number(answer));
+    printf("  broken in step %u: %s %u\n", waroth_step(answer), fault_words(waroth_kind(answer)), waroth_number(answer));
     return IS_BROKEN;
 }
 
@@ -130,18 +130,19 @@ static size_t sheet_place(size_t size, unsigned *lines_before)
 
 /* ---- The session */
 
-static int print_verdict(const char *what, unsigned fluents)
+/* What an edit answered, and where it was made the verdict on the sheet as it now is. */
+static void print_edit(const char *what, uint64_t answer, unsigned fluents)
 {
-    uint64_t answer = waroth_verdict(session, store, sizeof store, levels, WAROTH_LEVELS);
-    return print_judgement(what, answer, fluents);
+    if (refused(what, answer) == 0)
+        print_judgement(what, waroth_verdict(session, store, sizeof store, levels, WAROTH_LEVELS), fluents);
 }
 
 static void print_sheet(void)
 {
     size_t size = session.steps * session.agents;
     uint64_t answer = waroth_write_sheet(session.names, size, session.agents, text, sizeof text);
-    if (refused("sheet", answer) == 0)
-        printf("sheet:\n%.*s", (int)waroth_count(answer), (const char *)text);
+    if (refused("write the sheet", answer) == 0)
+        printf("the sheet in the session:\n%.*s", (int)waroth_count(answer), (const char *)text);
 }
 
 /* The sheet's steps entered, the first amended so that everybody is idle, that undone and redone. After a refusal the
@@ -153,17 +154,14 @@ static void edit(unsigned agents, unsigned fluents, unsigned steps)
     if (refused("open", waroth_open(&session, store, sizeof store)) != 0)
         return;
     for (step = 0; step < steps; step++)
-        refused("enter", waroth_enter(&session, names + step * agents, agents));
+        refused("enter a step", waroth_enter(&session, names + step * agents, agents));
     print_sheet();
-    refused("amend", waroth_amend(&session, 1, idle, agents));
-    print_verdict("step 1 amended to idle", fluents);
-    refused("undo", waroth_undo(&session));
-    print_verdict("undone", fluents);
-    refused("redo", waroth_redo(&session));
-    print_verdict("redone", fluents);
-    refused("redo", waroth_redo(&session));
+    print_edit("amend step 1 to idle", waroth_amend(&session, 1, idle, agents), fluents);
+    print_edit("undo", waroth_undo(&session), fluents);
+    print_edit("redo", waroth_redo(&session), fluents);
+    print_edit("redo again", waroth_redo(&session), fluents);
     print_sheet();
-    printf("edits that stand: %u of %d\n", (unsigned)session.standing, WAROTH_EDITS);
+    printf("%u of %d edits stand\n", (unsigned)session.standing, WAROTH_EDITS);
 }
 
 int main(int argc, char **argv)
@@ -171,14 +169,19 @@ int main(int argc, char **argv)
     size_t size, place;
     unsigned lines_before, agents, fluents, steps;
     uint64_t answer;
-    int end;
+    int end, failed;
     FILE *file = argc == 2 ? fopen(argv[1], "rb") : NULL;
     if (file == NULL) {
         fprintf(stderr, "usage: evening FILE, a file of hex lines\n");
         return IS_REFUSED;
     }
     size = fread(input, 1, sizeof input, file);
+    failed = ferror(file);
     fclose(file);
+    if (failed) {
+        fprintf(stderr, "evening: %s cannot be read\n", argv[1]);
+        return IS_REFUSED;
+    }
     if (size > WAROTH_INPUT) {
         printf("input: %s\n", refusal_words(WAROTH_LONG_INPUT));
         return IS_REFUSED;

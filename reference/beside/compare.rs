@@ -6,18 +6,14 @@ mod desk;
 mod lent;
 
 use std::process::ExitCode;
-use waroth_reference::generate::{run_reference, Case, Coverage, Generator, Outcome};
+use waroth_reference::generate::{asked, run_reference, Case, Coverage, Generator, Outcome};
 
 /// Differences that are printed whole.
 const SHOWN: usize = 5;
 
 fn main() -> ExitCode {
     let mut arguments = std::env::args().skip(1);
-    let mut number = |default: u64| match arguments.next() {
-        Some(word) => word.parse().ok(),
-        None => Some(default),
-    };
-    let (Some(cases), Some(seed)) = (number(20_000), number(1)) else {
+    let Some((cases, seed)) = asked(&mut arguments) else {
         eprintln!("usage: compare [cases [seed]]");
         return ExitCode::from(2);
     };

@@ -3,15 +3,11 @@
 //! The exit code is 1 if anything that should be met was not.
 
 use std::process::ExitCode;
-use waroth_reference::generate::{run_reference, Coverage, Generator};
+use waroth_reference::generate::{asked, run_reference, Coverage, Generator};
 
 fn main() -> ExitCode {
     let mut arguments = std::env::args().skip(1);
-    let mut number = |default: u64| match arguments.next() {
-        Some(word) => word.parse().ok(),
-        None => Some(default),
-    };
-    let (Some(cases), Some(seed)) = (number(20_000), number(1)) else {
+    let Some((cases, seed)) = asked(&mut arguments) else {
         eprintln!("usage: waroth-generate [cases [seed [aims]]]");
         return ExitCode::from(2);
     };

@@ -20,6 +20,16 @@ pub use coverage::Coverage;
 
 use random::Random;
 
+/// The number of cases and the seed, as a program's first two arguments say,
+/// else 20,000 and 1; `None` where one is no number.
+pub fn asked(arguments: &mut impl Iterator<Item = String>) -> Option<(u64, u64)> {
+    let mut number = |default| match arguments.next() {
+        Some(word) => word.parse().ok(),
+        None => Some(default),
+    };
+    Some((number(20_000)?, number(1)?))
+}
+
 /// Hands out cases without end; the same seed gives the same cases.
 pub struct Generator {
     random: Random,

@@ -46,7 +46,7 @@ pub fn alternating(depth: usize) -> Vec<u8> {
 
 /// A law that is exactly so deep.
 pub fn deep(r: &mut Random, draft: &Draft, depth: usize) -> Vec<u8> {
-    match r.below(4) {
+    match r.below(5) {
         0 => law_with(r, draft, false, &wrapped(0x28, depth - 1, &[0x2A])),
         1 => {
             let code = r.from_to(0x17, 0x18) as u8;
@@ -54,6 +54,13 @@ pub fn deep(r: &mut Random, draft: &Draft, depth: usize) -> Vec<u8> {
             law(0xA6, &[&[0, 0x2A, 0], &value])
         }
         2 => law_with(r, draft, false, &alternating(depth)),
+        3 => {
+            let mut either = vec![0x2A];
+            for _ in 1..depth {
+                either = node(r.from_to(0x26, 0x27) as u8, &[&either, &[0x2A]]);
+            }
+            law_with(r, draft, false, &either)
+        }
         _ => {
             let mut value = vec![0x11, 0, 0];
             for _ in 1..depth {

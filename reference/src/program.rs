@@ -1,15 +1,17 @@
 //! The program: a domain and a sheet in, states and a verdict out.
 
+use crate::domain::Domain;
 use crate::judge::{self, Judged, Verdict, LEVELS};
 use crate::refusal;
-use crate::sheet::{self, SHEET_BYTES};
+use crate::sheet::{self, MAX_STEPS, SHEET_BYTES};
 use crate::store::{self, STORE_BYTES};
 use std::io::Write;
 
 pub const MAX_INPUT: usize = 60_000;
 
-/// Bytes that the call asks of its output: more than any input makes it print.
-pub const OUTPUT_BYTES: usize = 16_384;
+/// Bytes that the call asks of its output, as include/waroth.h names them: room
+/// for a line of every state, up to 7 bytes for each level in it, and the last.
+pub const OUTPUT_BYTES: usize = (MAX_STEPS + 1) * (24 + 7 * Domain::MAX_FLUENTS) + 70;
 
 /// Prints to the front of the output and returns how many bytes that were; an
 /// output that is too short is left as it is.

@@ -10,8 +10,10 @@ use std::io::Write;
 pub const MAX_INPUT: usize = 60_000;
 
 /// Bytes that the call asks of its output, as include/waroth.h names them: room
-/// for a line of every state, up to 7 bytes for each level in it, and the last.
-pub const OUTPUT_BYTES: usize = (MAX_STEPS + 1) * (24 + 7 * Domain::MAX_FLUENTS) + 70;
+/// for a line of every state and for the last line. A number takes up to 21
+/// bytes with the space before it, a level 7.
+pub const OUTPUT_BYTES: usize =
+    (MAX_STEPS + 1) * (1 + 21 + 7 * Domain::MAX_FLUENTS + 1) + (6 + 3 * 21 + 1);
 
 /// Prints to the front of the output and returns how many bytes that were; an
 /// output that is too short is left as it is.

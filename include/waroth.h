@@ -55,10 +55,10 @@ enum { WAROTH_INPUT = 60000 };
 
 /* The most stack of a call, in bytes: what was measured, with room to spare. Measured by reference/beside/stack.c:
  *
- *   waroth_read_domain  2,224   waroth_read_sheet    312   waroth_open    5,408   waroth_undo   17,360
- *   waroth_write_domain 5,456   waroth_write_sheet    69   waroth_enter  16,352   waroth_redo   20,992
- *   waroth_counts       5,392   waroth_judge      48,592   waroth_strike 16,352   waroth_verdict 60,912
- *   waroth_frame            8   waroth_answer      90,000  waroth_amend  16,352 */
+ *   waroth_read_domain   2,224   waroth_read_sheet     312   waroth_open    5,408   waroth_undo    17,360
+ *   waroth_write_domain  5,456   waroth_write_sheet     69   waroth_enter  16,352   waroth_redo    20,992
+ *   waroth_counts        5,392   waroth_judge       28,208   waroth_strike 16,352   waroth_verdict 40,528
+ *   waroth_frame             8   waroth_answer      70,464   waroth_amend  16,352 */
 enum {
     WAROTH_STACK_TEXTS = 8192,     /* domains and sheets */
     WAROTH_STACK_VERDICTS = 65536, /* waroth_judge, waroth_verdict */
@@ -69,7 +69,8 @@ enum {
 /* The characters of a line whose payload has so many bytes: two for each byte, kind and count among them, and the LF. */
 #define WAROTH_LINE_TEXT(payload) (2 * (2 + (payload)) + 1)
 
-/* The longest texts: a buffer of this size has room for whatever a writer writes. */
+/* The longest texts: a buffer of this size has room for whatever a writer writes (crates/bmap/specs/Theorems.antt,
+ * DomainTextFits and SheetTextFits, both proved). */
 enum {
     WAROTH_DOMAIN_TEXT = WAROTH_LINE_TEXT(1) + WAROTH_FLUENTS * WAROTH_LINE_TEXT(6) + WAROTH_KNOWLEDGE * WAROTH_LINE_TEXT(3) +
                          WAROTH_ENTRIES * WAROTH_LINE_TEXT(3) + WAROTH_LAWS * WAROTH_LINE_TEXT(WAROTH_PAYLOAD),

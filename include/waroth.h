@@ -7,8 +7,10 @@
  * but what it is lent, so calls on different buffers may run at the same time. What the caller owes:
  * - a size says how much stands behind its pointer: bytes, but for levels_size, which counts numbers of 16 bits;
  * - no pointer is null, not even with size 0, where it may be any other and no byte stands behind it;
- * - a buffer that is lent to be written overlaps no other buffer of the same call; two that are only read may overlap;
+ * - a buffer that is lent to be written overlaps no other buffer of the same call; two that are only read may overlap. A
+ *   session that a call alters is such a buffer: the names of an edit may not stand in it;
  * - levels are aligned as int16_t, a session as struct waroth_session.
+ * The header is C99 or later, and C++.
  *
  * Stack. The calls recurse no deeper than a law nests, and what they need besides their buffers stands on the stack. Each
  * takes at most what WAROTH_STACK_... says of its kind, the session that waroth_verdict is passed among it. That is measured
@@ -105,7 +107,7 @@ enum waroth_kind_number {
     WAROTH_MISPLACED = 1,   /* an agent names an action but belongs to no occurring entry with that name; number: agent */
     WAROTH_BARRED = 2,      /* an entry occurs, and none of its executability laws is true; number: entry */
     WAROTH_CONCURRENCY = 3, /* a concurrency law is false; number: law */
-    WAROTH_CONFLICT = 4,    /* an effect law sets another value than an earlier one; number: the later law */
+    WAROTH_CONFLICT = 4,    /* an effect law sets another value than an earlier one, of one fluent; number: the later law */
     WAROTH_RANGE = 5,       /* a fluent leaves its range; number: fluent */
     WAROTH_STATIC = 6,      /* a static law is false; number: law */
     WAROTH_NO_VALUE = 7,    /* a law has no value; number: law */
@@ -121,16 +123,23 @@ static inline unsigned waroth_refusal(uint64_t answer)
     return (unsigned)(answer >> 32);
 }
 
-/* Of a reader's answer: the line at fault, counted from 1; 0 where no line is (10, and the sheet reader's 4). */
+/* Of a reader's refusal: the line at fault, counted from 1; of 7 the count of lines; 0 of 10 and of the sheet reader's 4,
+ * and where nothing is refused. */
 static inline uint32_t waroth_line(uint64_t answer)
 {
     return waroth_refusal(answer) == 0 ? 0 : (uint32_t)answer & 0x7FFFFFFF;
 }
 
-/* Of a reader's or a writer's answer: bytes or steps, as the call says; 0 where it refuses. */
+/* Of the answer of a domain's reader or of a writer: the bytes used or written, 0 where it refuses. */
 static inline uint32_t waroth_count(uint64_t answer)
 {
     return waroth_refusal(answer) == 0 ? (uint32_t)answer : 0;
+}
+
+/* Of the sheet reader's answer: the number of steps, -1 where it refuses. A sheet of 0 steps is a sheet. */
+static inline int waroth_steps(uint64_t answer)
+{
+    return waroth_refusal(answer) == 0 ? (int)(uint32_t)answer : -1;
 }
 
 /* Of a judgement: its kind, WAROTH_REFUSED where it is refused. */
@@ -139,7 +148,8 @@ static inline unsigned waroth_kind(uint64_t answer)
     return (unsigned)(answer >> 16 & 0xFF);
 }
 
-/* Of a judgement with a fault: the step, from 1 (0 for state 0), and the number of what is at fault. */
+/* Of a judgement with a fault: the step, from 1 (0 for state 0), and the number of what is at fault. Where it is refused,
+ * the number is the refusal's. */
 static inline unsigned waroth_step(uint64_t answer)
 {
     return (unsigned)(answer >> 8 & 0xFF);
@@ -156,25 +166,25 @@ static inline unsigned waroth_states(uint64_t answer)
     return (unsigned)(answer >> 24 & 0x7F);
 }
 
-/* Of waroth_counts' answer, where it does not refuse. */
+/* Of the answer of waroth_counts: each is 0 where it refuses, and no domain has 0 agents, fluents, entries or laws. */
 static inline unsigned waroth_agents(uint64_t answer)
 {
-    return (unsigned)(answer >> 24 & 0xFF);
+    return waroth_refusal(answer) == 0 ? (unsigned)(answer >> 24 & 0xFF) : 0;
 }
 
 static inline unsigned waroth_fluents(uint64_t answer)
 {
-    return (unsigned)(answer >> 16 & 0xFF);
+    return waroth_refusal(answer) == 0 ? (unsigned)(answer >> 16 & 0xFF) : 0;
 }
 
 static inline unsigned waroth_entries(uint64_t answer)
 {
-    return (unsigned)(answer >> 8 & 0xFF);
+    return waroth_refusal(answer) == 0 ? (unsigned)(answer >> 8 & 0xFF) : 0;
 }
 
 static inline unsigned waroth_laws(uint64_t answer)
 {
-    return (unsigned)(answer & 0xFF);
+    return waroth_refusal(answer) == 0 ? (unsigned)(answer & 0xFF) : 0;
 }
 
 /* ---- Domains */
@@ -195,12 +205,13 @@ uint64_t waroth_write_domain(const uint8_t *store, size_t store_size, uint8_t *t
 uint64_t waroth_counts(const uint8_t *store, size_t store_size);
 
 /* The size of the frame at a place of any bytes: kind other than 00, count up to 120 and the whole payload; 0 where none
- * stands. Refuses nothing. The next frame of a store stands behind it. */
+ * stands. The next frame of a store stands behind it. Refuses nothing: whether the bytes are an accepted domain, the call
+ * before says. */
 uint64_t waroth_frame(const uint8_t *store, size_t store_size, size_t place);
 
 /* ---- Sheets */
 
-/* Reads a sheet's hex lines for so many agents into a buffer of at least WAROTH_SHEET bytes. Count: the number of steps.
+/* Reads a sheet's hex lines for so many agents into a buffer of at least WAROTH_SHEET bytes. Answers the number of steps.
  * Refusals: 10, 4 (both with line 0), then line by line 1, 2, 3, 9, 8.
  * The buffer: the names step after step, zeros after. After 10 it is as it was; after any other refusal it is all zero. */
 uint64_t waroth_read_sheet(const uint8_t *text, size_t text_size, size_t agents, uint8_t *buffer, size_t buffer_size);
@@ -224,8 +235,8 @@ uint64_t waroth_judge(const uint8_t *store, size_t store_size, const uint8_t *sh
 /* ---- The program */
 
 /* What the program writes for an input of any size: the states and the verdict, or REFUSED with number and line, as text.
- * Answers the bytes written to the front of the output, never 0, and nothing after them is touched. An output of less than
- * WAROTH_OUTPUT bytes is as it was, and the answer is 0. Refuses nothing: a refusal is text. */
+ * Answers the bytes written to the front of the output, at least one, and nothing after them is touched. Where the output
+ * has less than WAROTH_OUTPUT bytes, it is as it was and the answer is 0. Refuses nothing: a refusal is text. */
 uint64_t waroth_answer(const uint8_t *input, size_t input_size, uint8_t *output, size_t output_size);
 
 /* ---- Sessions. All of it is plain bytes that may be kept and copied; unused ones are zero. */

@@ -201,7 +201,7 @@ int main(int argc, char **argv)
     answer = waroth_read_sheet(input + place, size - place, agents, names, sizeof names);
     if ((end = refused_line("sheet", answer, lines_before)) != 0)
         return end;
-    steps = waroth_count(answer);
+    steps = (unsigned)waroth_steps(answer);
     /* Exactly the names of these steps, not the whole buffer. */
     answer = waroth_judge(store, sizeof store, names, (size_t)steps * agents, levels, WAROTH_LEVELS);
     end = print_judgement("the file's sheet", answer, fluents);

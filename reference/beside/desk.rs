@@ -78,6 +78,11 @@ fn refused(answer: u64, line: u64, beside: u64) -> Answer {
     whole(answer, parts, read)
 }
 
+/// A refusal of a call that knows no lines: its number stands in the lowest byte too, and this above it.
+fn alone(answer: u64, above: u64) -> Answer {
+    refused(answer, 0, above | u64::from(byte(answer, 32)))
+}
+
 /// Bytes or steps, or a refusal and its line.
 fn counted(answer: u64) -> Answer {
     let below = answer & 0x7FFF_FFFF;
@@ -99,7 +104,7 @@ fn written(answer: u64) -> Answer {
 fn judged(answer: u64) -> Answer {
     let (kind, states) = (byte(answer, 16), answer >> 24 & 0x7F);
     let (verdict, below) = match u64::from(kind) {
-        _ if answer >> 32 != 0 => return refused(answer, 0, REFUSED << 16),
+        _ if answer >> 32 != 0 => return alone(answer, REFUSED << 16),
         ACCEPTED => (Verdict::Accepted, 0),
         _ => {
             let (step, number) = (byte(answer, 8), byte(answer, 0));
@@ -126,7 +131,7 @@ fn numbered(answer: u64) -> Answer {
     };
     match answer >> 32 {
         0 => whole(answer, answer & 0x7FFF_FFFF, Answer::Counts(counts)),
-        _ => refused(answer, 0, 0),
+        _ => alone(answer, 0),
     }
 }
 
@@ -134,7 +139,7 @@ fn numbered(answer: u64) -> Answer {
 fn done(answer: u64) -> Answer {
     match answer {
         0 => Answer::Done,
-        _ => refused(answer, 0, 0),
+        _ => alone(answer, 0),
     }
 }
 

@@ -47,11 +47,20 @@ static const uint8_t *bytes(const char *characters)
             return __LINE__; \
     } while (0)
 
-/* What every refused answer is: not 0, and by its lower half alone no count, no 0 and nothing that was done. */
+/* What every refused answer is: not 0, by its lower half alone no count, no 0 and nothing that was done, no sheet of any
+ * number of steps, and a domain of no agents. */
 static int refuses(uint64_t answer, unsigned number)
 {
     uint32_t kept = (uint32_t)answer;
-    return waroth_refusal(answer) == number && waroth_count(answer) == 0 && answer != 0 && kept >> 31 == 1;
+    return waroth_refusal(answer) == number && waroth_count(answer) == 0 && waroth_steps(answer) == -1 &&
+           waroth_agents(answer) == 0 && waroth_fluents(answer) == 0 && waroth_entries(answer) == 0 &&
+           waroth_laws(answer) == 0 && answer != 0 && kept >> 31 == 1;
+}
+
+/* Where a call knows no lines, its lowest byte says it too. */
+static int refuses_alone(uint64_t answer, unsigned number)
+{
+    return refuses(answer, number) && (uint8_t)answer == number;
 }
 
 static int refuses_at(uint64_t answer, unsigned number, uint32_t line)
@@ -63,8 +72,9 @@ static int refuses_at(uint64_t answer, unsigned number, uint32_t line)
 static int refuses_to_judge(uint64_t answer, unsigned number)
 {
     uint32_t kept = (uint32_t)answer;
-    return refuses(answer, number) && waroth_kind(answer) == WAROTH_REFUSED && waroth_kind(kept) == WAROTH_REFUSED &&
-           waroth_kind(kept) != WAROTH_ACCEPTED && waroth_states(answer) == 0;
+    return refuses_alone(answer, number) && waroth_kind(answer) == WAROTH_REFUSED &&
+           waroth_kind(kept) == WAROTH_REFUSED && waroth_kind(kept) != WAROTH_ACCEPTED &&
+           waroth_number(kept) == number && waroth_states(answer) == 0;
 }
 
 /* A judgement is not 0, and the same by its lower half alone. */
@@ -87,7 +97,7 @@ static int domains(void)
     EXPECT(refuses_at(waroth_read_domain(bytes(domain), DOMAIN_SIZE - 1, store, WAROTH_STORE), WAROTH_BAD_LINE, LINES));
     EXPECT(refuses_at(waroth_read_domain(bytes(domain), 0, store, WAROTH_STORE), WAROTH_INCOMPLETE, 0));
     EXPECT(refuses(waroth_write_domain(store, WAROTH_STORE, text, sizeof text), WAROTH_NOT_DOMAIN));
-    EXPECT(refuses(waroth_counts(store, WAROTH_STORE), WAROTH_NOT_DOMAIN));
+    EXPECT(refuses_alone(waroth_counts(store, WAROTH_STORE), WAROTH_NOT_DOMAIN));
     EXPECT(counts(waroth_read_domain(bytes(domain), DOMAIN_SIZE, store, WAROTH_STORE), (DOMAIN_SIZE - LINES) / 2));
     EXPECT(refuses(waroth_write_domain(store, WAROTH_STORE, text, DOMAIN_SIZE - 1), WAROTH_NO_ROOM));
     EXPECT(counts(waroth_write_domain(store, WAROTH_STORE, text, sizeof text), DOMAIN_SIZE));
@@ -105,7 +115,8 @@ static int sheets(void)
     EXPECT(refuses_at(waroth_read_sheet(bytes(sheet), SHEET_SIZE, NAMES, names, WAROTH_SHEET - 1), WAROTH_NO_ROOM, 0));
     EXPECT(refuses_at(waroth_read_sheet(bytes(sheet), SHEET_SIZE, TOO_MANY_AGENTS, names, WAROTH_SHEET), WAROTH_BAD_PAYLOAD, 0));
     EXPECT(refuses_at(waroth_read_sheet(bytes(sheet), SHEET_SIZE, NAMES + 1, names, WAROTH_SHEET), WAROTH_NOT_WHOLE, 1));
-    EXPECT(counts(waroth_read_sheet(bytes(sheet), SHEET_SIZE, NAMES, names, WAROTH_SHEET), 2));
+    EXPECT(waroth_steps(waroth_read_sheet(bytes(sheet), 0, NAMES, names, WAROTH_SHEET)) == 0);
+    EXPECT(waroth_steps(waroth_read_sheet(bytes(sheet), SHEET_SIZE, NAMES, names, WAROTH_SHEET)) == 2);
     EXPECT(refuses(waroth_write_sheet(names, 2 * NAMES, 0, text, sizeof text), WAROTH_BAD_PAYLOAD));
     EXPECT(refuses(waroth_write_sheet(names, NAMES + 1, NAMES, text, sizeof text), WAROTH_NOT_WHOLE));
     EXPECT(refuses(waroth_write_sheet(names, WAROTH_STEPS + 1, 1, text, sizeof text), WAROTH_TOO_LONG));
@@ -150,15 +161,15 @@ static int program(void)
 
 static int edits(void)
 {
-    EXPECT(refuses(waroth_open(&session, store, 0), WAROTH_NOT_DOMAIN));
-    EXPECT(refuses(waroth_enter(&session, first, NAMES), WAROTH_NOT_SESSION));
+    EXPECT(refuses_alone(waroth_open(&session, store, 0), WAROTH_NOT_DOMAIN));
+    EXPECT(refuses_alone(waroth_enter(&session, first, NAMES), WAROTH_NOT_SESSION));
     EXPECT(waroth_open(&session, store, WAROTH_STORE) == 0);
-    EXPECT(refuses(waroth_undo(&session), WAROTH_NOTHING_STANDS));
-    EXPECT(refuses(waroth_redo(&session), WAROTH_NOTHING_UNDONE));
-    EXPECT(refuses(waroth_strike(&session), WAROTH_NO_STEP));
-    EXPECT(refuses(waroth_enter(&session, first, NAMES - 1), WAROTH_NOT_WHOLE));
+    EXPECT(refuses_alone(waroth_undo(&session), WAROTH_NOTHING_STANDS));
+    EXPECT(refuses_alone(waroth_redo(&session), WAROTH_NOTHING_UNDONE));
+    EXPECT(refuses_alone(waroth_strike(&session), WAROTH_NO_STEP));
+    EXPECT(refuses_alone(waroth_enter(&session, first, NAMES - 1), WAROTH_NOT_WHOLE));
     EXPECT(waroth_enter(&session, first, NAMES) == 0);
-    EXPECT(refuses(waroth_amend(&session, 2, first, NAMES), WAROTH_NO_STEP));
+    EXPECT(refuses_alone(waroth_amend(&session, 2, first, NAMES), WAROTH_NO_STEP));
     EXPECT(waroth_amend(&session, 1, both, NAMES) == 0);
     EXPECT(waroth_undo(&session) == 0);
     EXPECT(waroth_redo(&session) == 0);
@@ -188,7 +199,7 @@ static int session_verdicts(void)
     EXPECT(refuses_to_judge(verdict(other), WAROTH_OTHER_AGENTS));
     while (session.standing < WAROTH_EDITS)
         EXPECT(waroth_amend(&session, 1, first, NAMES) == 0);
-    EXPECT(refuses(waroth_amend(&session, 1, first, NAMES), WAROTH_LOG_FULL));
+    EXPECT(refuses_alone(waroth_amend(&session, 1, first, NAMES), WAROTH_LOG_FULL));
     EXPECT(judges(verdict(session), WAROTH_ACCEPTED, 0, 0, 2));
     return 0;
 }

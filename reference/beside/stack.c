@@ -110,7 +110,7 @@ int stack_tried(const uint8_t *of, size_t size, size_t sheet_place)
     refused(write_domain);
     if (refused(read_sheet) != 0)
         return 0;
-    steps = waroth_count(answer);
+    steps = (size_t)waroth_steps(answer);
     refused(write_sheet);
     refused(judge);
     refused(open_session);

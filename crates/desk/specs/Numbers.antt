@@ -2,12 +2,13 @@
 use mathlib.Core.Path.{_≡_}
 use Prim.Native.Nat.{ℕ, _+_, _*_, _/_, _%_, _^_}
 use mathlib.Core.Option.{Option, none, some}
-use lib.ListN.{length}
 use Rattle.bmap.specs.Refusal.{Answer, got, refused, Reading, read, refusedAt}
 use Rattle.bmap.specs.Buffer.{bytesWritten}
 use Rattle.bmap.specs.Domain.{Domain}
+use Rattle.bmap.specs.Accept.{countsOf}
 use Rattle.bmap.specs.Judge.{Verdict, accepted, broken}
 use Rattle.bmap.specs.Session.{Changed}
+use Rattle.bmap.specs.declared.limits.Counts.{Counts}
 use Rattle.bmap.specs.declared.session.Session.{Session}
 
 -- ---- an answer, 64 bits
@@ -16,7 +17,7 @@ use Rattle.bmap.specs.declared.session.Session.{Session}
 abbrev pub foundNumber : ℕ → ℕ
 foundNumber n = n % 2 ^ 31
 
--- where something is refused: its number in the upper 32, bit 31, and what goes with it below. So the lower 32 alone tell the two apart
+-- where something is refused: its number in the upper 32, bit 31, and what goes with it below: a line, or the number again. So the lower 32 alone tell the two apart
 abbrev pub refusedNumber : ℕ → ℕ → ℕ
 refusedNumber number with = number * 2 ^ 32 + (2 ^ 31 + with % 2 ^ 31)
 
@@ -44,15 +45,19 @@ abbrev pub verdictNumber : Verdict → ℕ
 verdictNumber accepted = acceptedKind * 2 ^ 16
 verdictNumber (broken kind step number) = kind * 2 ^ 16 + (step % 2 ^ 8 * 2 ^ 8 + number % 2 ^ 8)
 
--- what the judge answers: above the verdict, 7 bits for the number of states written
+-- what the judge answers: above the verdict, 7 bits for the number of states written; a refusal's number stands where a fault's would
 abbrev pub judgedNumber : ℕ → Answer Verdict → ℕ
 judgedNumber states (got verdict) = states % 2 ^ 7 * 2 ^ 24 + verdictNumber verdict
-judgedNumber states (refused number) = refusedNumber number (refusedKind * 2 ^ 16)
+judgedNumber states (refused number) = refusedNumber number (refusedKind * 2 ^ 16 + number)
 
--- how many agents, fluents, entries and laws a domain has, 8 bits each
+-- how many agents, fluents, entries and laws, 8 bits each
+abbrev pub fourBytes : Counts → ℕ
+fourBytes n = n .agents * 2 ^ 24 + (n .fluents * 2 ^ 16 + (n .entries * 2 ^ 8 + n .laws))
+
+-- a domain's counts
 abbrev pub countsNumber : Answer Domain → ℕ
-countsNumber (got d) = d .agents * 2 ^ 24 + (length (d .fluents) * 2 ^ 16 + (length (d .entries) * 2 ^ 8 + length (d .laws)))
-countsNumber (refused number) = refusedNumber number 0
+countsNumber (got d) = fourBytes (countsOf d)
+countsNumber (refused number) = refusedNumber number number
 
 -- a frame's size, 0 where there is none
 abbrev pub sizeNumber : Option ℕ → ℕ
@@ -62,7 +67,7 @@ sizeNumber (some size) = size
 -- what a call on a session answers: 0, or the refusal
 abbrev pub doneNumber : Answer (Unit {0}) → ℕ
 doneNumber (got done) = 0
-doneNumber (refused number) = refusedNumber number 0
+doneNumber (refused number) = refusedNumber number number
 
 -- a lent session's call answers that number and leaves that session
 abbrev pub answers : ℕ → Session → Changed → Type 0
@@ -74,12 +79,21 @@ answers number s changed = (number ≡ doneNumber (changed .answer)) × (s ≡ c
 abbrev pub refusalIn : ℕ → ℕ
 refusalIn answer = answer / 2 ^ 32
 
--- what is left to a caller who keeps 32 bits
+-- what is left to a caller who keeps 32 bits, and its first bit: 1 in a refusal alone
 abbrev pub lowerHalf : ℕ → ℕ
 lowerHalf answer = answer % 2 ^ 32
 
+abbrev pub markIn : ℕ → ℕ
+markIn answer = answer / 2 ^ 31 % 2
+
+-- a count, of what is not refused; a line, of what is
+abbrev pub countIn : ℕ → ℕ
+countIn answer = answer % 2 ^ 31
+
 abbrev pub lineIn : ℕ → ℕ
 lineIn answer = answer % 2 ^ 31
+
+-- of a judgement
 
 abbrev pub statesIn : ℕ → ℕ
 statesIn answer = answer / 2 ^ 24 % 2 ^ 7
@@ -92,3 +106,7 @@ stepIn answer = answer / 2 ^ 8 % 2 ^ 8
 
 abbrev pub numberIn : ℕ → ℕ
 numberIn answer = answer % 2 ^ 8
+
+-- of a store's counts
+abbrev pub countsIn : ℕ → Counts → Type 0
+countsIn answer n = ((answer / 2 ^ 24 % 2 ^ 8 ≡ n .agents) × (answer / 2 ^ 16 % 2 ^ 8 ≡ n .fluents)) × ((answer / 2 ^ 8 % 2 ^ 8 ≡ n .entries) × (answer % 2 ^ 8 ≡ n .laws))

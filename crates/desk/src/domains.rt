@@ -4,6 +4,7 @@ use crate::number::SECOND;
 use crate::number::THIRD;
 use crate::number::counted;
 use crate::number::refused;
+use crate::number::refused_alone;
 use crate::number::written;
 use bmap::Refusal;
 use domain::ReadDomain;
@@ -45,7 +46,7 @@ pub extern "C" fn waroth_counts(store: &[u8]) -> u64
 {
     let found = domain::index_of(store);
     if !found.ok {
-        return refused(Refusal::NotDomain, 0);
+        return refused_alone(Refusal::NotDomain);
     }
     let index = found.index;
     let n = index.counts;

@@ -39,7 +39,7 @@ fn judged(given: Counted) -> u64
 {
     let judgement = given.judgement;
     match judgement {
-        Judgement::Refused(why) => refused(why, REFUSED * THIRD),
+        Judgement::Refused(why) => refused(why, REFUSED * THIRD + why.number() as u64),
         Judgement::Judged(found) => given.states as u64 % 128 * FOURTH + verdict(found),
     }
 }

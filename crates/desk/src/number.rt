@@ -28,7 +28,14 @@ pub(crate) fn counted(count: usize) -> u64
     count as u64 % MARK
 }
 
-// A refusal, and what goes with it: a line, or nothing.
+// A refusal that has no line: its number goes with it.
+pub(crate) fn refused_alone(why: Refusal) -> u64
+    ensures { λ r. ⌜ r ≡ refusedNumber (numberOf why) (numberOf why) ⌝ }
+{
+    refused(why, why.number() as u64)
+}
+
+// A refusal, and what goes with it.
 pub(crate) fn refused(why: Refusal, with: u64) -> u64
     ensures { λ r. ⌜ r ≡ refusedNumber (numberOf why) with ⌝ }
 {
@@ -49,6 +56,6 @@ pub(crate) fn done(outcome: Outcome) -> u64
 {
     match outcome {
         Outcome::Done => 0,
-        Outcome::Refused(why) => refused(why, 0),
+        Outcome::Refused(why) => refused_alone(why),
     }
 }

@@ -9,13 +9,13 @@ use Rattle.desk.proofs.domains.waroth_counts.Tie as tie
 index-of-requires : tie.Need-index-of-requires
 index-of-requires c κs = search needs
 
-refused-requires : tie.Need-refused-requires
-refused-requires c κs = search needs
+refused-alone-requires : tie.Need-refused-alone-requires
+refused-alone-requires c κs = search needs
 
 returns : tie.Need-returns
 returns c =
     let found = c .before .before .before in
-    c .refused .ensures ∙ counts-none (found .before .before .args .store .now) (found .index-of .result) (found .index-of .ensures) (not-true (found .index-of .result .ok) (c .before .if1 .taken))
+    c .refused-alone .ensures ∙ counts-none (found .before .before .args .store .now) (found .index-of .result) (found .index-of .ensures) (not-true (found .index-of .result .ok) (c .before .if1 .taken))
 
 mul-result : tie.Need-mul-result
 mul-result c =
@@ -63,7 +63,7 @@ waroth-counts-spec =
     tie.close
     (tie.spec
     index-of-requires
-    refused-requires
+    refused-alone-requires
     returns
     mul-result
     mul-result-2

@@ -12,14 +12,15 @@ enum-told c = search needs
 enum-known-outcome : tie.Need-enum-known-outcome
 enum-known-outcome c = search needs
 
-refused-requires : tie.Need-refused-requires
-refused-requires c κs = search needs
+refused-alone-requires : tie.Need-refused-alone-requires
+refused-alone-requires c κs = search needs
 
 returns : tie.Need-returns
 returns c = search needs
 
 returns-2 : tie.Need-returns-2
-returns-2 c = c .refused .ensures ∙ sym (ap (λ (o : Outcome). doneNumber (answerOf o)) (c .before .before .outcome .given .1))
+returns-2 c = c .refused-alone .ensures ∙ sym (ap (λ (o : Outcome). doneNumber (answerOf o)) (c .before .before .outcome .given .1))
 
 pub done-spec : {M : Type 1} → statement M
-done-spec = tie.close (tie.spec enum-told enum-known-outcome refused-requires returns returns-2)
+done-spec =
+    tie.close (tie.spec enum-told enum-known-outcome refused-alone-requires returns returns-2)

@@ -29,6 +29,7 @@ static int16_t levels[WAROTH_LEVELS];
 static struct waroth_session session;
 
 static const uint8_t idle[] = {0, 0}, first[] = {1, 0}, both[] = {1, 2}, astray[] = {0, 1}, twice[] = {1, 0, 1, 0};
+static const uint8_t seven[] = {1, 0, 1, 0, 1, 0, 1, 0, 1, 0, 1, 0, 1, 0};
 
 static_assert(WAROTH_SHEET == 1024 && WAROTH_LEVELS == 2080, "the paper's buffers");
 static_assert(WAROTH_DOMAIN_TEXT == 33319 && WAROTH_SHEET_TEXT == 2368, "the longest texts");
@@ -147,15 +148,74 @@ static int judgements(void)
     EXPECT(judges(judged(astray, NAMES), WAROTH_MISPLACED, 1, 1, 1));
     EXPECT(judges(judged(both, NAMES), WAROTH_CONFLICT, 1, 3, 1));
     EXPECT(judges(judged(twice, 2 * NAMES), WAROTH_GOAL, 2, 4, 3));
+    EXPECT(judges(judged(seven, 7 * NAMES), WAROTH_BARRED, 7, 0, 7));
     return 0;
+}
+
+/* Domains that are refused by the numbers that the river does not meet. */
+static int refusals(void)
+{
+    static const struct {
+        const char *text;
+        unsigned number;
+    } cases[] = {
+        {"A1\n", WAROTH_BAD_COUNT},
+        {"B100\n", WAROTH_BAD_KIND},
+        {"A10111\n", WAROTH_BAD_PAYLOAD},
+        {"A10101\nA10101\n", WAROTH_TOO_MANY},
+        {"A10101\nA403010001\nA403010001\n", WAROTH_REPEATED},
+    };
+    size_t i;
+    for (i = 0; i < sizeof cases / sizeof cases[0]; i++) {
+        const char *lines = cases[i].text;
+        EXPECT(refuses(waroth_read_domain(bytes(lines), strlen(lines), store, WAROTH_STORE), cases[i].number));
+    }
+    return 0;
+}
+
+/* A domain with one agent, a fluent that is 5 and at most 9, an action 1 that may always be taken, and one law more; the
+ * agent takes it once. What has no value is 1 by 0. */
+#define SMALL "A10101\nA206000000090005\nA403010001\nA502002A\n"
+#define NO_VALUE "0B2015100001100000100000\n"
+
+static int kinds(void)
+{
+    static const struct {
+        const char *text;
+        unsigned kind, step, number, states;
+    } cases[] = {
+        {SMALL "A802282A\n", WAROTH_CONCURRENCY, 1, 1, 1},
+        {SMALL "A606002A0010000A\n", WAROTH_RANGE, 1, 0, 1},
+        {SMALL "A702282A\n", WAROTH_STATIC, 0, 1, 0},
+        {SMALL "A7" NO_VALUE, WAROTH_NO_VALUE, 0, 1, 0},
+        {SMALL "A8" NO_VALUE, WAROTH_NO_VALUE, 1, 1, 1},
+        {SMALL "A9" NO_VALUE, WAROTH_NO_VALUE, 1, 1, 2},
+        {SMALL "A902282A\n", WAROTH_GOAL, 1, 1, 2},
+    };
+    size_t i;
+    for (i = 0; i < sizeof cases / sizeof cases[0]; i++) {
+        const char *lines = cases[i].text;
+        EXPECT(waroth_refusal(waroth_read_domain(bytes(lines), strlen(lines), store, WAROTH_STORE)) == 0);
+        EXPECT(judges(judged(first, 1), cases[i].kind, cases[i].step, cases[i].number, cases[i].states));
+    }
+    return 0;
+}
+
+/* The program's call writes exactly this line for so many bytes of an input. */
+static int prints(const uint8_t *of, size_t size, unsigned number, unsigned line)
+{
+    char expected[40];
+    int length = snprintf(expected, sizeof expected, "REFUSED %u %u\n", number, line);
+    return waroth_answer(of, size, output, WAROTH_OUTPUT) == (unsigned)length && memcmp(output, expected, (size_t)length) == 0;
 }
 
 static int program(void)
 {
-    static const char expected[] = "REFUSED 7 0\n";
+    static const uint8_t zeros[WAROTH_INPUT + 1] = {0};
     EXPECT(waroth_answer(bytes(sheet), SHEET_SIZE, output, WAROTH_OUTPUT - 1) == 0);
-    EXPECT(waroth_answer(bytes(sheet), SHEET_SIZE, output, WAROTH_OUTPUT) == sizeof expected - 1);
-    EXPECT(memcmp(output, expected, sizeof expected - 1) == 0);
+    EXPECT(prints(bytes(sheet), SHEET_SIZE, WAROTH_INCOMPLETE, 0));
+    EXPECT(prints(zeros, WAROTH_INPUT, WAROTH_BAD_LINE, 1));
+    EXPECT(prints(zeros, WAROTH_INPUT + 1, WAROTH_LONG_INPUT, 0));
     return 0;
 }
 
@@ -206,7 +266,7 @@ static int session_verdicts(void)
 
 int main(void)
 {
-    static int (*const parts[])(void) = {domains, sheets, judgements, program, edits, session_verdicts};
+    static int (*const parts[])(void) = {refusals, kinds, domains, sheets, judgements, program, edits, session_verdicts};
     size_t part;
     for (part = 0; part < sizeof parts / sizeof parts[0]; part++) {
         int line = parts[part]();

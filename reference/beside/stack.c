@@ -133,7 +133,7 @@ int stack_fails(int table)
     for (call = 0; call < CALLS; call++) {
         int over = calls[call].taken > calls[call].most;
         if (over || table)
-            printf("%-19s %6zu bytes of stack, %zu by include/waroth.h\n", calls[call].name, calls[call].taken, calls[call].most);
+            printf("%-19s %6zu bytes of stack, %6zu by the header\n", calls[call].name, calls[call].taken, calls[call].most);
         fails += over;
     }
     return fails;

@@ -27,7 +27,7 @@ fn tried(domain: &[u8], sheet: &[u8]) -> bool {
     unsafe { stack_tried(input.as_ptr(), input.len(), domain.len()) != 0 }
 }
 
-/// A domain whose one law besides is nested as deep as may be. It is the first to be read, whatever comes of it.
+/// A domain whose one law besides is nested as deep as may be. No law that is read before it is at fault.
 fn deepest(r: &mut Random) -> Draft {
     let mut draft = Draft::new(1, &[[0, 100, 1]], &[(1, 1)]);
     let law = deep(r, &draft, 16);
@@ -44,7 +44,8 @@ fn main() {
     let mut r = Random::seeded(1);
     inputs.extend((0..DEEPEST).map(|_| (deepest(&mut r), vec![1; 64])));
     for (draft, sheet) in inputs {
-        assert!(tried(&draft.text(), &sheet_text(&sheet, draft.agents)));
+        let sheet = sheet_text(&sheet, draft.agents);
+        assert!(tried(&draft.text(), &sheet), "an input is not taken");
     }
     // No domain is so long.
     assert!(!tried(&[b'A'; MAX_INPUT], &[]));

@@ -4,7 +4,8 @@ use super::aims::{Aim, Expect};
 use super::case::{Answer, Outcome};
 use crate::domain::Counts;
 use crate::judge::{Judged, Verdict};
-use std::collections::BTreeMap;
+use crate::sheet::MAX_STEPS;
+use std::collections::{BTreeMap, BTreeSet};
 use std::fmt;
 
 /// The refusals of each call, in the paper's order.
@@ -64,7 +65,9 @@ enum Sense {
         step: usize,
         states: usize,
     },
-    Accepted,
+    Accepted {
+        states: usize,
+    },
     Counts(Counts),
     Count(usize),
     /// The program's call had no room and printed nothing.
@@ -76,12 +79,12 @@ enum Sense {
 fn sense(answer: &Answer) -> Sense {
     match answer {
         Answer::Refused { number, .. } => Sense::Refused(*number),
-        Answer::Judged(Judged { verdict, states }) => match *verdict {
-            Verdict::Accepted => Sense::Accepted,
+        &Answer::Judged(Judged { verdict, states }) => match verdict {
+            Verdict::Accepted => Sense::Accepted { states },
             Verdict::Broken { kind, step, .. } => Sense::Broken {
                 kind,
                 step: step.into(),
-                states: *states,
+                states,
             },
         },
         Answer::Counts(counts) => Sense::Counts(*counts),
@@ -93,14 +96,15 @@ fn sense(answer: &Answer) -> Sense {
             let text = String::from_utf8_lossy(text);
             let last: Vec<_> = text.lines().last().unwrap_or("").split(' ').collect();
             let number = |at: usize| last.get(at).and_then(|word| word.parse().ok()).unwrap_or(0);
+            let states = text.lines().count() - 1;
             match last[0] {
                 "REFUSED" => Sense::Refused(number(1)),
                 "BROKEN" => Sense::Broken {
                     kind: number(1),
                     step: number(2).into(),
-                    states: text.lines().count() - 1,
+                    states,
                 },
-                _ => Sense::Accepted,
+                _ => Sense::Accepted { states },
             }
         }
         _ => Sense::Other,
@@ -114,6 +118,8 @@ pub struct Coverage {
     refused: BTreeMap<(&'static str, u8), usize>,
     broken: BTreeMap<(&'static str, Fault), usize>,
     accepted: BTreeMap<&'static str, usize>,
+    /// By call: the numbers of states that an accepted sheet left.
+    accepted_states: BTreeSet<(&'static str, usize)>,
     calls: BTreeMap<&'static str, usize>,
     /// Faults at step 0.
     at_start: BTreeMap<Fault, usize>,
@@ -149,7 +155,10 @@ impl Coverage {
                         *self.at_start.entry(fault).or_default() += 1;
                     }
                 }
-                Sense::Accepted => *self.accepted.entry(call).or_default() += 1,
+                Sense::Accepted { states } => {
+                    *self.accepted.entry(call).or_default() += 1;
+                    self.accepted_states.insert((call, states));
+                }
                 Sense::Counts(_) | Sense::Count(_) | Sense::Silent | Sense::Other => {}
             }
         }
@@ -167,7 +176,7 @@ impl Coverage {
             (Expect::Goal(wanted), Sense::Broken { kind, step, states }) => {
                 (wanted, step + 1) == (kind, states)
             }
-            (Expect::Accepted, Sense::Accepted) => true,
+            (Expect::Accepted, Sense::Accepted { .. }) => true,
             (Expect::Counts(wanted), Sense::Counts(counts)) => wanted == counts,
             (Expect::Count(wanted), Sense::Count(count)) => wanted == count,
             (Expect::Silent, Sense::Silent) => true,
@@ -212,8 +221,10 @@ impl Coverage {
                     complaints.push(format!("{call}: fault {} never met", named(fault)));
                 }
             }
-            if !self.accepted.contains_key(call) {
-                complaints.push(format!("{call}: nothing accepted"));
+            for states in [1, MAX_STEPS + 1] {
+                if !self.accepted_states.contains(&(*call, states)) {
+                    complaints.push(format!("{call}: nothing accepted with {states} states"));
+                }
             }
         }
         for &fault in FAULTS_AT_START {
@@ -226,6 +237,11 @@ impl Coverage {
         for (fault, possible) in met.chain(at_start) {
             if !possible.contains(&fault) {
                 complaints.push(format!("fault {} is none", named(fault)));
+            }
+        }
+        for (call, states) in &self.accepted_states {
+            if !(1..=MAX_STEPS + 1).contains(states) {
+                complaints.push(format!("{call}: accepted with {states} states"));
             }
         }
         if self.odd_states > 0 {

@@ -62,7 +62,7 @@ pub fn full() -> Input {
 fn nested(depth: usize) -> Vec<u8> {
     match depth {
         1 => fluent(0),
-        _ if depth.is_multiple_of(3) => node(0x19, &[&at_least(&nested(depth - 2), 0)]),
+        _ if depth % 3 == 0 => node(0x19, &[&at_least(&nested(depth - 2), 0)]),
         _ => node(0x12, &[&nested(depth - 1), &constant(1)]),
     }
 }

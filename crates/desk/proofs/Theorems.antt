@@ -13,7 +13,7 @@ use Rattle.judge.specs.declared.verdict.Judgement.{Judgement}
 use Rattle.judge.specs.declared.verdict.Judgement.the-variants.{Refused, Judged}
 use Rattle.judge.specs.declared.verdict.Verdict.{Verdict}
 use Rattle.judge.specs.declared.verdict.Verdict.the-variants.{Accepted, Broken}
-use Rattle.desk.specs.Numbers.{foundNumber, refusedNumber, judgedNumber, fourBytes, sizeNumber, acceptedKind, refusedKind, refusalIn, lowerHalf, markIn, countIn, lineIn, statesIn, kindIn, stepIn, numberIn, countsIn}
+use Rattle.desk.specs.Numbers.{foundNumber, refusedNumber, judgedNumber, fourBytes, sizeNumber, acceptedKind, refusedKind, refusalIn, lowerHalf, markIn, countIn, lineIn, statesIn, kindIn, stepIn, numberIn, CountsIn}
 use Rattle.desk.proofs.NumberLaws.{number-small, kind-small, verdict-small}
 
 -- ---- the lower half has what the answer has, but for the upper half's number
@@ -71,8 +71,8 @@ size-below size h = omega arith
 pub count-back : (n : ℕ) → n < 2 ^ 31 → countIn (foundNumber n) ≡ n
 count-back n h = omega arith
 
-pub counts-back : (n : Counts) → n .agents ≤ mostAgents → n .fluents ≤ mostFluents → n .entries ≤ mostEntries → n .laws ≤ mostLaws → countsIn (fourBytes n) n
-counts-back n a f e l = ((omega arith, omega arith), (omega arith, omega arith))
+pub counts-back : (n : Counts) → n .agents ≤ mostAgents → n .fluents ≤ mostFluents → n .entries ≤ mostEntries → n .laws ≤ mostLaws → CountsIn (fourBytes n) n
+counts-back n a f e l = record { agents = omega arith; fluents = omega arith; entries = omega arith; laws = omega arith }
 
 module _ (states number : ℕ) (h : number < 2 ^ 8) where
   -- its bits, from the top

@@ -108,5 +108,8 @@ abbrev pub numberIn : ℕ → ℕ
 numberIn answer = answer % 2 ^ 8
 
 -- of a store's counts
-abbrev pub countsIn : ℕ → Counts → Type 0
-countsIn answer n = ((answer / 2 ^ 24 % 2 ^ 8 ≡ n .agents) × (answer / 2 ^ 16 % 2 ^ 8 ≡ n .fluents)) × ((answer / 2 ^ 8 % 2 ^ 8 ≡ n .entries) × (answer % 2 ^ 8 ≡ n .laws))
+pub record CountsIn (answer : ℕ) (n : Counts) : Type 0 where
+  pub agents : answer / 2 ^ 24 % 2 ^ 8 ≡ n .agents
+  pub fluents : answer / 2 ^ 16 % 2 ^ 8 ≡ n .fluents
+  pub entries : answer / 2 ^ 8 % 2 ^ 8 ≡ n .entries
+  pub laws : answer % 2 ^ 8 ≡ n .laws

@@ -29,8 +29,8 @@ use Rattle.bmap.specs.Program.{decimal, lineOf, stateLines, lastLine, judgedTex
 use Rattle.domain.specs.Read as domains
 use Rattle.domain.specs.Found.{indexWith, foundIn}
 use Rattle.domain.specs.declared.found.Found.{Found}
-use Rattle.domain.specs.declared.reader.ReadDomain.{ReadDomain}
-use Rattle.domain.specs.declared.reader.ReadDomain.the-variants as given
+use Rattle.domain.specs.declared.reader.ReadStore.{ReadStore}
+use Rattle.domain.specs.declared.reader.ReadStore.the-variants as given
 use Rattle.domain.proofs.Accepted.{found-got, found-not, found-ok, found-none}
 use Rattle.domain.proofs.RoundTrip as stores
 use Rattle.sheet.specs.Answer as sheets
@@ -217,7 +217,7 @@ module _ (input out : List ℕ) {new : List ℕ} {q : ℕ} (room : outputSize �
   input-long h k x = answered-by (simp (lt-leb (length input) mostInput h)) (subst (λ (m : ℕ). Put out 0 (refusedText m 0) q new) k x)
 
   module _ {at lines : ℕ} (short : length input ≤ mostInput) (cut : CutIn input at lines) where
-    module _ (store : List ℕ) {after : List ℕ} (answer : ReadDomain)
+    module _ (store : List ℕ) {after : List ℕ} (answer : ReadStore)
         (told : (domains.readingOf answer ≡ readDomain (take at input) store .answer) × (after ≡ readDomain (take at input) store .buffer)) where
       pub input-refused : {number line : ℕ} (r : Refusal) → length store ≡ storeSize → answer ≡ given.Refused r line → number ≡ numberOf r → Put out 0 (refusedText number line) q new
           → record { count = q; buffer = new } ≡ answered input out

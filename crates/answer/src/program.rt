@@ -11,7 +11,7 @@ use bmap::LEVELS;
 use bmap::Refusal;
 use bmap::STORE;
 use bmap::Sheet;
-use domain::ReadDomain;
+use domain::ReadStore;
 use judge::Judgement;
 use judge::Verdict;
 use sheet::ReadSheet;
@@ -105,7 +105,7 @@ pub fn answer(input: &[u8], out: &mut [u8]) -> usize
     let mut store = [0u8; STORE];
     let answer = domain::read(&input[..at], &mut store);
     match answer {
-        ReadDomain::Refused { refusal, line } => put_refused(out, refusal.number(), line),
-        ReadDomain::Read(_) => put_sheet(&store, cut.lines, &input[at..], out),
+        ReadStore::Refused { refusal, line } => put_refused(out, refusal.number(), line),
+        ReadStore::Read(_) => put_sheet(&store, cut.lines, &input[at..], out),
     }
 }

@@ -5,12 +5,12 @@ use mathlib.Core.List.{List, [], _∷_}
 use lib.ListN.{getD}
 use Rattle.bmap.specs.Refusal.{numberOf}
 use Rattle.bmap.specs.declared.refusal.Refusal.{Refusal}
-use Rattle.bmap.specs.declared.refusal.Refusal.the-variants.{BadLine, BadCount, BadKind, BadPayload, TooMany, Repeated, Incomplete, NotWhole, TooLong, NoRoom, NoStep, NothingStands, NothingUndone, LogFull, NotDomain, OtherAgents, NotSession, LongInput}
+use Rattle.bmap.specs.declared.refusal.Refusal.the-variants.{BadLine, BadCount, BadKind, BadPayload, TooMany, Repeated, Incomplete, NotWhole, TooLong, NoRoom, NoStep, NothingStands, NothingUndone, LogFull, NotDomain, OtherAgents, NotSession, LongInput, OtherLaw}
 
--- the refusals by their number
+-- the refusals by their number; there is no 19
 refusals : List Refusal
 refusals =
-    BadLine ∷ BadCount ∷ BadKind ∷ BadPayload ∷ TooMany ∷ Repeated ∷ Incomplete ∷ NotWhole ∷ TooLong ∷ NoRoom ∷ NoStep ∷ NothingStands ∷ NothingUndone ∷ LogFull ∷ NotDomain ∷ OtherAgents ∷ NotSession ∷ LongInput ∷ []
+    BadLine ∷ BadCount ∷ BadKind ∷ BadPayload ∷ TooMany ∷ Repeated ∷ Incomplete ∷ NotWhole ∷ TooLong ∷ NoRoom ∷ NoStep ∷ NothingStands ∷ NothingUndone ∷ LogFull ∷ NotDomain ∷ OtherAgents ∷ NotSession ∷ LongInput ∷ BadLine ∷ OtherLaw ∷ []
 
 of-number : (r : Refusal) → getD refusals (numberOf r - 1) BadLine ≡ r
 unfolding refusals
@@ -32,6 +32,7 @@ of-number NotDomain = refl
 of-number OtherAgents = refl
 of-number NotSession = refl
 of-number LongInput = refl
+of-number OtherLaw = refl
 
 pub same-refusal : (a b : Refusal) → numberOf a ≡ numberOf b → a ≡ b
 same-refusal a b e = sym (of-number a) ∙ ap (λ (n : ℕ). getD refusals (n - 1) BadLine) e ∙ of-number b

@@ -1,4 +1,4 @@
--- Document 01, as definitions. Read the modules in this order.
+-- Documents 01 and 02, as definitions. Read the modules in this order.
 pub mod Plain
 pub mod Limits
 pub mod Refusal
@@ -15,6 +15,7 @@ pub mod Store
 pub mod Sheet
 pub mod Judge
 pub mod Verdict
+pub mod Supplement
 pub mod Session
 pub mod Series
 pub mod Program

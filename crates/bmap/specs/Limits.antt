@@ -1,4 +1,4 @@
--- The numbers of document 01, each once.
+-- The numbers of documents 01 and 02, each once.
 use Prim.Native.Nat.{ℕ, _+_}
 use Rattle.bmap.specs.declared.limits.Limits.{Limits}
 
@@ -63,6 +63,10 @@ levelsSize = 2_080
 abbrev pub mostInput : ℕ
 mostInput = 60_000
 
+-- K7: "a store of at least 16,000 bytes"
+abbrev pub supplementSize : ℕ
+supplementSize = 16_000
+
 abbrev pub limitsOf : Limits
 limitsOf = record {
   agents = mostAgents;
@@ -79,4 +83,5 @@ limitsOf = record {
   store = storeSize;
   levels = levelsSize;
   input = mostInput;
+  supplement = supplementSize;
 }

@@ -68,6 +68,9 @@ concurrencyKind = 0xA8
 abbrev pub goalKind : ℕ
 goalKind = 0xA9
 
+abbrev pub supplementKind : ℕ
+supplementKind = 0xAF
+
 abbrev pub stepKind : ℕ
 stepKind = 0xB1
 

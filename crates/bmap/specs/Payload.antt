@@ -112,6 +112,16 @@ asks static = false
 asks concurrency = true
 asks goal = false
 
+abbrev pub scopeKind : Scope → ℕ
+scopeKind static = staticKind
+scopeKind concurrency = concurrencyKind
+scopeKind goal = goalKind
+
+abbrev pub kindOf : Law → ℕ
+kindOf (executable e c) = executableKind
+kindOf (effect e c f x) = effectKind
+kindOf (must s c) = scopeKind s
+
 -- "static law: constraint", "concurrency law: constraint", "goal: constraint"
 unfoldable pub mustIn : Scope → Counts → List ℕ → Option Law
 mustIn s n p = conIn (context n (asks s)) p (λ c. last (must s c))

@@ -1,22 +1,27 @@
--- What is to be shown of the definitions: lines round-trip exactly, no text that is written is longer than the limits allow, 17 is exact, and a session's sheet and verdict are those of its standing edits. Each is proved in the crate that it is about.
-use Prim.Native.Nat.{ℕ, _≤_, _+_, _*_, _/_}
+-- What is to be shown of the definitions: lines round-trip exactly, no text that is written is longer than the limits allow, 17 is exact, a session's sheet and verdict are those of its standing edits, and what document 02 asks for. Each is proved in the crate that it is about.
+use Prim.Native.Nat.{ℕ, _≤_, _<_, _+_, _*_, _/_}
 use mathlib.Core.Path.{_≡_}
 use mathlib.Core.Logic.{_↔_, _⊎_}
 use mathlib.Core.Bool.{true}
 use mathlib.Core.List.{List, [], map}
+use mathlib.Core.Option.{some}
 use lib.Dec.{T, ltb}
 use lib.IntN.{ℤ}
-use lib.ListN.{length, take}
+use lib.ListN.{length, take, replicate}
 use Rattle.bmap.specs.Plain.{all, flat}
-use Rattle.bmap.specs.Limits.{mostAgents, mostFluents, mostKnowledge, mostEntries, mostLaws, mostPayload, mostSteps, storeSize, sheetSize, levelsSize}
+use Rattle.bmap.specs.Limits.{mostAgents, mostFluents, mostKnowledge, mostEntries, mostLaws, mostPayload, mostSteps, storeSize, sheetSize, levelsSize, supplementSize}
 use Rattle.bmap.specs.Refusal.{got, refused, read}
-use Rattle.bmap.specs.Line.{lineSize}
-use Rattle.bmap.specs.Domain.{Domain, Names}
+use Rattle.bmap.specs.Line.{linesOf, lineSize}
+use Rattle.bmap.specs.Domain.{Domain, Names, Law}
+use Rattle.bmap.specs.Payload.{kindOf, lawIn}
+use Rattle.bmap.specs.Accept.{countsOf}
 use Rattle.bmap.specs.Buffer.{padded, over}
-use Rattle.bmap.specs.Store.{reading, readDomain, textOf, writeDomain, domainIn}
+use Rattle.bmap.specs.Store.{framesOf, reading, readDomain, textOf, writeDomain, domainIn}
 use Rattle.bmap.specs.Sheet.{stepsIn, readSheet, agentsKnown, sheetOf, stepLine, writeSheet}
 use Rattle.bmap.specs.Judge.{judge}
-use Rattle.bmap.specs.Verdict.{judgement}
+use Rattle.bmap.specs.Verdict.{judgement, judgeSheet}
+use Rattle.bmap.specs.Supplement.{Replacement, replaced, lawNumbered, supplementFrom, readSupplement, supplementIn, judgeUnder, Part, lawInForce}
+use Rattle.bmap.specs.Program.{split, sheetMark, supplemented, output, lowWater}
 use Rattle.bmap.specs.Session.{isOpen, CouldBeLeft, Call, opened, after, replies, standingSheet, replayed, layout, openSession, verdictOf}
 use Rattle.bmap.specs.Series.{sessionAfter, repliesOf}
 use Rattle.bmap.specs.declared.session.Session.{Session}
@@ -89,3 +94,41 @@ pub record SheetStands (store : List ℕ) (d : Domain) (calls : List Call) : Typ
 
 abbrev pub SheetsStand : Type 0
 SheetsStand = (store : List ℕ) (d : Domain) (calls : List Call) → domainIn store ≡ got d → SheetStands store d calls
+
+-- ---- K7
+
+-- "an empty supplement changes nothing": no replacement, no bytes, or only zeros
+pub record EmptyChangesNothing : Type 0 where
+  pub laws : (d : Domain) → replaced [] d ≡ d
+  pub accepted : (d : Domain) (zeros : ℕ) → supplementIn d (replicate zeros 0) ≡ got []
+  pub judged : (store sheet : List ℕ) (levels : List ℤ) (zeros : ℕ) → judgeUnder store (replicate zeros 0) sheet levels ≡ judgeSheet store sheet levels
+
+-- what was read is accepted: the supplement that the lines are
+abbrev pub SupplementStands : Type 0
+SupplementStands =
+    (store text buffer : List ℕ) (d : Domain) (s : List Replacement) →
+    domainIn store ≡ got d → supplementFrom d [] (framesOf text) ≡ read s → supplementSize ≤ length buffer →
+    supplementIn d (readSupplement store text buffer .buffer) ≡ got s
+
+-- its frames written as lines are the same lines, which read again are the same bytes
+abbrev pub SupplementLinesReturn : Type 0
+SupplementLinesReturn =
+    (store text buffer : List ℕ) (d : Domain) (s : List Replacement) →
+    domainIn store ≡ got d → supplementFrom d [] (framesOf text) ≡ read s → supplementSize ≤ length buffer →
+    textOf (readSupplement store text buffer .buffer) ≡ text
+
+-- the law in force that is handed out is the one by which a sheet is judged, and never without bytes
+pub record InForce (d : Domain) (s : List Replacement) (n : ℕ) (part : Part) (l : Law) : Type 0 where
+  pub law : lawNumbered (replaced s d) n ≡ some l
+  pub says : lawIn (countsOf d) (kindOf l) (part .bytes) ≡ some l
+  pub some-bytes : 0 < length (part .bytes)
+
+abbrev pub InForceJudged : Type 0
+InForceJudged =
+    (store supplement : List ℕ) (d : Domain) (s : List Replacement) (n : ℕ) (part : Part) →
+    domainIn store ≡ got d → supplementIn d supplement ≡ got s → lawInForce store supplement n ≡ got part →
+    (l : Law) × InForce d s n part l
+
+-- `low_water` prints as `waroth` does where no line before the sheet starts "AF"
+abbrev pub LowWaterAlike : Type 0
+LowWaterAlike = (input : List ℕ) → supplemented (split sheetMark (linesOf input)) .from ≡ [] → lowWater input ≡ output input

@@ -20,5 +20,7 @@ impl Kind {
 
     pub const GOAL: u8 = 0xA9;
 
+    pub const SUPPLEMENT: u8 = 0xAF;
+
     pub const STEP: u8 = 0xB1;
 }

@@ -17,6 +17,7 @@ pub use limits::LEVELS;
 pub use limits::Limits;
 pub use limits::PAYLOAD;
 pub use limits::STORE;
+pub use limits::SUPPLEMENT;
 pub use limits::Sheet;
 pub use limits::every_limit;
 pub use refusal::Refusal;

@@ -1,4 +1,4 @@
-// The limits of document 01, each once, on the types that they bound; `every_limit` ties them to the definitions' own numbers.
+// The limits of documents 01 and 02, each once, on the types that they bound; `every_limit` ties them to the definitions' own numbers.
 ghost use mathlib.Core.Path.{_≡_};
 ghost use Rattle.bmap.specs.Limits.{limitsOf};
 
@@ -55,6 +55,8 @@ pub const LAG: usize = 63;
 // What is lent to be written, at least; what the program takes, at most.
 pub const STORE: usize = 36_000;
 
+pub const SUPPLEMENT: usize = 16_000;
+
 pub const LEVELS: usize = (Sheet::STEPS + 1) * Counts::FLUENTS;
 
 pub const INPUT: usize = 60_000;
@@ -75,6 +77,7 @@ pub struct Limits {
     pub store: usize,
     pub levels: usize,
     pub input: usize,
+    pub supplement: usize,
 }
 
 // The code's limits are the definitions'.
@@ -96,5 +99,6 @@ pub fn every_limit() -> Limits
         store: STORE,
         levels: LEVELS,
         input: INPUT,
+        supplement: SUPPLEMENT,
     }
 }

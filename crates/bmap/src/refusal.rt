@@ -1,4 +1,4 @@
-// The refusals of document 01, and their numbers.
+// The refusals of documents 01 and 02, and their numbers.
 ghost use mathlib.Core.Path.{_≡_};
 ghost use Rattle.bmap.specs.Refusal.{numberOf};
 
@@ -31,7 +31,7 @@ pub enum Refusal {
     NothingUndone,
     // 14: 200 edits stand
     LogFull,
-    // 15: store is not an accepted domain followed by zeros
+    // 15: store is not an accepted domain followed by zeros, or a supplement's not one accepted for the domain
     NotDomain,
     // 16: domain's number of agents differs from the session's
     OtherAgents,
@@ -39,6 +39,8 @@ pub enum Refusal {
     NotSession,
     // 18: the program's input is over 60,000 bytes
     LongInput,
+    // 20: law number not in the domain, a kind or entry that differs, or a law number given twice
+    OtherLaw,
 }
 
 impl Refusal {
@@ -64,6 +66,7 @@ impl Refusal {
             Refusal::OtherAgents => 16,
             Refusal::NotSession => 17,
             Refusal::LongInput => 18,
+            Refusal::OtherLaw => 20,
         }
     }
 }

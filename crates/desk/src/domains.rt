@@ -7,7 +7,7 @@ use crate::number::refused;
 use crate::number::refused_alone;
 use crate::number::written;
 use bmap::Refusal;
-use domain::ReadDomain;
+use domain::ReadStore;
 use line::FrameAt;
 use line::frame_at;
 ghost use mathlib.Core.Path.{_≡_};
@@ -16,12 +16,12 @@ ghost use Rattle.domain.specs.Read.{readingOf};
 ghost use Rattle.line.specs.Frame.{sizeOf, frameSizeAt};
 ghost use Rattle.desk.specs.Numbers.{readNumber, writtenNumber, countsNumber, sizeNumber};
 
-fn read(answer: ReadDomain) -> u64
+fn read(answer: ReadStore) -> u64
     ensures { λ r. ⌜ r ≡ readNumber (readingOf answer) ⌝ }
 {
     match answer {
-        ReadDomain::Read(used) => counted(used),
-        ReadDomain::Refused { refusal, line } => refused(refusal, line as u64),
+        ReadStore::Read(used) => counted(used),
+        ReadStore::Refused { refusal, line } => refused(refusal, line as u64),
     }
 }
 

@@ -25,8 +25,8 @@ use Rattle.line.proofs.LineLaws.{line-nothing, Refuses, line-refused, Takes, li
 use Rattle.domain.specs.Check.{entriesOf, refusedIn}
 use Rattle.domain.specs.Found.{counted, completeOn}
 use Rattle.bmap.specs.declared.refusal.Refusal.{Refusal}
-use Rattle.domain.specs.declared.reader.ReadDomain.{ReadDomain}
-use Rattle.domain.specs.declared.reader.ReadDomain.the-variants.{Read, Refused}
+use Rattle.domain.specs.declared.reader.ReadStore.{ReadStore}
+use Rattle.domain.specs.declared.reader.ReadStore.the-variants.{Read, Refused}
 use Rattle.domain.specs.Read.{readingOf, bytesIn, usedIn, Front}
 use Rattle.domain.proofs.Passed.{Passed, passed}
 use Rattle.domain.proofs.Stands.{frames, Few, few-first, few-frames, More, more, with, accept-refused, accept-passed}
@@ -298,11 +298,11 @@ module _ (text store : List ℕ) where
           (sym (ap (λ (x : Filled). x .answer) k), rw same (sym (ap (λ (x : Filled). x .buffer) k)))
 
       -- in the code's terms
-      module _ (r : ReadDomain) (e : (readingOf r ≡ usedIn text) × Front (bytesIn text) (readingOf r) after) (exit : List ℕ) where
+      module _ (r : ReadStore) (e : (readingOf r ≡ usedIn text) × Front (bytesIn text) (readingOf r) after) (exit : List ℕ) where
         pub read-ends : (used : ℕ) → r ≡ Read used → exit ≡ padded (length after) (take used after)
             → (read used ≡ readDomain text store .answer) × (exit ≡ readDomain text store .buffer)
         read-ends used k x =
-            let w = read-whole used (sym (ap readingOf k) ∙ e .0) (subst (λ (q : ReadDomain). Front (bytesIn text) (readingOf q) after) k (e .1)) in
+            let w = read-whole used (sym (ap readingOf k) ∙ e .0) (subst (λ (q : ReadStore). Front (bytesIn text) (readingOf q) after) k (e .1)) in
             (w .0, x ∙ w .1)
 
         pub read-stops : (refusal : Refusal) (line : ℕ) → r ≡ Refused refusal line → exit ≡ padded (length after) (take 0 after)

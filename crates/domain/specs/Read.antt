@@ -6,11 +6,11 @@ use lib.ListN.{length, take}
 use Rattle.bmap.specs.Plain.{flat}
 use Rattle.bmap.specs.Refusal.{numberOf, Reading, read, refusedAt, afterwards}
 use Rattle.bmap.specs.Store.{framesOf, storedOf, reading}
-use Rattle.domain.specs.declared.reader.ReadDomain.{ReadDomain}
-use Rattle.domain.specs.declared.reader.ReadDomain.the-variants.{Read, Refused}
+use Rattle.domain.specs.declared.reader.ReadStore.{ReadStore}
+use Rattle.domain.specs.declared.reader.ReadStore.the-variants.{Read, Refused}
 
 -- the bytes used, or the refusal's number and its line
-abbrev pub readingOf : ReadDomain → Reading ℕ
+abbrev pub readingOf : ReadStore → Reading ℕ
 readingOf (Read used) = read used
 readingOf (Refused r line) = refusedAt (numberOf r) line
 

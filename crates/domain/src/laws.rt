@@ -77,7 +77,8 @@ fn effect_fits(n: Counts, p: &[u8]) -> bool
     false
 }
 
-pub(crate) fn law_fits(n: Counts, kind: u8, p: &[u8]) -> bool
+// Whether a payload is a law of a kind, in a domain with so many fluents and entries.
+pub fn law_fits(n: Counts, kind: u8, p: &[u8]) -> bool
     ensures { λ r. ⌜ r ≡ isSome (lawIn n kind (now (p .entry))) ⌝ }
 {
     match kind {

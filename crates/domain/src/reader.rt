@@ -20,28 +20,29 @@ ghost use Rattle.bmap.specs.Limits.{storeSize};
 ghost use Rattle.bmap.specs.Store.{readDomain};
 ghost use Rattle.domain.specs.Read.{readingOf, bytesIn, usedIn, Front};
 
-pub enum ReadDomain {
+// What a reader of lines into a store answers.
+pub enum ReadStore {
     // So many bytes of the store are used.
     Read(usize),
     Refused { refusal: Refusal, line: usize },
 }
 
 // "Domain reader: 10, then line by line 1, 2, 3, 5, 4, 6, then 7." After 10 the store keeps its bytes; any other refusal zeroes it.
-pub fn read(text: &[u8], store: &mut [u8]) -> ReadDomain
+pub fn read(text: &[u8], store: &mut [u8]) -> ReadStore
     ensures { λ r. ⌜ (readingOf r ≡ readDomain (now (text .entry)) (now (store .entry)) .answer) × (now (store .exit) ≡ readDomain (now (text .entry)) (now (store .entry)) .buffer) ⌝ }
 {
     if store.len() < STORE {
-        return ReadDomain::Refused {
+        return ReadStore::Refused {
             refusal: Refusal::NoRoom,
             line: 0,
         };
     }
     let answer = read_lines(text, store);
     match answer {
-        ReadDomain::Read(used) => {
+        ReadStore::Read(used) => {
             zero_from(store, used);
         }
-        ReadDomain::Refused {
+        ReadStore::Refused {
             refusal: _,
             line: _,
         } => {
@@ -52,7 +53,7 @@ pub fn read(text: &[u8], store: &mut [u8]) -> ReadDomain
 }
 
 // Line after line, each decoded into the store and checked there. What stands after the frames is the caller's to zero.
-fn read_lines(text: &[u8], store: &mut [u8]) -> ReadDomain
+fn read_lines(text: &[u8], store: &mut [u8]) -> ReadStore
     requires { ⌜ storeSize ≤ length (now store) ⌝ }
     ensures { λ r. ⌜ (readingOf r ≡ usedIn (now (text .entry))) × Front (bytesIn (now (text .entry))) (readingOf r) (now (store .exit)) ⌝ }
 {
@@ -68,15 +69,15 @@ fn read_lines(text: &[u8], store: &mut [u8]) -> ReadDomain
         match read_line(rest, &mut store[used..]) {
             FirstLine::Nothing => {
                 if is_complete(n, &ready) {
-                    return ReadDomain::Read(used);
+                    return ReadStore::Read(used);
                 }
-                return ReadDomain::Refused {
+                return ReadStore::Refused {
                     refusal: Refusal::Incomplete,
                     line,
                 };
             }
             FirstLine::Refused(refusal) => {
-                return ReadDomain::Refused {
+                return ReadStore::Refused {
                     refusal,
                     line: line + 1,
                 };
@@ -88,7 +89,7 @@ fn read_lines(text: &[u8], store: &mut [u8]) -> ReadDomain
                 used += bytes;
                 let p = &store[from..used];
                 if let Check::Refused(refusal) = check_frame(latest, n, &names, &crews, kind, p) {
-                    return ReadDomain::Refused { refusal, line };
+                    return ReadStore::Refused { refusal, line };
                 }
                 note_entry(n, kind, p, &mut names, &mut crews);
                 note_ready(kind, p, &mut ready);

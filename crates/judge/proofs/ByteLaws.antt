@@ -15,11 +15,10 @@ use Rattle.bmap.specs.Limits.{mostDepth}
 use Rattle.bmap.specs.Tree.{Expr, Con, allowedE, allowedC}
 use Rattle.bmap.specs.Code.{parseE, parseC}
 use Rattle.bmap.specs.Domain.{Law, executable, effect, must, Scope, static, concurrency, goal}
-use Rattle.bmap.specs.Payload.{last, context, conIn, exprIn, below, executableIn, effectIn, asks, mustIn, lawIn}
+use Rattle.bmap.specs.Payload.{last, context, conIn, exprIn, below, executableIn, effectIn, asks, scopeKind, mustIn, lawIn}
 use Rattle.bmap.proofs.PayloadLaws.{only-some, last-some, taken-some}
 use Rattle.bmap.specs.declared.limits.Counts.{Counts}
 use Rattle.law.proofs.Used.{used-c}
-use Rattle.judge.specs.Told.{scopeKind}
 use Rattle.judge.proofs.LongerLaws.{longer-e, longer-c}
 
 -- a constraint at the front of some bytes, and an expression

@@ -14,9 +14,10 @@ use Rattle.bmap.specs.Number.{Valued, value, no-value}
 use Rattle.bmap.specs.Tree.{Con, always}
 use Rattle.bmap.specs.Meaning.{History, evalC}
 use Rattle.bmap.specs.Domain.{Domain, Names, Entry, Law, executable, effect, must, Scope, static, concurrency, goal, has, entryAt, occursIn, readable}
+use Rattle.bmap.specs.Payload.{scopeKind}
 use Rattle.bmap.specs.Accept.{countsOf}
 use Rattle.bmap.specs.Judge.{pass, fault, unless, next, reads, placed, carries, sameScope, holds, permits, permitted, mayOccur}
-use Rattle.judge.specs.Told.{Belonging, Says, Lawful, Within, Owned, Own, ownerOf, lawNumber, frameOf, conOf, placeOf, asksOf, scopeKind}
+use Rattle.judge.specs.Told.{Belonging, Says, Lawful, Within, Owned, Own, ownerOf, lawNumber, frameOf, conOf, placeOf, asksOf}
 use Rattle.judge.proofs.LoopLaws.{starts, rests}
 use Rattle.judge.proofs.ByteLaws.{Spelt, spelt}
 

@@ -31,11 +31,6 @@ asksOf (executable e c) = true
 asksOf (effect e c f x) = true
 asksOf (must s c) = asks s
 
-abbrev pub scopeKind : Scope → ℕ
-scopeKind static = staticKind
-scopeKind concurrency = concurrencyKind
-scopeKind goal = goalKind
-
 abbrev pub lawNumber : Domain → ℕ → Law
 lawNumber d i = getD (d .laws) i (must static always)
 

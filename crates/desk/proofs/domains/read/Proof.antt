@@ -1,6 +1,6 @@
 use mathlib.Core.Path.{_∙_, sym, ap}
 use Rattle.domain.specs.Read.{readingOf}
-use Rattle.domain.specs.declared.reader.ReadDomain.{ReadDomain}
+use Rattle.domain.specs.declared.reader.ReadStore.{ReadStore}
 use Rattle.desk.specs.Numbers.{readNumber}
 use borrow.Author.Needs.{needs}
 use Rattle.desk.proofs.domains.read.Statement.{statement}
@@ -19,10 +19,10 @@ refused-requires : tie.Need-refused-requires
 refused-requires c κs = search needs
 
 returns : tie.Need-returns
-returns c = c .counted .ensures ∙ sym (ap (λ (x : ReadDomain). readNumber (readingOf x)) (c .before .before .answer .given .1))
+returns c = c .counted .ensures ∙ sym (ap (λ (x : ReadStore). readNumber (readingOf x)) (c .before .before .answer .given .1))
 
 returns-2 : tie.Need-returns-2
-returns-2 c = c .refused .ensures ∙ sym (ap (λ (x : ReadDomain). readNumber (readingOf x)) (c .before .before .answer2 .given .1))
+returns-2 c = c .refused .ensures ∙ sym (ap (λ (x : ReadStore). readNumber (readingOf x)) (c .before .before .answer2 .given .1))
 
 pub read-spec : {M : Type 1} → statement M
 read-spec =

@@ -18,7 +18,7 @@ use Rattle.bmap.specs.Judge.{Checked, fine, fault, Pass, next, each, placed, ma
 use Rattle.line.proofs.Answers.{need-got}
 use Rattle.sheet.proofs.RoundTrip.{Rows, none, more, length-rows}
 use Rattle.judge.specs.Answer.{statesIn, statesWritten}
-use Rattle.judge.proofs.LoopLaws.{numbers-length}
+use Rattle.bmap.proofs.NumbersLaws.{numbers-length}
 
 -- ---- one step
 

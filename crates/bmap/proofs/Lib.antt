@@ -1,3 +1,4 @@
 pub mod PayloadLaws
 pub mod PlainLaws
+pub mod NumbersLaws
 pub mod RefusalLaws

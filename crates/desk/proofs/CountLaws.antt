@@ -13,7 +13,7 @@ use Rattle.index.specs.declared.Index.{Index}
 use Rattle.domain.specs.declared.found.Found.{Found}
 use Rattle.domain.specs.Found.{foundIn}
 use Rattle.domain.proofs.Accepted.{found-ok, found-none}
-use Rattle.judge.proofs.LoopLaws.{map-length}
+use Rattle.bmap.proofs.NumbersLaws.{map-length}
 use Rattle.desk.specs.Numbers.{fourBytes, countsNumber}
 
 -- the counts of the domain of an index are the index's own

@@ -1,7 +1,7 @@
 -- What a frame that passes its check says. Assumes nothing.
 use Prim.Native.Nat.{ℕ, _≤_, _<_}
 use native.Mathlib.Omega.{arith}
-use mathlib.Core.Path.{_≡_, refl, sym, ap}
+use mathlib.Core.Path.{_≡_, refl, sym, ap, _∙_}
 use mathlib.Core.Bool.{Bool, true, false}
 use mathlib.Core.List.{List, [], _∷_}
 use mathlib.Core.Option.{Option, none, some}
@@ -10,10 +10,11 @@ use lib.ListN.{length, drop}
 use borrow.Author.Tests.{ltb-true, leb-true, eqb-true, eqb-false}
 use Rattle.bmap.specs.Plain.{both, if-else}
 use Rattle.bmap.specs.Refusal.{Answer, got, need, known, then}
-use Rattle.bmap.specs.Line.{Frame}
+use Rattle.bmap.specs.Line.{Frame, executableKind, effectKind}
+use Rattle.bmap.specs.Tree.{Expr, Con}
 use Rattle.bmap.specs.Code.{parseE, parseC}
 use Rattle.bmap.specs.Domain.{Entry, Law, executable, effect, must, Scope, static, concurrency, goal}
-use Rattle.bmap.specs.Payload.{Item, agents, fluent, knowledge, entry, law, byte, only, agentsFit, fluentFits, knowledgeFits, entryFits, fluentIn, knowledgeIn, entryIn, last, below, conIn, exprIn, context, executableIn, effectIn, mustIn, lawIn, lawItem, itemIn}
+use Rattle.bmap.specs.Payload.{Item, agents, fluent, knowledge, entry, law, byte, only, agentsFit, fluentFits, knowledgeFits, entryFits, fluentIn, knowledgeIn, entryIn, last, below, conIn, exprIn, context, executableIn, effectIn, scopeKind, mustIn, lawIn, lawItem, itemIn}
 use Rattle.bmap.specs.Accept.{inOrder, room, fresh, executes, checked}
 use Rattle.bmap.specs.declared.limits.Counts.{Counts}
 use Rattle.bmap.proofs.PlainLaws.{both-true}
@@ -101,11 +102,7 @@ passed latest n es f e =
           fits = b;
         }
 
--- ---- which entry a law is an executability law of
-
-pub data Executes (n : Counts) (k : ℕ) (p : List ℕ) (l : Law) : Type 0 where
-  this : k ≡ 0xA5 → byte p 0 < n .entries → ((i : ℕ) → executes i l ≡ eqb (byte p 0) i) → Executes n k p l
-  other : eqb k 0xA5 ≡ false → ((i : ℕ) → executes i l ≡ false) → Executes n k p l
+-- ---- a law, by its kind
 
 -- what stands where a number was taken
 below-is : {L : Type 0} (limit : ℕ) (p : List ℕ) (k : ℕ → List ℕ → Option L) (l : L) → below limit p k ≡ some l
@@ -113,17 +110,22 @@ below-is : {L : Type 0} (limit : ℕ) (p : List ℕ) (k : ℕ → List ℕ → O
 below-is limit [] k l e = absurd (let z : _≡_ {A = ℕ} 0 1 = cc in omega arith)
 below-is limit (x ∷ r) k l e = let t = only-some (ltb x limit) (k x r) e in (ltb-true x limit (t .0), (r, t .1))
 
-module _ (n : Counts) (p : List ℕ) (l : Law) where
-  executable-is : executableIn n p ≡ some l → (byte p 0 < n .entries) × ((j : ℕ) → executes j l ≡ eqb (byte p 0) j)
+pub data Form (n : Counts) (k : ℕ) (p : List ℕ) (l : Law) : Type 0 where
+  is-executable : k ≡ executableKind → byte p 0 < n .entries → (c : Con) → l ≡ executable (byte p 0) c → Form n k p l
+  is-effect : k ≡ effectKind → (c : Con) (f : ℕ) (x : Expr) → l ≡ effect (byte p 0) c f x → Form n k p l
+  is-must : (s : Scope) → k ≡ scopeKind s → (c : Con) → l ≡ must s c → Form n k p l
+
+module _ (n : Counts) (k : ℕ) (p : List ℕ) (l : Law) where
+  executable-form : k ≡ executableKind → executableIn n p ≡ some l → Form n k p l
   unfolding executableIn
-  executable-is e =
+  executable-form q e =
       let b = below-is (n .entries) p (λ i rest. conIn (context n true) rest (λ c. last (executable i c))) l e in
       let t = taken-some _ (b .1 .0) (parseC 16 (b .1 .0)) (λ c. last (executable (byte p 0) c)) (b .1 .1) in
-      (b .0, λ j. ap (executes j) (sym (last-some (executable (byte p 0) (t .tree)) (drop (t .used) (b .1 .0)) (t .rest))))
+      is-executable q (b .0) (t .tree) (sym (last-some (executable (byte p 0) (t .tree)) (drop (t .used) (b .1 .0)) (t .rest)))
 
-  effect-is : effectIn n p ≡ some l → (j : ℕ) → executes j l ≡ false
+  effect-form : k ≡ effectKind → effectIn n p ≡ some l → Form n k p l
   unfolding effectIn
-  effect-is e j =
+  effect-form q e =
       let b = below-is (n .entries) p (λ i rest. conIn (context n true) rest (λ c rest. below (n .fluents) rest (λ f rest. exprIn (context n true) rest (λ x. last (effect i c f x))))) l e in
       let i = byte p 0 in
       let t = taken-some _ (b .1 .0) (parseC 16 (b .1 .0)) (λ c rest. below (n .fluents) rest (λ f rest. exprIn (context n true) rest (λ x. last (effect i c f x)))) (b .1 .1) in
@@ -131,24 +133,43 @@ module _ (n : Counts) (p : List ℕ) (l : Law) where
       let g = below-is (n .fluents) r (λ f rest. exprIn (context n true) rest (λ x. last (effect i (t .tree) f x))) l (t .rest) in
       let f = byte r 0 in
       let x = taken-some _ (g .1 .0) (parseE 16 (g .1 .0)) (λ x. last (effect i (t .tree) f x)) (g .1 .1) in
-      ap (executes j) (sym (last-some (effect i (t .tree) f (x .tree)) (drop (x .used) (g .1 .0)) (x .rest)))
+      is-effect q (t .tree) f (x .tree) (sym (last-some (effect i (t .tree) f (x .tree)) (drop (x .used) (g .1 .0)) (x .rest)))
 
-  must-is : (s : Scope) → mustIn s n p ≡ some l → (j : ℕ) → executes j l ≡ false
+  must-form : (s : Scope) → k ≡ scopeKind s → mustIn s n p ≡ some l → Form n k p l
   unfolding mustIn
-  must-is s e j =
+  must-form s q e =
       let t = taken-some _ p (parseC 16 p) (λ c. last (must s c)) e in
-      ap (executes j) (sym (last-some (must s (t .tree)) (drop (t .used) p) (t .rest)))
+      is-must s q (t .tree) (sym (last-some (must s (t .tree)) (drop (t .used) p) (t .rest)))
+
+  pub law-form : lawIn n k p ≡ some l → Form n k p l
+  unfolding lawIn
+  law-form e = go (eqb k 0xA5) (eqb k 0xA6) (eqb k 0xA7) (eqb k 0xA8) (eqb k 0xA9) refl refl refl refl refl e
+    where
+      go : (a b c d g : Bool) → eqb k 0xA5 ≡ a → eqb k 0xA6 ≡ b → eqb k 0xA7 ≡ c → eqb k 0xA8 ≡ d → eqb k 0xA9 ≡ g
+          → if-else a (executableIn n p) (if-else b (effectIn n p) (if-else c (mustIn static n p) (if-else d (mustIn concurrency n p) (if-else g (mustIn goal n p) none)))) ≡ some l
+          → Form n k p l
+      go true b c d g ea eb ec ed eg z = executable-form (eqb-true k 0xA5 ea) z
+      go false true c d g ea eb ec ed eg z = effect-form (eqb-true k 0xA6 eb) z
+      go false false true d g ea eb ec ed eg z = must-form static (eqb-true k 0xA7 ec) z
+      go false false false true g ea eb ec ed eg z = must-form concurrency (eqb-true k 0xA8 ed) z
+      go false false false false true ea eb ec ed eg z = must-form goal (eqb-true k 0xA9 eg) z
+      go false false false false false ea eb ec ed eg z = absurd (let y : _≡_ {A = ℕ} 0 1 = cc in omega arith)
+
+-- ---- which entry a law is an executability law of
+
+pub data Executes (n : Counts) (k : ℕ) (p : List ℕ) (l : Law) : Type 0 where
+  this : k ≡ 0xA5 → byte p 0 < n .entries → ((i : ℕ) → executes i l ≡ eqb (byte p 0) i) → Executes n k p l
+  other : eqb k 0xA5 ≡ false → ((i : ℕ) → executes i l ≡ false) → Executes n k p l
+
+not-executable : (s : Scope) → eqb (scopeKind s) 0xA5 ≡ false
+not-executable static = refl
+not-executable concurrency = refl
+not-executable goal = refl
 
 pub law-executes : (n : Counts) (k : ℕ) (p : List ℕ) (l : Law) → lawIn n k p ≡ some l → Executes n k p l
-unfolding lawIn
-law-executes n k p l q = go (eqb k 0xA5) (eqb k 0xA6) (eqb k 0xA7) (eqb k 0xA8) (eqb k 0xA9) refl q
+law-executes n k p l e = go (law-form n k p l e)
   where
-    go : (a b c d g : Bool) → eqb k 0xA5 ≡ a
-        → if-else a (executableIn n p) (if-else b (effectIn n p) (if-else c (mustIn static n p) (if-else d (mustIn concurrency n p) (if-else g (mustIn goal n p) none)))) ≡ some l
-        → Executes n k p l
-    go true b c d g ea z = let x = executable-is n p l z in this (eqb-true k 0xA5 ea) (x .0) (x .1)
-    go false true c d g ea z = other ea (effect-is n p l z)
-    go false false true d g ea z = other ea (must-is n p l static z)
-    go false false false true g ea z = other ea (must-is n p l concurrency z)
-    go false false false false true ea z = other ea (must-is n p l goal z)
-    go false false false false false ea z = absurd (let y : _≡_ {A = ℕ} 0 1 = cc in omega arith)
+    go : Form n k p l → Executes n k p l
+    go (is-executable q below c z) = this q below (λ i. ap (executes i) z)
+    go (is-effect q c f x z) = other (ap (λ j. eqb j 0xA5) q) (λ i. ap (executes i) z)
+    go (is-must s q c z) = other (ap (λ j. eqb j 0xA5) q ∙ not-executable s) (λ i. ap (executes i) z)

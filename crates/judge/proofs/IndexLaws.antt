@@ -19,7 +19,7 @@ use Rattle.judge.specs.Masks.{unionFrom}
 use Rattle.judge.specs.Landing.{Ranged}
 use Rattle.judge.specs.Told.{Lawful, Knowing, Held, lawNumber, frameOf}
 use Rattle.judge.specs.Prepared.{Entered}
-use Rattle.judge.proofs.LoopLaws.{map-length, map-at}
+use Rattle.bmap.proofs.NumbersLaws.{map-length, map-at}
 use Rattle.judge.proofs.CheckLaws.{noLaw, noEntry}
 use Rattle.judge.proofs.HeldLaws.{held-says}
 use Rattle.judge.proofs.LandingLaws.{noFluent}

@@ -27,7 +27,7 @@ use Rattle.judge.specs.declared.landing.Fit.{Fit}
 use Rattle.judge.specs.declared.landing.Fit.the-variants.{Out, In}
 use Rattle.judge.specs.declared.verdict.Check.the-variants.{Passed, Failed}
 use Rattle.judge.specs.declared.verdict.Fault.{Fault}
-use Rattle.judge.proofs.LoopLaws.{map-at}
+use Rattle.bmap.proofs.NumbersLaws.{map-at}
 use Rattle.judge.proofs.StateLaws.{level-of}
 
 -- a number between two of 16 bits

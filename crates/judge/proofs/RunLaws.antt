@@ -24,7 +24,7 @@ use Rattle.judge.specs.Prepared.{Entered}
 use Rattle.judge.specs.declared.verdict.Check.{Check}
 use Rattle.judge.specs.declared.verdict.Check.the-variants.{Passed, Failed}
 use Rattle.judge.specs.declared.verdict.Fault.{Fault}
-use Rattle.judge.proofs.LoopLaws.{map-at, map-length, all-at}
+use Rattle.bmap.proofs.NumbersLaws.{map-at, map-length, all-at}
 use Rattle.judge.proofs.MaskLaws.{mask-bit, union-bit, any-map, any-same}
 
 -- ---- who acts

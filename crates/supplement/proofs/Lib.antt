@@ -1,1 +1,4 @@
--- The check of a frame.
+-- The replacements so far, and where they stand.
+pub mod OverLaws
+-- The refusals of one frame.
+pub mod CheckLaws

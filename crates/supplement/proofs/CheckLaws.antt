@@ -1,0 +1,169 @@
+-- The check of one frame of a supplement, refusal by refusal. Assumes nothing.
+use Prim.Native.Nat.{ℕ, zero, suc, _+_, _-_, _≤_, _<_}
+use native.Mathlib.Omega.{arith}
+use mathlib.Core.Path.{_≡_, refl, sym, ap, subst, _∙_}
+use mathlib.Core.Bool.{Bool, true, false, not}
+use mathlib.Core.List.{List, [], _∷_, _++_, map}
+use mathlib.Core.Option.{Option, none, some}
+use lib.Dec.{eqb, leb}
+use lib.ListN.{length, getD, take, drop}
+use lib.Seq.{getD-drop}
+use borrow.Author.Tests.{eqb-true, leb-true, eq-eqb, ne-eqb, le-leb, lt-leb, not-true}
+use Rattle.bmap.specs.Plain.{both, either, implies, if-else, maybe, any}
+use Rattle.bmap.specs.Refusal.{Answer, got, refused, need, known, then}
+use Rattle.bmap.specs.Line.{Frame}
+use Rattle.bmap.specs.Tree.{always}
+use Rattle.bmap.specs.Domain.{Domain, Law, executable, effect, must, Scope, static, concurrency, goal}
+use Rattle.bmap.specs.Payload.{byte, scopeKind, lawIn}
+use Rattle.bmap.specs.Accept.{countsOf}
+use Rattle.bmap.specs.Supplement.{Replacement, replaces, numberIn, kindIn, payloadIn, lawNumbered, standsFor, replacementIn, replacementPart}
+use Rattle.bmap.specs.declared.limits.Counts.{Counts}
+use Rattle.index.specs.Index.{frameBytes}
+use Rattle.domain.specs.Check.{isSome, refusedIn}
+use Rattle.domain.proofs.Passed.{Form, is-executable, is-effect, is-must, law-form}
+use Rattle.supplement.specs.Check.{LawsStand, hasEntry, standsIn, countPlace, overOf}
+use Rattle.supplement.proofs.OverLaws.{gives, given, not-given, over-at}
+
+-- ---- 20: kind and entry, by the bytes of the domain's law
+
+both-end : (b : Bool) → both b true ≡ b
+both-end true = refl
+both-end false = refl
+
+no-entry : (s : Scope) → hasEntry (scopeKind s) ≡ false
+no-entry static = refl
+no-entry concurrency = refl
+no-entry goal = refl
+
+-- a byte after others
+byte-after : (k : ℕ) (l : List ℕ) (i : ℕ) → byte (drop k l) i ≡ byte l (k + i)
+byte-after k l i = getD-drop k l i 0
+
+module _ (n : Counts) (frame : List ℕ) (f : Frame) (l : Law) where
+  pub stands-is : lawIn n (byte frame 0) (drop 2 frame) ≡ some l → standsIn frame (f .payload) ≡ standsFor f l
+  stands-is e = go (law-form n (byte frame 0) (drop 2 frame) l e)
+    where
+      -- the entries of both, by their places
+      entries : eqb (byte (f .payload) 2) (byte frame 2) ≡ eqb (byte (payloadIn f) 0) (byte (drop 2 frame) 0)
+      entries = ap (λ (x : ℕ). eqb x (byte frame 2)) (sym (byte-after 2 (f .payload) 0)) ∙ ap (eqb (byte (payloadIn f) 0)) (sym (byte-after 2 frame 0))
+
+      go : Form n (byte frame 0) (drop 2 frame) l → standsIn frame (f .payload) ≡ standsFor f l
+      go (is-executable q below c z) = ap (λ (k : ℕ). both (eqb (kindIn f) k) (implies (hasEntry k) (eqb (byte (f .payload) 2) (byte frame 2)))) q ∙ ap (both (eqb (kindIn f) 0xA5)) entries ∙ ap (standsFor f) (sym z)
+      go (is-effect q c g x z) = ap (λ (k : ℕ). both (eqb (kindIn f) k) (implies (hasEntry k) (eqb (byte (f .payload) 2) (byte frame 2)))) q ∙ ap (both (eqb (kindIn f) 0xA6)) entries ∙ ap (standsFor f) (sym z)
+      go (is-must s q c z) =
+          ap (λ (k : ℕ). both (eqb (kindIn f) k) (implies (hasEntry k) (eqb (byte (f .payload) 2) (byte frame 2)))) q
+          ∙ ap (λ (t : Bool). both (eqb (kindIn f) (scopeKind s)) (implies t (eqb (byte (f .payload) 2) (byte frame 2)))) (no-entry s)
+          ∙ both-end (eqb (kindIn f) (scopeKind s)) ∙ ap (standsFor f) (sym z)
+
+-- ---- the law of a number
+
+numbered-none : {A : Type 0} (l : List A) (n : ℕ) → length l ≤ n → getD (map some l) n none ≡ none
+numbered-none [] n h = refl
+numbered-none (a ∷ l) zero h = absurd (omega arith)
+numbered-none (a ∷ l) (suc n) h = numbered-none l n (omega arith)
+
+pub numbered-some : {A : Type 0} (l : List A) (n : ℕ) (d : A) → n < length l → getD (map some l) n none ≡ some (getD l n d)
+numbered-some [] n d h = absurd (omega arith)
+numbered-some (a ∷ l) zero d h = refl
+numbered-some (a ∷ l) (suc n) d h = numbered-some l n d (omega arith)
+
+abbrev noLaw : Law
+noLaw = must static always
+
+abbrev pub lawAt : Domain → ℕ → Law
+lawAt d n = getD (d .laws) n noLaw
+
+-- ---- the refusals in their order
+
+-- the law that it says, or 4
+abbrev saying : Frame → Option Law → Answer Replacement
+saying f x = then (known 4 x) (λ l. got (record { frame = f; law = l }))
+
+module _ (d : Domain) (earlier : List Replacement) (f : Frame) where
+  abbrev stands : Bool
+  stands = maybe (lawNumbered d (numberIn f)) false (standsFor f)
+
+  abbrev twice : Bool
+  twice = any (λ r. eqb (replaces r) (numberIn f)) earlier
+
+  pub not-kind : eqb (f .kind) 0xAF ≡ false → some 3 ≡ refusedIn (replacementIn d earlier f)
+  unfolding replacementIn
+  not-kind k = rw k
+
+  module _ (k : eqb (f .kind) 0xAF ≡ true) where
+    pub not-long : length (f .payload) < 3 → some 4 ≡ refusedIn (replacementIn d earlier f)
+    unfolding replacementIn
+    not-long l = rw (k, lt-leb 3 (length (f .payload)) l)
+
+    module _ (l : 3 ≤ length (f .payload)) where
+      not-there-by : stands ≡ false → some 20 ≡ refusedIn (replacementIn d earlier f)
+      unfolding replacementIn
+      not-there-by e = rw (k, le-leb 3 (length (f .payload)) l, e)
+
+      module _ (there : stands ≡ true) where
+        twice-by : twice ≡ true → some 20 ≡ refusedIn (replacementIn d earlier f)
+        unfolding replacementIn
+        twice-by e = rw (k, le-leb 3 (length (f .payload)) l, there, e)
+
+        module _ (new : twice ≡ false) where
+          law-asked : refusedIn (saying f (lawIn (countsOf d) (kindIn f) (payloadIn f))) ≡ refusedIn (replacementIn d earlier f)
+          unfolding replacementIn
+          law-asked = rw (k, le-leb 3 (length (f .payload)) l, there, new)
+
+-- ---- in the code's terms
+
+module _ {d : Domain} {store : List ℕ} {n : Counts} {laws over : List ℕ} (h : LawsStand d store n laws) (earlier : List Replacement) (o : over ≡ overOf earlier)
+    (f : Frame) (k : eqb (f .kind) 0xAF ≡ true) (l : 3 ≤ length (f .payload)) where
+  how-many : length (d .laws) ≡ n .laws
+  how-many = ap (λ (c : Counts). c .laws) (h .counts)
+
+  abbrev frame : List ℕ
+  frame = frameBytes store (getD laws (numberIn f) 0)
+
+  pub not-there : n .laws ≤ numberIn f → some 20 ≡ refusedIn (replacementIn d earlier f)
+  not-there q = not-there-by d earlier f k l (ap (λ (x : Option Law). maybe x false (standsFor f)) (numbered-none (d .laws) (numberIn f) (omega (arith, how-many))))
+
+  module _ (q : numberIn f < n .laws) where
+    stands-in : standsIn frame (f .payload) ≡ stands d earlier f
+    stands-in =
+        let e : lawNumbered d (numberIn f) ≡ some (lawAt d (numberIn f)) = numbered-some (d .laws) (numberIn f) noLaw (omega (arith, how-many)) in
+        stands-is n frame f (lawAt d (numberIn f)) (h .law (numberIn f) q ∙ e) ∙ ap (λ (x : Option Law). maybe x false (standsFor f)) (sym e)
+
+    pub other-law : standsIn frame (f .payload) ≡ false → some 20 ≡ refusedIn (replacementIn d earlier f)
+    other-law e = not-there-by d earlier f k l (sym stands-in ∙ e)
+
+    module _ (same : standsIn frame (f .payload) ≡ true) (few : n .laws ≤ 128) where
+      over-is : getD over (numberIn f) 0 ≡ countPlace (replacementPart 0 earlier (numberIn f))
+      over-is = ap (λ (x : List ℕ). getD x (numberIn f) 0) o ∙ over-at earlier (numberIn f) (omega arith)
+
+      -- 0 is the place of no replacement
+      is-twice : (t : Bool) → any (gives (numberIn f)) earlier ≡ t → (getD over (numberIn f) 0 ≡ 0 → ⊥) → t ≡ true
+      is-twice true e p = refl
+      is-twice false e p = absurd (p (over-is ∙ ap countPlace (not-given 0 earlier (numberIn f) e)))
+
+      is-new : (t : Bool) → any (gives (numberIn f)) earlier ≡ t → getD over (numberIn f) 0 ≡ 0 → t ≡ false
+      is-new true e p = absurd (omega (arith, given 0 earlier (numberIn f) e, over-is))
+      is-new false e p = refl
+
+      pub given-twice : (getD over (numberIn f) 0 ≡ 0 → ⊥) → some 20 ≡ refusedIn (replacementIn d earlier f)
+      given-twice p = twice-by d earlier f k l (sym stands-in ∙ same) (is-twice (twice d earlier f) refl p)
+
+      module _ (p : getD over (numberIn f) 0 ≡ 0) where
+        asked : refusedIn (saying f (lawIn n (kindIn f) (payloadIn f))) ≡ refusedIn (replacementIn d earlier f)
+        asked =
+            ap (λ (c : Counts). refusedIn (saying f (lawIn c (kindIn f) (payloadIn f)))) (sym (h .counts))
+            ∙ law-asked d earlier f k l (sym stands-in ∙ same) (is-new (twice d earlier f) refl p)
+
+        pub no-law : false ≡ isSome (lawIn n (kindIn f) (payloadIn f)) → some 4 ≡ refusedIn (replacementIn d earlier f)
+        no-law e = go (lawIn n (kindIn f) (payloadIn f)) e ∙ asked
+          where
+            go : (x : Option Law) → false ≡ isSome x → some 4 ≡ refusedIn (saying f x)
+            go none q = refl
+            go (some l) q = absurd (let z : _≡_ {A = ℕ} 0 1 = cc in omega arith)
+
+        pub is-law : true ≡ isSome (lawIn n (kindIn f) (payloadIn f)) → none ≡ refusedIn (replacementIn d earlier f)
+        is-law e = go (lawIn n (kindIn f) (payloadIn f)) e ∙ asked
+          where
+            go : (x : Option Law) → true ≡ isSome x → none ≡ refusedIn (saying f x)
+            go none q = absurd (let z : _≡_ {A = ℕ} 0 1 = cc in omega arith)
+            go (some l) q = refl

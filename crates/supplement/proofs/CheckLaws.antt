@@ -39,6 +39,24 @@ no-entry goal = refl
 byte-after : (k : ℕ) (l : List ℕ) (i : ℕ) → byte (drop k l) i ≡ byte l (k + i)
 byte-after k l i = getD-drop k l i 0
 
+-- as the code asks it
+module _ (frame p : List ℕ) where
+  pub other-kind : (byte p 1 ≡ byte frame 0 → ⊥) → false ≡ standsIn frame p
+  other-kind h = rw (ne-eqb (byte p 1) (byte frame 0) h)
+
+  module _ (same : byte p 1 ≡ byte frame 0) where
+    pub entry-asked : hasEntry (byte frame 0) ≡ true → eqb (byte p 2) (byte frame 2) ≡ standsIn frame p
+    entry-asked h = rw (eq-eqb (byte p 1) (byte frame 0) same, h)
+
+    pub no-entry-asked : (byte frame 0 ≡ 0xA5 → ⊥) → (byte frame 0 ≡ 0xA6 → ⊥) → true ≡ standsIn frame p
+    no-entry-asked a b = rw (eq-eqb (byte p 1) (byte frame 0) same, ne-eqb (byte frame 0) 0xA5 a, ne-eqb (byte frame 0) 0xA6 b)
+
+pub of-executable : {k : ℕ} → k ≡ 0xA5 → hasEntry k ≡ true
+of-executable e = ap hasEntry e
+
+pub of-effect : {k : ℕ} → k ≡ 0xA6 → hasEntry k ≡ true
+of-effect e = ap hasEntry e
+
 module _ (n : Counts) (frame : List ℕ) (f : Frame) (l : Law) where
   pub stands-is : lawIn n (byte frame 0) (drop 2 frame) ≡ some l → standsIn frame (f .payload) ≡ standsFor f l
   stands-is e = go (law-form n (byte frame 0) (drop 2 frame) l e)
@@ -86,83 +104,85 @@ module _ (d : Domain) (earlier : List Replacement) (f : Frame) where
   abbrev twice : Bool
   twice = any (λ r. eqb (replaces r) (numberIn f)) earlier
 
-  pub not-kind : eqb (f .kind) 0xAF ≡ false → some 3 ≡ refusedIn (replacementIn d earlier f)
+  pub not-kind : (f .kind ≡ 0xAF → ⊥) → some 3 ≡ refusedIn (replacementIn d earlier f)
   unfolding replacementIn
-  not-kind k = rw k
+  not-kind k = rw (ne-eqb (f .kind) 0xAF k)
 
-  module _ (k : eqb (f .kind) 0xAF ≡ true) where
+  module _ (k : f .kind ≡ 0xAF) where
     pub not-long : length (f .payload) < 3 → some 4 ≡ refusedIn (replacementIn d earlier f)
     unfolding replacementIn
-    not-long l = rw (k, lt-leb 3 (length (f .payload)) l)
+    not-long l = rw (eq-eqb (f .kind) 0xAF k, lt-leb 3 (length (f .payload)) l)
 
     module _ (l : 3 ≤ length (f .payload)) where
       not-there-by : stands ≡ false → some 20 ≡ refusedIn (replacementIn d earlier f)
       unfolding replacementIn
-      not-there-by e = rw (k, le-leb 3 (length (f .payload)) l, e)
+      not-there-by e = rw (eq-eqb (f .kind) 0xAF k, le-leb 3 (length (f .payload)) l, e)
 
       module _ (there : stands ≡ true) where
         twice-by : twice ≡ true → some 20 ≡ refusedIn (replacementIn d earlier f)
         unfolding replacementIn
-        twice-by e = rw (k, le-leb 3 (length (f .payload)) l, there, e)
+        twice-by e = rw (eq-eqb (f .kind) 0xAF k, le-leb 3 (length (f .payload)) l, there, e)
 
         module _ (new : twice ≡ false) where
           law-asked : refusedIn (saying f (lawIn (countsOf d) (kindIn f) (payloadIn f))) ≡ refusedIn (replacementIn d earlier f)
           unfolding replacementIn
-          law-asked = rw (k, le-leb 3 (length (f .payload)) l, there, new)
+          law-asked = rw (eq-eqb (f .kind) 0xAF k, le-leb 3 (length (f .payload)) l, there, new)
 
 -- ---- in the code's terms
 
 module _ {d : Domain} {store : List ℕ} {n : Counts} {laws over : List ℕ} (h : LawsStand d store n laws) (earlier : List Replacement) (o : over ≡ overOf earlier)
-    (f : Frame) (k : eqb (f .kind) 0xAF ≡ true) (l : 3 ≤ length (f .payload)) where
+    (f : Frame) (k : f .kind ≡ 0xAF) (l : 3 ≤ length (f .payload)) (number : ℕ) (is : number ≡ numberIn f) where
   how-many : length (d .laws) ≡ n .laws
   how-many = ap (λ (c : Counts). c .laws) (h .counts)
 
   abbrev frame : List ℕ
-  frame = frameBytes store (getD laws (numberIn f) 0)
+  frame = frameBytes store (getD laws number 0)
 
-  pub not-there : n .laws ≤ numberIn f → some 20 ≡ refusedIn (replacementIn d earlier f)
+  pub not-there : n .laws ≤ number → some 20 ≡ refusedIn (replacementIn d earlier f)
   not-there q = not-there-by d earlier f k l (ap (λ (x : Option Law). maybe x false (standsFor f)) (numbered-none (d .laws) (numberIn f) (omega (arith, how-many))))
 
-  module _ (q : numberIn f < n .laws) where
+  module _ (q : number < n .laws) where
     stands-in : standsIn frame (f .payload) ≡ stands d earlier f
     stands-in =
-        let e : lawNumbered d (numberIn f) ≡ some (lawAt d (numberIn f)) = numbered-some (d .laws) (numberIn f) noLaw (omega (arith, how-many)) in
-        stands-is n frame f (lawAt d (numberIn f)) (h .law (numberIn f) q ∙ e) ∙ ap (λ (x : Option Law). maybe x false (standsFor f)) (sym e)
+        let e : lawNumbered d number ≡ some (lawAt d number) = numbered-some (d .laws) number noLaw (omega (arith, how-many)) in
+        stands-is n frame f (lawAt d number) (h .law number q ∙ e)
+        ∙ ap (λ (x : Option Law). maybe x false (standsFor f)) (sym e) ∙ ap (λ (i : ℕ). maybe (lawNumbered d i) false (standsFor f)) is
 
     pub other-law : standsIn frame (f .payload) ≡ false → some 20 ≡ refusedIn (replacementIn d earlier f)
     other-law e = not-there-by d earlier f k l (sym stands-in ∙ e)
 
     module _ (same : standsIn frame (f .payload) ≡ true) (few : n .laws ≤ 128) where
-      over-is : getD over (numberIn f) 0 ≡ countPlace (replacementPart 0 earlier (numberIn f))
-      over-is = ap (λ (x : List ℕ). getD x (numberIn f) 0) o ∙ over-at earlier (numberIn f) (omega arith)
+      over-is : getD over number 0 ≡ countPlace (replacementPart 0 earlier (numberIn f))
+      over-is = ap (λ (x : List ℕ). getD x number 0) o ∙ over-at earlier number (omega arith) ∙ ap (λ (i : ℕ). countPlace (replacementPart 0 earlier i)) is
 
       -- 0 is the place of no replacement
-      is-twice : (t : Bool) → any (gives (numberIn f)) earlier ≡ t → (getD over (numberIn f) 0 ≡ 0 → ⊥) → t ≡ true
+      is-twice : (t : Bool) → any (gives (numberIn f)) earlier ≡ t → (getD over number 0 ≡ 0 → ⊥) → t ≡ true
       is-twice true e p = refl
       is-twice false e p = absurd (p (over-is ∙ ap countPlace (not-given 0 earlier (numberIn f) e)))
 
-      is-new : (t : Bool) → any (gives (numberIn f)) earlier ≡ t → getD over (numberIn f) 0 ≡ 0 → t ≡ false
+      is-new : (t : Bool) → any (gives (numberIn f)) earlier ≡ t → getD over number 0 ≡ 0 → t ≡ false
       is-new true e p = absurd (omega (arith, given 0 earlier (numberIn f) e, over-is))
       is-new false e p = refl
 
-      pub given-twice : (getD over (numberIn f) 0 ≡ 0 → ⊥) → some 20 ≡ refusedIn (replacementIn d earlier f)
+      pub given-twice : (getD over number 0 ≡ 0 → ⊥) → some 20 ≡ refusedIn (replacementIn d earlier f)
       given-twice p = twice-by d earlier f k l (sym stands-in ∙ same) (is-twice (twice d earlier f) refl p)
 
-      module _ (p : getD over (numberIn f) 0 ≡ 0) where
-        asked : refusedIn (saying f (lawIn n (kindIn f) (payloadIn f))) ≡ refusedIn (replacementIn d earlier f)
+      module _ (p : getD over number 0 ≡ 0) (kind : ℕ) (its : kind ≡ kindIn f) where
+        asked : refusedIn (saying f (lawIn n kind (payloadIn f))) ≡ refusedIn (replacementIn d earlier f)
         asked =
-            ap (λ (c : Counts). refusedIn (saying f (lawIn c (kindIn f) (payloadIn f)))) (sym (h .counts))
+            ap (λ (x : ℕ). refusedIn (saying f (lawIn n x (payloadIn f)))) its
+            ∙ ap (λ (c : Counts). refusedIn (saying f (lawIn c (kindIn f) (payloadIn f)))) (sym (h .counts))
             ∙ law-asked d earlier f k l (sym stands-in ∙ same) (is-new (twice d earlier f) refl p)
 
-        pub no-law : false ≡ isSome (lawIn n (kindIn f) (payloadIn f)) → some 4 ≡ refusedIn (replacementIn d earlier f)
-        no-law e = go (lawIn n (kindIn f) (payloadIn f)) e ∙ asked
+        pub no-law : false ≡ isSome (lawIn n kind (payloadIn f)) → some 4 ≡ refusedIn (replacementIn d earlier f)
+        no-law e = go (lawIn n kind (payloadIn f)) e ∙ asked
           where
             go : (x : Option Law) → false ≡ isSome x → some 4 ≡ refusedIn (saying f x)
             go none q = refl
             go (some l) q = absurd (let z : _≡_ {A = ℕ} 0 1 = cc in omega arith)
 
-        pub is-law : true ≡ isSome (lawIn n (kindIn f) (payloadIn f)) → none ≡ refusedIn (replacementIn d earlier f)
-        is-law e = go (lawIn n (kindIn f) (payloadIn f)) e ∙ asked
+        pub is-law : true ≡ isSome (lawIn n kind (payloadIn f)) → none ≡ refusedIn (replacementIn d earlier f)
+        is-law e = go (lawIn n kind (payloadIn f)) e ∙ asked
           where
             go : (x : Option Law) → true ≡ isSome x → none ≡ refusedIn (saying f x)
             go none q = absurd (let z : _≡_ {A = ℕ} 0 1 = cc in omega arith)

@@ -49,7 +49,7 @@ pub(crate) fn check_replacement(
     if p.len() < 3 {
         return Check::Refused(Refusal::BadPayload);
     }
-    let n = p[0] as usize;
+    let n = byte_at(p, 0) as usize;
     if n >= counts.laws {
         return Check::Refused(Refusal::OtherLaw);
     }
@@ -59,7 +59,7 @@ pub(crate) fn check_replacement(
     if over[n] != 0 {
         return Check::Refused(Refusal::OtherLaw);
     }
-    if !law_fits(counts, p[1], &p[2..]) {
+    if !law_fits(counts, byte_at(p, 1), &p[2..]) {
         return Check::Refused(Refusal::BadPayload);
     }
     Check::Passed

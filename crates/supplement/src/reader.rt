@@ -6,6 +6,7 @@ use bmap::SUPPLEMENT;
 use domain::Check;
 use domain::ReadStore;
 use index::Index;
+use index::byte_at;
 use line::FirstLine;
 use line::read_line;
 use line::zero_from;
@@ -85,7 +86,7 @@ fn read_lines(store: &[u8], index: Index, text: &[u8], buffer: &mut [u8]) -> Rea
                 if let Check::Refused(refusal) = check_replacement(store, counts, &laws, &over, kind, p) {
                     return ReadStore::Refused { refusal, line };
                 }
-                over[p[0] as usize] = count as u16;
+                over[byte_at(p, 0) as usize] = count as u16;
                 rest = &rest[characters..];
             }
         }

@@ -3,6 +3,7 @@ use crate::checks::check_replacement;
 use bmap::Counts;
 use domain::Check;
 use index::Index;
+use index::byte_at;
 use line::FrameAt;
 use line::frame_at;
 use line::is_zero_from;
@@ -71,7 +72,7 @@ fn places_of(store: &[u8], index: Index, supplement: &[u8]) -> Under
         let Check::Passed = check_replacement(store, counts, &laws, &over, kind, p) else {
             return refused(index);
         };
-        over[p[0] as usize] = count as u16;
+        over[byte_at(p, 0) as usize] = count as u16;
         at = next;
     }
 }

@@ -75,7 +75,7 @@ pub record Passed (latest : ℕ) (n : Counts) (es : List Entry) (f : Frame) : Ty
   pub order : latest ≤ f .kind
   pub fits : room n (f .kind) ≡ true
 
-need-got : {A : Type 0} (b : Bool) (m : ℕ) (r : Answer A) → none ≡ refusedIn (need b m r) → (b ≡ true) × (none ≡ refusedIn r)
+pub need-got : {A : Type 0} (b : Bool) (m : ℕ) (r : Answer A) → none ≡ refusedIn (need b m r) → (b ≡ true) × (none ≡ refusedIn r)
 need-got true m r e = (refl, e)
 need-got false m r e = absurd (let z : _≡_ {A = ℕ} 0 1 = cc in omega arith)
 

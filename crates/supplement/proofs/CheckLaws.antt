@@ -18,7 +18,9 @@ use Rattle.bmap.specs.Payload.{byte, scopeKind, lawIn}
 use Rattle.bmap.specs.Accept.{countsOf}
 use Rattle.bmap.specs.Supplement.{Replacement, replaces, numberIn, kindIn, payloadIn, lawNumbered, standsFor, replacementIn, replacementPart}
 use Rattle.bmap.specs.declared.limits.Counts.{Counts}
-use Rattle.index.specs.Index.{frameBytes}
+use Rattle.index.specs.declared.Index.{Index}
+use Rattle.index.specs.Index.{frameBytes, lawOf, domainOf, Sound}
+use Rattle.index.proofs.DomainLaws.{counts-are, law-count, law-number}
 use Rattle.domain.specs.Check.{isSome, refusedIn}
 use Rattle.domain.proofs.Passed.{Form, is-executable, is-effect, is-must, law-form}
 use Rattle.supplement.specs.Check.{LawsStand, hasEntry, standsIn, countPlace, overOf}
@@ -75,7 +77,7 @@ module _ (n : Counts) (frame : List ℕ) (f : Frame) (l : Law) where
 
 -- ---- the law of a number
 
-numbered-none : {A : Type 0} (l : List A) (n : ℕ) → length l ≤ n → getD (map some l) n none ≡ none
+pub numbered-none : {A : Type 0} (l : List A) (n : ℕ) → length l ≤ n → getD (map some l) n none ≡ none
 numbered-none [] n h = refl
 numbered-none (a ∷ l) zero h = absurd (omega arith)
 numbered-none (a ∷ l) (suc n) h = numbered-none l n (omega arith)
@@ -85,7 +87,7 @@ numbered-some [] n d h = absurd (omega arith)
 numbered-some (a ∷ l) zero d h = refl
 numbered-some (a ∷ l) (suc n) d h = numbered-some l n d (omega arith)
 
-abbrev noLaw : Law
+abbrev pub noLaw : Law
 noLaw = must static always
 
 abbrev pub lawAt : Domain → ℕ → Law
@@ -187,3 +189,13 @@ module _ {d : Domain} {store : List ℕ} {n : Counts} {laws over : List ℕ} (h 
             go : (x : Option Law) → true ≡ isSome x → none ≡ refusedIn (saying f x)
             go none q = absurd (let z : _≡_ {A = ℕ} 0 1 = cc in omega arith)
             go (some l) q = refl
+
+-- ---- the index of an accepted domain has its laws
+
+pub laws-stand : (store : List ℕ) (x : Index) → Sound store x → LawsStand (domainOf store x) store (x .counts) (x .laws)
+unfolding lawOf
+laws-stand store x h = record {
+  counts = counts-are store x;
+  law = λ i k.
+      h .law i k ∙ ap some (sym (law-number store x i k)) ∙ sym (numbered-some (domainOf store x .laws) i noLaw (omega (arith, law-count store x)));
+}

@@ -1,4 +1,7 @@
 -- The replacements so far, and where they stand.
 pub mod OverLaws
--- The refusals of one frame.
+-- The refusals of one frame; what one that passes says.
 pub mod CheckLaws
+pub mod Passes
+-- The pass over a store.
+pub mod UnderLaws

@@ -2,7 +2,7 @@ use native.Mathlib.Omega.{arith}
 use mathlib.Core.Path.{_∙_}
 use borrow.Author.Tests.{not-true, not-false}
 use borrow.Author.Needs.{needs}
-use Rattle.desk.proofs.CountLaws.{counts-none, counts-sound, counts-are}
+use Rattle.desk.proofs.CountLaws.{counts-none, counts-sound, counts-told}
 use Rattle.desk.proofs.domains.waroth_counts.Statement.{statement}
 use Rattle.desk.proofs.domains.waroth_counts.Tie as tie
 
@@ -56,7 +56,7 @@ add-result-3 c =
 returns-2 : tie.Need-returns-2
 returns-2 c =
     let found = c .before .before .before .before in
-    counts-are (found .before .before .args .store .now) (found .index-of .result) (found .index-of .ensures) (not-false (found .index-of .result .ok) (c .before .before .if1 .left))
+    counts-told (found .before .before .args .store .now) (found .index-of .result) (found .index-of .ensures) (not-false (found .index-of .result .ok) (c .before .before .if1 .left))
 
 pub waroth-counts-spec : {M : Type 1} → statement M
 waroth-counts-spec =

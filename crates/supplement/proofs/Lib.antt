@@ -5,3 +5,6 @@ pub mod CheckLaws
 pub mod Passes
 -- The pass over a store.
 pub mod UnderLaws
+-- The law in force.
+pub mod ForceLaws
+pub mod Accepted

@@ -2,7 +2,7 @@
 use Prim.Native.Nat.{ℕ, zero, suc, _+_, _≤_, _<_}
 use native.Mathlib.Omega.{arith}
 use mathlib.Core.Path.{_≡_, refl, sym, ap, subst, _∙_}
-use mathlib.Core.Bool.{true, false}
+use mathlib.Core.Bool.{Bool, true, false}
 use mathlib.Core.List.{List, [], _∷_, _++_, map}
 use mathlib.Core.Option.{Option, none, some}
 use lib.ListN.{length, getD, set, drop, replicate}
@@ -13,14 +13,13 @@ use Rattle.bmap.specs.Domain.{Domain}
 use Rattle.bmap.specs.Store.{frameAt, zeros, framesFrom, whatWasRead, domainIn}
 use Rattle.bmap.specs.Supplement.{Replacement, replaces, numberIn, replacementIn, supplementFrom, supplementIn}
 use Rattle.index.specs.declared.Index.{Index}
-use Rattle.index.specs.Index.{domainOf}
+use Rattle.index.specs.Index.{domainOf, Sound}
 use Rattle.domain.specs.Check.{refusedIn}
 use Rattle.domain.specs.declared.found.Found.{Found}
 use Rattle.domain.specs.Found.{foundIn}
 use Rattle.domain.proofs.Stands.{here}
 use Rattle.domain.proofs.Accepted.{found-ok, found-none}
 use Rattle.supplement.specs.Check.{overOf}
-use Rattle.supplement.specs.declared.under.Under.{Under}
 use Rattle.supplement.specs.Under.{underOf, underIn}
 use Rattle.supplement.proofs.OverLaws.{Over, over-first, over-next, over-most}
 use Rattle.supplement.proofs.Passes.{Passes, passes}
@@ -146,11 +145,21 @@ module _ {d : Domain} {s over : List ℕ} {at : ℕ} (h : Passing d s over at) w
 
 -- ---- around the pass
 
-module _ (store supplement : List ℕ) where
-  pub under-not : foundIn store .ok ≡ false → underOf (foundIn store .index) (refused 15) ≡ underIn store supplement
-  unfolding underIn
-  under-not e = ap (λ a. underOf (foundIn store .index) (then a (λ d. supplementIn d supplement))) (sym (found-none store e))
+module _ (store supplement : List ℕ) (f : Found) (e : f ≡ foundIn store) where
+  its-ok : (b : Bool) → f .ok ≡ b → foundIn store .ok ≡ b
+  its-ok b k = ap (λ (x : Found). x .ok) (sym e) ∙ k
 
-  pub under-by : foundIn store .ok ≡ true → underOf (foundIn store .index) (supplementIn (domainOf store (foundIn store .index)) supplement) ≡ underIn store supplement
+  pub under-sound : f .ok ≡ true → Sound store (f .index)
+  under-sound k = subst (λ (x : Found). Sound store (x .index)) (sym e) (found-ok store (its-ok true k) .sound)
+
+  pub under-not : f .ok ≡ false → underOf (f .index) (refused 15) ≡ underIn store supplement
   unfolding underIn
-  under-by e = ap (λ a. underOf (foundIn store .index) (then a (λ d. supplementIn d supplement))) (sym (found-ok store e .domain))
+  under-not k =
+      ap (λ (x : Found). underOf (x .index) (refused 15)) e
+      ∙ ap (λ a. underOf (foundIn store .index) (then a (λ d. supplementIn d supplement))) (sym (found-none store (its-ok false k)))
+
+  pub under-by : f .ok ≡ true → underOf (f .index) (supplementIn (domainOf store (f .index)) supplement) ≡ underIn store supplement
+  unfolding underIn
+  under-by k =
+      ap (λ (x : Found). underOf (x .index) (supplementIn (domainOf store (x .index)) supplement)) e
+      ∙ ap (λ a. underOf (foundIn store .index) (then a (λ d. supplementIn d supplement))) (sym (found-ok store (its-ok true k) .domain))

@@ -59,10 +59,10 @@ pub fn payload_at<'a>(
 }
 
 // A place in a list of them, 0 past its end.
-fn place_in(places: &[u16; Counts::LAWS], i: usize) -> usize
+fn place_in(places: &[u16], i: usize) -> u16
     ensures { λ r. ⌜ r ≡ getD (now (places .entry)) i 0 ⌝ }
 {
-    if i < Counts::LAWS { places[i] as usize } else { 0 }
+    if i < places.len() { places[i] } else { 0 }
 }
 
 fn standing(
@@ -74,18 +74,16 @@ fn standing(
 ) -> LawPlace
     ensures { λ r. ⌜ placed r ≡ got (lawStretch (now (store .entry)) (now (laws .entry)) (now (supplement .entry)) (now (over .entry)) i) ⌝ }
 {
-    let count = place_in(over, i);
+    let count = place_in(over, i) as usize;
     if count == 0 {
-        let frame = place_in(laws, i);
-        return LawPlace::InDomain {
-            at: frame + 2,
-            size: byte_at(store, frame + 1) as usize,
-        };
+        let frame = place_in(laws, i) as usize;
+        let at = frame + 2;
+        let size = byte_at(store, frame + 1) as usize;
+        return LawPlace::InDomain { at, size };
     }
-    LawPlace::InSupplement {
-        at: count + 3,
-        size: payload_size(byte_at(supplement, count)),
-    }
+    let at = count + 3;
+    let size = payload_size(byte_at(supplement, count));
+    LawPlace::InSupplement { at, size }
 }
 
 // What a supplement's frame leaves to the law's payload after number and kind.

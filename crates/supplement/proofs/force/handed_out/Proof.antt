@@ -1,9 +1,10 @@
+-- `supplement::force::handed_out` meets its contract. Assumes nothing.
+use mathlib.Core.Path.{_≡_, sym, ap}
 use borrow.Author.Needs.{needs}
+use Rattle.supplement.specs.Force.{placed}
+use Rattle.supplement.proofs.ForceLaws.{handed}
 use Rattle.supplement.proofs.force.handed_out.Statement.{statement}
 use Rattle.supplement.proofs.force.handed_out.Tie as tie
-use Rattle.supplement.proofs.force.handed_out.Reads as reads
-use Rattle.supplement.proofs.force.handed_out.Lts as lts
-use Rattle.index.proofs.part.Reads as part-reads
 
 enum-known-place : tie.Need-enum-known-place
 enum-known-place c = search needs
@@ -24,13 +25,21 @@ part-requires-3 : tie.Need-part-requires-3
 part-requires-3 c κs = search needs
 
 returns : tie.Need-returns
-returns c = ?
+returns c =
+    let p = c .before .before in
+    let a = p .before .before .before .before .args in
+    handed (a .store) (a .supplement) _ (sym (ap placed (p .place .given .1))) (c .part .ensures)
 
 returns-2 : tie.Need-returns-2
-returns-2 c = ?
+returns-2 c =
+    let p = c .before .before in
+    let a = p .before .before .before .before .args in
+    handed (a .store) (a .supplement) _ (sym (ap placed (p .place2 .given .1))) (c .part2 .ensures)
 
 returns-3 : tie.Need-returns-3
-returns-3 c = ?
+returns-3 c =
+    let a = c .before .before .before .before .before .args in
+    handed (a .store) (a .supplement) _ (sym (ap placed (c .before .enum-told .given .1))) (c .part3 .ensures .contents)
 
 pub handed-out-spec : {M : Type 1} → statement M
 handed-out-spec =

@@ -78,7 +78,7 @@ module _ (s : List ℕ) (d : Domain) (places : List ℕ) (w : Whole s d places) 
       ap (λ (a : ℕ). record { name = a; crew = entryOf index i .crew }) (row-back (λ (x : Entry). x .name) 64 l noEntry i h)
       ∙ ap (λ (a : ℕ). record { name = getD l i noEntry .name; crew = a }) (row-back (λ (x : Entry). x .crew) 64 l noEntry i h))
 
-  as-many : length places ≡ length (d .laws)
+  pub as-many : length places ≡ length (d .laws)
   as-many = sym (length-mapped (lawThere s (countsOf d)) places) ∙ ap length (w .stands .there) ∙ length-mapped some (d .laws)
 
   law-is : (i : ℕ) → i < length (d .laws) → lawOf s index i ≡ some (getD (d .laws) i noLaw)

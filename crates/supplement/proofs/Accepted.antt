@@ -26,13 +26,14 @@ use Rattle.index.proofs.DomainLaws.{counts-are, law-count, law-number}
 use Rattle.domain.specs.Found.{foundIn}
 use Rattle.domain.proofs.Passed.{Form, is-executable, is-effect, is-must, law-form}
 use Rattle.domain.proofs.Stands.{Here, here, no-more}
-use Rattle.domain.proofs.Accepted.{found-ok, found-none}
+use Rattle.domain.proofs.Accepted.{FoundHere, found-ok, refused-15}
 use Rattle.supplement.specs.declared.under.Under.{Under}
 use Rattle.supplement.specs.Check.{placeIn, countPlace, overOf}
 use Rattle.supplement.specs.Under.{underOf, underIn}
 use Rattle.supplement.specs.Force.{stretchAt, lawStretch, bytesIn, payloadOf}
 use Rattle.supplement.proofs.OverLaws.{over-at}
 use Rattle.supplement.proofs.CheckLaws.{lawAt, noLaw}
+use Rattle.supplement.proofs.UnderLaws.{under-by, under-not}
 use Rattle.supplement.proofs.Passes.{Fits, AllFit, no-more as fit-none, FoundFits, found-fits, frames, AllRead, all-read}
 
 -- ---- the laws in force, number by number
@@ -68,6 +69,7 @@ pub record Stood (s : List ℕ) (r : Replacement) (p : Part) : Type 0 where
   pub stands : p .stands ≡ inSupplement (count + 3)
   pub bytes : p .bytes ≡ payloadIn (r .frame)
   pub there : take (getD s count 0 - 2) (drop (count + 3) s) ≡ payloadIn (r .frame)
+  pub size : getD s count 0 - 2 ≡ length (payloadIn (r .frame))
   pub short : length (r .frame .payload) ≤ 120
 
 two-off : (n : ℕ) (l : List ℕ) → drop 2 (take n l) ≡ take (n - 2) (drop 2 l)
@@ -89,10 +91,11 @@ module _ (s : List ℕ) (n : ℕ) (r : Replacement) where
     there =
         let z : at + 2 + 2 ≡ at + 1 + 3 = omega arith in
         sym (ap (drop 2) (h .payload) ∙ two-off (getD s (at + 1) 0) (drop (at + 2) s) ∙ ap (take (getD s (at + 1) 0 - 2)) (drop-drop 2 (at + 2) s ∙ ap (λ (k : ℕ). drop k s) z));
+    size = omega (arith, h .count, length-drop 2 (r .frame .payload));
     short = h .most;
   }
 
-  stood : (looks at : ℕ) (rs : List Replacement) (fs : List Frame) → framesFrom looks s at ≡ some fs → frames rs ≡ fs → replacementOf rs n ≡ some r
+  pub stood : (looks at : ℕ) (rs : List Replacement) (fs : List Frame) → framesFrom looks s at ≡ some fs → frames rs ≡ fs → replacementOf rs n ≡ some r
       → (p : Part) × ((replacementPart at rs n ≡ some p) × Stood s r p)
   unfolding framesFrom replacementOf replacementPart
   stood looks at [] fs e f q = absurd (let z : _≡_ {A = ℕ} 0 1 = cc in omega arith)
@@ -124,7 +127,7 @@ module _ (s : List ℕ) (n : ℕ) (r : Replacement) where
               test false h k rec = rec h
 
 -- and a number that has none has no part
-no-part : (at : ℕ) (rs : List Replacement) (n : ℕ) → replacementOf rs n ≡ none → replacementPart at rs n ≡ none
+pub no-part : (at : ℕ) (rs : List Replacement) (n : ℕ) → replacementOf rs n ≡ none → replacementPart at rs n ≡ none
 unfolding replacementOf replacementPart
 no-part at [] n e = refl
 no-part at (q ∷ rs) n e = go (eqb (replaces q) n) e (no-part (at + length (stored (q .frame))) rs n)
@@ -137,7 +140,7 @@ no-part at (q ∷ rs) n e = go (eqb (replaces q) n) e (no-part (at + length (sto
 -- ---- the payload of each law in force, by what was found
 
 -- the payload of the domain's own law
-payload-own : (store supplement : List ℕ) (frame over : ℕ) → over ≡ 0 → bytesIn (stretchAt store frame supplement over) store supplement ≡ drop 2 (frameBytes store frame)
+pub payload-own : (store supplement : List ℕ) (frame over : ℕ) → over ≡ 0 → bytesIn (stretchAt store frame supplement over) store supplement ≡ drop 2 (frameBytes store frame)
 unfolding frameBytes
 payload-own store supplement frame over e =
     let z : getD store (frame + 1) 0 + 2 - 2 ≡ getD store (frame + 1) 0 = omega arith in
@@ -146,7 +149,7 @@ payload-own store supplement frame over e =
     ∙ sym (two-off (getD store (frame + 1) 0 + 2) (drop frame store) ∙ ap (take (getD store (frame + 1) 0 + 2 - 2)) (drop-drop 2 frame store))
 
 -- the payload of a law that replaces it
-payload-over : (store supplement : List ℕ) (frame over : ℕ) → 1 ≤ over → bytesIn (stretchAt store frame supplement over) store supplement ≡ take (getD supplement over 0 - 2) (drop (over + 3) supplement)
+pub payload-over : (store supplement : List ℕ) (frame over : ℕ) → 1 ≤ over → bytesIn (stretchAt store frame supplement over) store supplement ≡ take (getD supplement over 0 - 2) (drop (over + 3) supplement)
 payload-over store supplement frame over h =
     ap (λ (b : Bool). bytesIn (if-else b (record { stands = inDomain (frame + 2); size = getD store (frame + 1) 0 }) (record { stands = inSupplement (over + 3); size = getD supplement over 0 - 2 })) store supplement) (ne-eqb over 0 (λ e. omega arith))
 
@@ -243,16 +246,52 @@ supplement-15 d supplement n e = go (maybe (framesIn supplement) none (λ fs. wh
     go none q = cc
     go (some s) q = absurd (let z : _≡_ {A = ℕ} 0 1 = cc in omega arith)
 
-module _ (store supplement : List ℕ) where
-  abbrev u : Under
-  u = underIn store supplement
+-- what a caller has of two stores that are found
+pub record UnderIs (store supplement : List ℕ) (u : Under) : Type 0 where
+  pub found : u .index ≡ foundIn store .index
+  pub sound : Sound store (u .index)
+  pub domain : domainIn store ≡ got (domainOf store (u .index))
+  pub replacements : List Replacement
+  pub accepted : supplementIn (domainOf store (u .index)) supplement ≡ got replacements
+  pub places : u .over ≡ overOf replacements
+  -- law i in force, by its bytes
+  pub law : (i : ℕ) → i < u .index .counts .laws
+      → lawIn (u .index .counts) (byte (lawBytes store (u .index) i) 0) (payloadOf store (u .index .laws) supplement (u .over) i) ≡ some (lawAt (replaced replacements (domainOf store (u .index))) i)
+  pub short : (i : ℕ) → i < u .index .counts .laws → length (payloadOf store (u .index .laws) supplement (u .over) i) ≤ mostPayload
 
-  -- what a caller has of two stores that are found
-  pub record UnderHere : Type 0 where
-    pub sound : Sound store (u .index)
-    pub domain : domainIn store ≡ got (domainOf store (u .index))
-    pub replacements : List Replacement
-    pub accepted : supplementIn (domainOf store (u .index)) supplement ≡ got replacements
-    pub places : u .over ≡ overOf replacements
-    pub law : (i : ℕ) → i < u .index .counts .laws → lawIn (u .index .counts) (byte (lawBytes store (u .index) i) 0) (payloadOf store (u .index .laws) supplement (u .over) i) ≡ some (lawAt (replaced replacements (domainOf store (u .index))) i)
-    pub short : (i : ℕ) → i < u .index .counts .laws → length (payloadOf store (u .index .laws) supplement (u .over) i) ≤ mostPayload
+module _ (store supplement : List ℕ) where
+  abbrev pub UnderHere : Type 0
+  UnderHere = UnderIs store supplement (underIn store supplement)
+
+  under-from : FoundHere store → (s : List Replacement) → supplementIn (domainOf store (foundIn store .index)) supplement ≡ got s
+      → UnderIs store supplement (record { ok = true; index = foundIn store .index; over = overOf s })
+  under-from f s q =
+      let x = foundIn store .index in
+      let m = supplemented (domainOf store x) supplement s q in
+      let stands : (i : ℕ) → i < x .counts .laws → LawStands store supplement x (domainOf store x) s i = law-stands store supplement x (f .sound) s (m .frames-there) (m .are) (m .all) in
+      record { found = refl; sound = f .sound; domain = f .domain; replacements = s; accepted = q; places = refl; law = λ i h. stands i h .law; short = λ i h. stands i h .short }
+
+  pub under-ok : underIn store supplement .ok ≡ true → UnderHere
+  unfolding underIn
+  under-ok e = go (foundIn store .ok) refl
+    where
+      by : FoundHere store → (a : Answer (List Replacement)) → supplementIn (domainOf store (foundIn store .index)) supplement ≡ a → underOf (foundIn store .index) a ≡ underIn store supplement → UnderHere
+      by f (refused n) q k = absurd (let b : false ≡ true = ap (λ (y : Under). y .ok) k ∙ e in let z : _≡_ {A = ℕ} 0 1 = cc in omega arith)
+      by f (got s) q k = subst (UnderIs store supplement) k (under-from f s q)
+
+      go : (b : Bool) → foundIn store .ok ≡ b → UnderHere
+      go true q =
+          by (found-ok store q) (supplementIn (domainOf store (foundIn store .index)) supplement) refl (under-by store supplement (foundIn store) refl q)
+      go false q = absurd (let b : false ≡ true = ap (λ (y : Under). y .ok) (under-not store supplement (foundIn store) refl q) ∙ e in let z : _≡_ {A = ℕ} 0 1 = cc in omega arith)
+
+  pub under-none : underIn store supplement .ok ≡ false → then (domainIn store) (λ d. supplementIn d supplement) ≡ refused 15
+  unfolding underIn
+  under-none e = go (domainIn store) refl
+    where
+      by : (d : Domain) (a : Answer (List Replacement)) → supplementIn d supplement ≡ a → underOf (foundIn store .index) a .ok ≡ false → a ≡ refused 15
+      by d (got s) q k = absurd (let z : _≡_ {A = ℕ} 0 1 = cc in omega arith)
+      by d (refused n) q k = ap refused (supplement-15 d supplement n q)
+
+      go : (a : Answer Domain) → domainIn store ≡ a → then a (λ d. supplementIn d supplement) ≡ refused 15
+      go (refused n) q = ap refused (refused-15 store n q)
+      go (got d) q = by d (supplementIn d supplement) refl (ap (λ (a : Answer Domain). underOf (foundIn store .index) (then a (λ d. supplementIn d supplement)) .ok) (sym q) ∙ e)

@@ -14,6 +14,8 @@ pub mod FoundLaws
 pub mod Held
 -- For callers of `index_of`: the index is sound, and store and index make the domain.
 pub mod Accepted
+-- Lines into a store, whatever they make.
+pub mod IntoStore
 -- The reader, the writer and the frame reader.
 pub mod ReaderLaws
 pub mod WriterLaws

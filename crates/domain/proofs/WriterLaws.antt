@@ -25,7 +25,7 @@ use Rattle.domain.specs.Found.{foundIn}
 use Rattle.domain.proofs.Stands.{no-more}
 use Rattle.domain.proofs.Held.{cut, Framed}
 use Rattle.domain.proofs.Accepted.{domained, refused-15, found-got, found-not}
-use Rattle.domain.proofs.ReaderLaws.{renewed, lent-length}
+use Rattle.domain.proofs.IntoStore.{lent, renewed, lent-length}
 
 -- ---- acceptance
 
@@ -137,9 +137,6 @@ module _ {s text₀ text : List ℕ} {at used : ℕ} (w : Writes s text₀ text 
       let n : length (linesIn s) ≡ used = ap length l ∙ length-take-le used text (w .inside) in
       (sym n, sym (take-append-drop used text) ∙ ap (λ r. take used text ++ r) (w .kept) ∙ ap (λ r. r ++ drop used text₀) (sym l) ∙ ap (λ (k : ℕ). linesIn s ++ drop k text₀) (sym n))
 
-  abbrev pub lent : List ℕ
-  lent = take (length text - used) (drop used text)
-
   module _ (size : ℕ) (f : Framed s at size) where
     abbrev line : List ℕ
     line = lineFor (cut s at size)
@@ -165,20 +162,20 @@ module _ {s text₀ text : List ℕ} {at used : ℕ} (w : Writes s text₀ text 
           long,
         )
 
-    module _ (p : List ℕ) (e : p ≡ lineWritten (getD s at 0) (take (at + size - (at + 2)) (drop (at + 2) s)) lent .buffer) where
-      put : p ≡ line ++ drop (length line) lent
+    module _ (p : List ℕ) (e : p ≡ lineWritten (getD s at 0) (take (at + size - (at + 2)) (drop (at + 2) s)) (lent text used) .buffer) where
+      put : p ≡ line ++ drop (length line) (lent text used)
       unfolding lineWritten
       put =
           e
           ∙ rw (
             le-leb (length (take (at + size - (at + 2)) (drop (at + 2) s))) 120 (omega (arith, f .is, f .most)),
-            le-leb (length line) (length lent) (omega (arith, long, writes-room, lent-length text used (w .inside))),
+            le-leb (length line) (length (lent text used)) (omega (arith, long, writes-room, lent-length text used (w .inside))),
           )
 
       pub writes-renewed : renewed text used p ≡ (take used text ++ line) ++ drop (used + (2 * size + 1)) text
       writes-renewed =
           let none-left : drop (length text - used) (drop used text) ≡ [] = drop-of-length-le (drop used text) {i = length text - used} (omega (arith, length-drop used text)) in
-          let part : drop (length line) lent ≡ drop (used + (2 * size + 1)) text
+          let part : drop (length line) (lent text used) ≡ drop (used + (2 * size + 1)) text
           = ap (drop (length line)) (part-to-end text used) ∙ drop-drop (length line) used text ∙ ap (λ k. drop (used + k) text) long in
           ap (λ r. take used text ++ (p ++ r)) none-left
           ∙ ap (λ r. take used text ++ r) (append-nil p ∙ put ∙ ap (λ r. line ++ r) part)

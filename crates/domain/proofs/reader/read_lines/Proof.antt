@@ -1,5 +1,6 @@
 -- `domain::reader::read_lines` meets its contract: after each line the code holds what those lines make. Assumes nothing.
-use Rattle.domain.proofs.ReaderLaws.{renewed, out, Reads, Sizes, reads-first, reads-few, reads-used, reads-lines, reads-done, reads-missing, reads-bad, reads-sizes, reads-refused, reads-room, reads-entry, reads-next}
+use Rattle.domain.proofs.ReaderLaws.{Reads, reads-first, reads-few, reads-used, reads-lines, reads-done, reads-missing, reads-bad, reads-sizes, reads-refused, reads-room, reads-entry, reads-next}
+use Rattle.domain.proofs.IntoStore.{lent, renewed, Sizes}
 use Rattle.domain.proofs.Held.{cut}
 use Rattle.domain.specs.Found.{counted}
 use Rattle.bmap.specs.Accept.{checked}
@@ -36,7 +37,7 @@ again c =
 -- in the arm of a frame
 line-is : (c : tie.After-bytes Inv-loop μ-loop)
     → some (got (record { bytes = c .bytes .given .0 .0; characters = c .bytes .given .0 .1 .0 }))
-    ≡ lineRead (c .before .before .before .before .before .before .loop .rest .now) (out (c .before .before .before .before .before .before .loop .inv .1))
+    ≡ lineRead (c .before .before .before .before .before .before .loop .rest .now) (lent (c .before .before .before .before .before .before .loop .store) (c .before .before .before .before .before .before .loop .used))
 line-is c = sym (ap said (c .bytes .given .1)) ∙ c .before .before .before .before .read-line .ensures .0
 
 sizes : (c : tie.After-bytes Inv-loop μ-loop) → Sizes (c .before .before .before .before .before .before .loop .rest .now) (c .bytes .given .0 .0) (c .bytes .given .0 .1 .0)

@@ -11,13 +11,13 @@ use lib.ListN.{length, getD, take, drop, replicate, length-append, length-replic
 use lib.Seq.{take-append-seam, drop-append-seam, drop-append-add, getD-append-seam, getD-append-add, drop-cons, drop-drop}
 use borrow.Author.Tests.{leb-true, leb-false, le-leb, ne-eqb}
 use Rattle.bmap.specs.Plain.{if-else, maybe, flat}
-use Rattle.bmap.specs.Refusal.{Answer, got, refused, then, Reading, read, refusedAt, atLine, afterwards}
+use Rattle.bmap.specs.Refusal.{Answer, got, refused, known, then, Reading, read, refusedAt, atLine, afterwards}
 use Rattle.bmap.specs.Line.{Frame, Line, stored, linesOf, decode, lineFor}
 use Rattle.bmap.specs.Domain.{Domain}
 use Rattle.bmap.specs.Payload.{Item}
 use Rattle.bmap.specs.Accept.{Partial, nothing, countsOf, accept, takenFrom, taken, checked}
 use Rattle.bmap.specs.Buffer.{padded, over, Filled, fill, Written, written}
-use Rattle.bmap.specs.Store.{framesOf, storedOf, reading, standsAt, frameAt, zeros, framesFrom, framesIn, domainIn, textOf, readDomain, writeDomain}
+use Rattle.bmap.specs.Store.{framesOf, storedOf, reading, standsAt, frameAt, zeros, framesFrom, framesIn, whatWasRead, domainIn, textOf, readDomain, writeDomain}
 use Rattle.bmap.proofs.PlainLaws.{both-false}
 use Rattle.line.proofs.Lists.{zeros-replicate, zeros-are}
 use Rattle.line.proofs.Lists.{Bytes, bytes-take, bytes-drop}
@@ -41,37 +41,27 @@ pub data Fines : List Frame → Type 0 where
 
 -- ---- the frames of a text that is read
 
--- a kind that is taken is none of the unknown
-taken-kind : (p : Partial) (f : Frame) (q : Partial) → accept p f ≡ got q → f .kind ≡ 0 → ⊥
-taken-kind p f q e z = go (checked (p .latest) (countsOf (p .domain)) (p .domain .entries) f) refl (sym (accept-is p f) ∙ e)
-  where
-    by : {i : Item} → Case (countsOf (p .domain)) (f .kind) (f .payload) i → ⊥
-    by (is-agents k lo hi x) = omega arith
-    by (is-fluent k x) = omega arith
-    by (is-knowledge k x) = omega arith
-    by (is-entry k x) = omega arith
-    by (is-law k l w x) = omega arith
-
-    go : (a : Answer Item) → checked (p .latest) (countsOf (p .domain)) (p .domain .entries) f ≡ a → then a (λ i. got (with p f i)) ≡ got q → ⊥
-    go (refused n) c t = let y : _≡_ {A = ℕ} 0 1 = cc in omega arith
-    go (got i) c t = by (passed (p .latest) (countsOf (p .domain)) (p .domain .entries) f (sym (ap refusedIn c)) .case)
-
 -- every line is a frame's
 kinds : List Frame → Type 0
 kinds [] = Unit {0}
 kinds (f ∷ fs) = (f .kind ≡ 0 → ⊥) × kinds fs
 
-all-got : (lines : ℕ) (p : Partial) (l : List (Answer Frame)) (d : Domain) → takenFrom lines p l ≡ read d → (fs : List Frame) × ((l ≡ map got fs) × kinds fs)
-unfolding takenFrom kinds
-all-got lines p [] d e = ([], (refl, tt))
-all-got lines p (refused n ∷ l) d e = absurd (let z : _≡_ {A = ℕ} 0 1 = cc in omega arith)
-all-got lines p (got f ∷ l) d e = go (accept p f) refl e (λ q t. all-got (suc lines) q l d t)
-  where
-    go : (a : Answer Partial) → accept p f ≡ a → atLine (suc lines) a (λ q. takenFrom (suc lines) q l) ≡ read d
-        → ((q : Partial) → takenFrom (suc lines) q l ≡ read d → (fs : List Frame) × ((l ≡ map got fs) × kinds fs))
-        → (fs : List Frame) × ((got f ∷ l ≡ map got fs) × kinds fs)
-    go (refused n) a t rec = absurd (let z : _≡_ {A = ℕ} 0 1 = cc in omega arith)
-    go (got q) a t rec = let r = rec q t in (f ∷ r .0, (ap (λ k. got f ∷ k) (r .1 .0), (taken-kind p f q a, r .1 .1)))
+-- of a reading that goes well: its first line is a frame's, and it goes on
+pub record First {S : Type 0} (Goes : S → List (Answer Frame) → Type 0) (a : Answer Frame) (l : List (Answer Frame)) : Type 0 where
+  pub frame : Frame
+  pub is : a ≡ got frame
+  pub some-kind : frame .kind ≡ 0 → ⊥
+  pub next : S
+  pub goes-on : Goes next l
+
+all-got : {S : Type 0} (Goes : S → List (Answer Frame) → Type 0) → ((s : S) (a : Answer Frame) (l : List (Answer Frame)) → Goes s (a ∷ l) → First Goes a l)
+    → (s : S) (l : List (Answer Frame)) → Goes s l → (fs : List Frame) × ((l ≡ map got fs) × kinds fs)
+unfolding kinds
+all-got Goes first s [] g = ([], (refl, tt))
+all-got Goes first s (a ∷ l) g =
+    let f = first s a l g in
+    let r = all-got Goes first (f .next) l (f .goes-on) in
+    (f .frame ∷ r .0, (ap (λ x. x ∷ l) (f .is) ∙ ap (λ k. got (f .frame) ∷ k) (r .1 .0), (f .some-kind, r .1 .1)))
 
 -- a text whose lines are frames' is their lines
 text-back : (fs : List Frame) (text : List ℕ) → framesOf text ≡ map got fs → kinds fs → (text ≡ flat (map lineFor fs)) × Fines fs
@@ -157,66 +147,108 @@ stored-got : (fs : List Frame) → map storedOf (map got fs) ≡ map stored fs
 stored-got [] = refl
 stored-got (f ∷ fs) = ap (λ l. stored f ∷ l) (stored-got fs)
 
+frames-bytes : (text : List ℕ) (fs : List Frame) → framesOf text ≡ map got fs → bytesIn text ≡ flat (map stored fs)
+unfolding bytesIn
+frames-bytes text fs e = ap (λ l. flat (map storedOf l)) e ∙ ap flat (stored-got fs)
+
+-- a text that is read is the lines of its frames
+pub record TextFrames (text : List ℕ) : Type 0 where
+  pub frames : List Frame
+  pub are : framesOf text ≡ map got frames
+  pub fine : Fines frames
+  pub lines : text ≡ flat (map lineFor frames)
+  pub bytes : bytesIn text ≡ flat (map stored frames)
+
+pub text-frames : {S : Type 0} (Goes : S → List (Answer Frame) → Type 0) → ((s : S) (a : Answer Frame) (l : List (Answer Frame)) → Goes s (a ∷ l) → First Goes a l)
+    → (s : S) (text : List ℕ) → Goes s (framesOf text) → TextFrames text
+text-frames Goes first s text g =
+    let a = all-got Goes first s (framesOf text) g in
+    let t = text-back (a .0) text (a .1 .0) (a .1 .1) in
+    record { frames = a .0; are = a .1 .0; fine = t .1; lines = t .0; bytes = frames-bytes text (a .0) (a .1 .0) }
+
+-- the store that they fill has their lines
+pub text-again : (text : List ℕ) (t : TextFrames text) (size : ℕ) → textOf (padded size (bytesIn text)) ≡ text
+text-again text t size =
+    ap (λ l. textOf (padded size l)) (t .bytes)
+    ∙ ap (λ o. maybe o [] (λ fs. flat (map lineFor fs))) (frames-back (t .frames) (size - length (flat (map stored (t .frames)))) (t .fine))
+    ∙ sym (t .lines)
+
+pub frames-again : (text : List ℕ) (t : TextFrames text) (size : ℕ) → framesIn (padded size (bytesIn text)) ≡ some (t .frames)
+frames-again text t size = ap (λ l. framesIn (padded size l)) (t .bytes) ∙ frames-back (t .frames) (size - length (flat (map stored (t .frames)))) (t .fine)
+
 -- ---- ACCEPTED LINES, READ AND WRITTEN AGAIN, ARE THE SAME LINES
+
+-- a kind that is taken is none of the unknown
+taken-kind : (p : Partial) (f : Frame) (q : Partial) → accept p f ≡ got q → f .kind ≡ 0 → ⊥
+taken-kind p f q e z = go (checked (p .latest) (countsOf (p .domain)) (p .domain .entries) f) refl (sym (accept-is p f) ∙ e)
+  where
+    by : {i : Item} → Case (countsOf (p .domain)) (f .kind) (f .payload) i → ⊥
+    by (is-agents k lo hi x) = omega arith
+    by (is-fluent k x) = omega arith
+    by (is-knowledge k x) = omega arith
+    by (is-entry k x) = omega arith
+    by (is-law k l w x) = omega arith
+
+    go : (a : Answer Item) → checked (p .latest) (countsOf (p .domain)) (p .domain .entries) f ≡ a → then a (λ i. got (with p f i)) ≡ got q → ⊥
+    go (refused n) c t = let y : _≡_ {A = ℕ} 0 1 = cc in omega arith
+    go (got i) c t = by (passed (p .latest) (countsOf (p .domain)) (p .domain .entries) f (sym (ap refusedIn c)) .case)
+
+taken-first : (d : Domain) (s : ℕ × Partial) (a : Answer Frame) (l : List (Answer Frame)) → takenFrom (s .0) (s .1) (a ∷ l) ≡ read d
+    → First (λ (q : ℕ × Partial) l. takenFrom (q .0) (q .1) l ≡ read d) a l
+unfolding takenFrom
+taken-first d s (refused n) l e = absurd (let z : _≡_ {A = ℕ} 0 1 = cc in omega arith)
+taken-first d s (got f) l e = go (accept (s .1) f) refl e
+  where
+    go : (a : Answer Partial) → accept (s .1) f ≡ a → atLine (suc (s .0)) a (λ q. takenFrom (suc (s .0)) q l) ≡ read d
+        → First (λ (q : ℕ × Partial) l. takenFrom (q .0) (q .1) l ≡ read d) (got f) l
+    go (refused n) a t = absurd (let z : _≡_ {A = ℕ} 0 1 = cc in omega arith)
+    go (got q) a t = record { frame = f; is = refl; some-kind = taken-kind (s .1) f q a; next = (suc (s .0), q); goes-on = t }
 
 -- what was read
 record Got (text store : List ℕ) (n : ℕ) : Type 0 where
   domain : Domain
-  frames : List Frame
-  are : framesOf text ≡ map got frames
-  fine : Fines frames
-  lines : text ≡ flat (map lineFor frames)
-  reads : taken (map got frames) ≡ read domain
-  left : readDomain text store .buffer ≡ flat (map stored frames) ++ replicate (length store - length (flat (map stored frames))) 0
+  frames : TextFrames text
+  reads : reading text ≡ read domain
+  left : readDomain text store .buffer ≡ padded (length store) (bytesIn text)
 
 was-got : (text store : List ℕ) (n : ℕ) → readDomain text store .answer ≡ read n → Got text store n
-unfolding bytesIn
 was-got text store n e = room (leb 36_000 (length store)) refl
   where
     by : (r : Reading Domain) → reading text ≡ r → 36_000 ≤ length store → Got text store n
     by (refusedAt m l) r h = absurd (let k = ap (λ (x : Filled). x .answer) (read-in-room text store h) in let q = ap (λ (x : Reading Domain). fill (length store) (afterwards x (λ d. read (record { count = length (bytesIn text); bytes = bytesIn text }))) .answer) r in let z : _≡_ {A = ℕ} 0 1 = cc in omega arith)
     by (read d) r h =
-        let a = all-got 0 nothing (framesOf text) d r in
-        let fs = a .0 in
-        let t = text-back fs text (a .1 .0) (a .1 .1) in
-        let b : bytesIn text ≡ flat (map stored fs) = ap (λ l. flat (map storedOf l)) (a .1 .0) ∙ ap flat (stored-got fs) in
-        let k : readDomain text store .buffer ≡ padded (length store) (bytesIn text)
-        = ap (λ (x : Filled). x .buffer) (read-in-room text store h)
-        ∙ ap (λ (x : Reading Domain). fill (length store) (afterwards x (λ d. read (record { count = length (bytesIn text); bytes = bytesIn text }))) .buffer) r in
         record {
           domain = d;
-          frames = fs;
-          are = a .1 .0;
-          fine = t .1;
-          lines = t .0;
-          reads = ap taken (sym (a .1 .0)) ∙ r;
-          left = k ∙ ap (padded (length store)) b;
+          frames = text-frames (λ (q : ℕ × Partial) l. takenFrom (q .0) (q .1) l ≡ read d) (taken-first d) (0, nothing) text r;
+          reads = r;
+          left =
+              ap (λ (x : Filled). x .buffer) (read-in-room text store h)
+              ∙ ap (λ (x : Reading Domain). fill (length store) (afterwards x (λ d. read (record { count = length (bytesIn text); bytes = bytesIn text }))) .buffer) r;
         }
 
     room : (b : Bool) → leb 36_000 (length store) ≡ b → Got text store n
     room true q = by (reading text) refl (leb-true 36_000 (length store) q)
     room false q = absurd (let k = read-short text store (leb-false 36_000 (length store) q) .0 in let z : _≡_ {A = ℕ} 0 1 = cc in omega arith)
 
--- a store that holds frames, zeros after, is their domain
-filled-domain : (fs : List Frame) (k : ℕ) (d : Domain) → Fines fs → taken (map got fs) ≡ read d → domainIn (flat (map stored fs) ++ replicate k 0) ≡ got d
+-- the store that the reader leaves is the domain that it read
+left-domain : (text store : List ℕ) (n : ℕ) (g : Got text store n) → domainIn (readDomain text store .buffer) ≡ got (g .domain)
 unfolding domainIn
-filled-domain fs k d g r = rw (frames-back fs k g, r)
+left-domain text store n g = rw (g .left, frames-again text (g .frames) (length store)) (ap (λ (r : Reading Domain). known 15 (whatWasRead r)) (ap taken (sym (g .frames .are)) ∙ g .reads))
 
-filled-text : (fs : List Frame) (k : ℕ) → Fines fs → textOf (flat (map stored fs) ++ replicate k 0) ≡ flat (map lineFor fs)
-filled-text fs k g = ap (λ o. maybe o [] (λ fs. flat (map lineFor fs))) (frames-back fs k g)
+pub written-again : (s out : List ℕ) (d : Domain) → domainIn s ≡ got d → length (textOf s) ≤ length out
+    → writeDomain s out ≡ record { answer = got (length (textOf s)); buffer = over (textOf s) out }
+unfolding writeDomain
+written-again s out d e h =
+    ap (λ a. written out (then a (λ d. got (textOf s)))) e
+    ∙ ap (λ b. if-else b (record { answer = got (length (textOf s)); buffer = over (textOf s) out }) (record { answer = refused 10; buffer = out })) (le-leb (length (textOf s)) (length out) h)
 
 pub lines-again : (text store out : List ℕ) (n : ℕ) → readDomain text store .answer ≡ read n → length text ≤ length out
     → writeDomain (readDomain text store .buffer) out ≡ record { answer = got (length text); buffer = over text out }
-unfolding writeDomain
 lines-again text store out n e h =
     let g = was-got text store n e in
-    let k = length store - length (flat (map stored (g .frames))) in
-    let s = flat (map stored (g .frames)) ++ replicate k 0 in
-    let t : textOf s ≡ text = filled-text (g .frames) k (g .fine) ∙ sym (g .lines) in
-    ap (λ l. writeDomain l out) (g .left)
-    ∙ ap (λ a. written out (then a (λ d. got (textOf s)))) (filled-domain (g .frames) k (g .domain) (g .fine) (g .reads))
-    ∙ ap (λ l. written out (got l)) t
-    ∙ ap (λ b. if-else b (record { answer = got (length text); buffer = over text out }) (record { answer = refused 10; buffer = out })) (le-leb (length text) (length out) h)
+    let t : textOf (readDomain text store .buffer) ≡ text = ap textOf (g .left) ∙ text-again text (g .frames) (length store) in
+    written-again (readDomain text store .buffer) out (g .domain) (left-domain text store n g) (omega (arith, h, ap length t))
+    ∙ ap (λ l. record { answer = got (length l); buffer = over l out }) t
 
 -- ---- AN ACCEPTED STORE, WRITTEN AND READ AGAIN, IS THE SAME BYTES, ZEROS AFTER
 
@@ -299,21 +331,12 @@ lines-back (f ∷ fs) (and-spelt g gs) =
     ∙ ap (λ a. a ∷ framesOf (flat (map lineFor fs))) (decode-line f (g .kind) (g .payload) (g .most))
     ∙ ap (λ l. got f ∷ l) (lines-back fs gs)
 
-pub written-again : (s out : List ℕ) (d : Domain) → domainIn s ≡ got d → length (textOf s) ≤ length out
-    → writeDomain s out ≡ record { answer = got (length (textOf s)); buffer = over (textOf s) out }
-unfolding writeDomain
-written-again s out d e h =
-    ap (λ a. written out (then a (λ d. got (textOf s)))) e
-    ∙ ap (λ b. if-else b (record { answer = got (length (textOf s)); buffer = over (textOf s) out }) (record { answer = refused 10; buffer = out })) (le-leb (length (textOf s)) (length out) h)
-
 read-again : (text buffer : List ℕ) (fs : List Frame) (d : Domain) → framesOf text ≡ map got fs → taken (map got fs) ≡ read d → 36_000 ≤ length buffer
     → readDomain text buffer ≡ record { answer = read (length (flat (map stored fs))); buffer = padded (length buffer) (flat (map stored fs)) }
-unfolding bytesIn
 read-again text buffer fs d e k r =
-    let b : bytesIn text ≡ flat (map stored fs) = ap (λ l. flat (map storedOf l)) e ∙ ap flat (stored-got fs) in
     read-in-room text buffer r
     ∙ ap (λ (x : Reading Domain). fill (length buffer) (afterwards x (λ d. read (record { count = length (bytesIn text); bytes = bytesIn text })))) (ap taken e ∙ k)
-    ∙ ap (λ l. record { answer = read (length l); buffer = padded (length buffer) l }) b
+    ∙ ap (λ l. record { answer = read (length l); buffer = padded (length buffer) l }) (frames-bytes text fs e)
 
 -- the bytes used, and what the two calls leave
 pub record Again (s out buffer : List ℕ) : Type 0 where
@@ -356,10 +379,4 @@ pub record Kept (text store : List ℕ) : Type 0 where
   pub holds : domainIn (readDomain text store .buffer) ≡ got domain
 
 pub kept : (text store : List ℕ) (n : ℕ) → readDomain text store .answer ≡ read n → Kept text store
-kept text store n e =
-    let g = was-got text store n e in
-    record {
-      domain = g .domain;
-      reads = ap taken (g .are) ∙ g .reads;
-      holds = ap domainIn (g .left) ∙ filled-domain (g .frames) (length store - length (flat (map stored (g .frames)))) (g .domain) (g .fine) (g .reads);
-    }
+kept text store n e = let g = was-got text store n e in record { domain = g .domain; reads = g .reads; holds = left-domain text store n g }

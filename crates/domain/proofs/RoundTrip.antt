@@ -21,6 +21,7 @@ use Rattle.bmap.specs.Store.{framesOf, storedOf, reading, standsAt, frameAt, ze
 use Rattle.bmap.proofs.PlainLaws.{both-false}
 use Rattle.line.proofs.Lists.{zeros-replicate, zeros-are}
 use Rattle.line.proofs.Lists.{Bytes, bytes-take, bytes-drop}
+use Rattle.line.proofs.Answers.{then-got-inv, at-line-read}
 use Rattle.line.proofs.LineLaws.{lines-first, decodes, decode-line, lines-line, text-line}
 use Rattle.domain.specs.Check.{refusedIn}
 use Rattle.domain.specs.Read.{bytesIn}
@@ -196,13 +197,10 @@ taken-kind p f q e z = go (checked (p .latest) (countsOf (p .domain)) (p .domain
 taken-first : (d : Domain) (s : ℕ × Partial) (a : Answer Frame) (l : List (Answer Frame)) → takenFrom (s .0) (s .1) (a ∷ l) ≡ read d
     → First (λ (q : ℕ × Partial) l. takenFrom (q .0) (q .1) l ≡ read d) a l
 unfolding takenFrom
-taken-first d s (refused n) l e = absurd (let z : _≡_ {A = ℕ} 0 1 = cc in omega arith)
-taken-first d s (got f) l e = go (accept (s .1) f) refl e
-  where
-    go : (a : Answer Partial) → accept (s .1) f ≡ a → atLine (suc (s .0)) a (λ q. takenFrom (suc (s .0)) q l) ≡ read d
-        → First (λ (q : ℕ × Partial) l. takenFrom (q .0) (q .1) l ≡ read d) (got f) l
-    go (refused n) a t = absurd (let z : _≡_ {A = ℕ} 0 1 = cc in omega arith)
-    go (got q) a t = record { frame = f; is = refl; some-kind = taken-kind (s .1) f q a; next = (suc (s .0), q); goes-on = t }
+taken-first d s a l e =
+    let (q, y, t) = at-line-read (suc (s .0)) (then a (accept (s .1))) (λ q. takenFrom (suc (s .0)) q l) d e in
+    let (f, is, g) = then-got-inv a (accept (s .1)) q y in
+    record { frame = f; is = is; some-kind = taken-kind (s .1) f q g; next = (suc (s .0), q); goes-on = t }
 
 -- what was read
 record Got (text store : List ℕ) (n : ℕ) : Type 0 where

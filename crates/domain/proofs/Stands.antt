@@ -294,12 +294,12 @@ pub accept-is : (p : Partial) (f : Frame) → accept p f ≡ then (checked (p .l
 unfolding accept
 accept-is p f = refl
 
+pub refusal-is : {A : Type 0} (a : Answer A) (m : ℕ) → some m ≡ refusedIn a → a ≡ refused m
+refusal-is (got i) m e = absurd (let y : _≡_ {A = ℕ} 0 1 = cc in omega arith)
+refusal-is (refused k) m e = let y : k ≡ m = cc in ap refused y
+
 pub accept-refused : (p : Partial) (f : Frame) (m : ℕ) → some m ≡ refusedIn (checked (p .latest) (countsOf (p .domain)) (p .domain .entries) f) → accept p f ≡ refused m
-accept-refused p f m e = accept-is p f ∙ go (checked (p .latest) (countsOf (p .domain)) (p .domain .entries) f) e
-  where
-    go : (a : Answer Item) → some m ≡ refusedIn a → then a (λ i. got (with p f i)) ≡ refused m
-    go (got i) z = absurd (let y : _≡_ {A = ℕ} 0 1 = cc in omega arith)
-    go (refused k) z = let y : k ≡ m = cc in ap refused y
+accept-refused p f m e = accept-is p f ∙ ap (λ a. then a (λ i. got (with p f i))) (refusal-is (checked (p .latest) (countsOf (p .domain)) (p .domain .entries) f) m e)
 
 pub accept-passed : (p : Partial) (f : Frame) (v : Passed (p .latest) (countsOf (p .domain)) (p .domain .entries) f) → accept p f ≡ got (with p f (v .item))
 accept-passed p f v = accept-is p f ∙ ap (λ a. then a (λ i. got (with p f i))) (v .checks)

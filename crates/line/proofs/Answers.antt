@@ -3,7 +3,7 @@ use Prim.Native.Nat.{ℕ}
 use native.Mathlib.Omega.{arith}
 use mathlib.Core.Path.{_≡_, refl, ap}
 use mathlib.Core.Bool.{Bool, true, false}
-use Rattle.bmap.specs.Refusal.{Answer, got, refused, need, then}
+use Rattle.bmap.specs.Refusal.{Answer, got, refused, need, then, Reading, read, atLine}
 
 module _ {A B C : Type 0} where
   pub then-then : (y : Answer A) (f : A → B) (g : B → Answer C) → then (then y (λ a. got (f a))) g ≡ then y (λ a. g (f a))
@@ -29,3 +29,7 @@ then-got-inv (refused n) f b e = absurd (let z : _≡_ {A = ℕ} 0 1 = cc in ome
 pub then-refused : {A B : Type 0} (y : Answer A) (f : A → B) (n : ℕ) → then y (λ x. got (f x)) ≡ refused n → y ≡ refused n
 then-refused (got x) f n q = absurd (let z : _≡_ {A = ℕ} 0 1 = cc in omega arith)
 then-refused (refused m) f n q = let z : m ≡ n = cc in ap refused z
+
+pub at-line-read : {A B : Type 0} (n : ℕ) (y : Answer A) (k : A → Reading B) (x : B) → atLine n y k ≡ read x → (a : A) × (y ≡ got a) × (k a ≡ read x)
+at-line-read n (got a) k x e = (a, refl, e)
+at-line-read n (refused m) k x e = absurd (let z : _≡_ {A = ℕ} 0 1 = cc in omega arith)

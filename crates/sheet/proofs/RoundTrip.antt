@@ -19,7 +19,7 @@ use Rattle.bmap.specs.Buffer.{Filled, Written, over, padded, written}
 use Rattle.bmap.specs.Sheet.{stepOf, stepsFrom, stepsIn, readSheet, rows, sheetOf, stepLine, writeSheet}
 use Rattle.bmap.specs.Theorems.{SheetLinesReturn, SheetReturns}
 use Rattle.line.proofs.Lists.{Bytes, bytes-are, bytes-take, bytes-drop}
-use Rattle.line.proofs.Answers.{need-got, then-got-inv}
+use Rattle.line.proofs.Answers.{need-got, then-got-inv, at-line-read}
 use Rattle.line.proofs.Lines.{no-lines}
 use Rattle.line.proofs.HexLaws.{decode-line, lines-line, text-line}
 use Rattle.sheet.specs.Step.{agentsAllowed, outcome, linesIn}
@@ -72,10 +72,6 @@ pub record There (agents : ℕ) (text : List ℕ) (done steps : List Names) : Ty
   pub rows : Rows agents later
   pub text-is : text ≡ flat (map stepLine later)
   pub few : length done ≤ mostSteps → length steps ≤ mostSteps
-
-at-line-read : {A B : Type 0} (n : ℕ) (y : Answer A) (k : A → Reading B) (x : B) → atLine n y k ≡ read x → (a : A) × (y ≡ got a) × (k a ≡ read x)
-at-line-read n (got a) k x e = (a, refl, e)
-at-line-read n (refused m) k x e = absurd (let z : _≡_ {A = ℕ} 0 1 = cc in omega arith)
 
 -- what a step says of its frame
 step-is : (agents steps : ℕ) (f : Frame) (names : Names) → stepOf agents steps f ≡ got names

@@ -8,3 +8,9 @@ pub mod UnderLaws
 -- The law in force.
 pub mod ForceLaws
 pub mod Accepted
+-- The reader.
+pub mod ReaderLaws
+-- THERE AND BACK: lines to a store, and its frames to lines.
+pub mod RoundTrip
+-- What document 02 asks for.
+pub mod Theorems

@@ -1,0 +1,160 @@
+-- The reader, line by line. Assumes nothing.
+use Prim.Native.Nat.{ℕ, suc, _+_, _-_, _≤_, _<_}
+use native.Mathlib.Numerals.{add-one}
+use native.Mathlib.Omega.{arith}
+use mathlib.Core.Path.{_≡_, refl, sym, ap, subst, _∙_}
+use mathlib.Core.Bool.{false}
+use mathlib.Core.List.{List, [], _∷_, _++_}
+use mathlib.Core.Option.{none, some}
+use lib.ListN.{length, set, take, drop, replicate}
+use borrow.Author.Tests.{le-leb, lt-leb}
+use Rattle.bmap.specs.Plain.{any}
+use Rattle.bmap.specs.Refusal.{got, refused, read, refusedAt, atLine, afterwards}
+use Rattle.bmap.specs.Line.{Frame, stored}
+use Rattle.bmap.specs.Domain.{Domain}
+use Rattle.bmap.specs.Buffer.{padded, Filled}
+use Rattle.bmap.specs.Store.{framesOf, domainIn}
+use Rattle.bmap.specs.Supplement.{Replacement, replaces, numberIn, replacementIn, supplementFrom, readSupplement}
+use Rattle.bmap.specs.declared.refusal.Refusal.{Refusal}
+use Rattle.line.specs.Read.{lineRead, bytesRead}
+use Rattle.line.proofs.Lists.{part-to-end}
+use Rattle.domain.specs.Check.{refusedIn}
+use Rattle.domain.specs.Read.{readingOf, bytesIn, Front}
+use Rattle.domain.specs.declared.reader.ReadStore.{ReadStore}
+use Rattle.domain.specs.declared.reader.ReadStore.the-variants.{Read, Refused}
+use Rattle.domain.proofs.Rows.{length-snoc}
+use Rattle.domain.proofs.Held.{cut}
+use Rattle.domain.proofs.Stands.{refusal-is}
+use Rattle.domain.proofs.IntoStore.{lent, renewed, Sizes, Decoded, none-left, all-used, all-stand, bad-line, line-sizes, frames-on, frame-size, bytes-on, Fills, fill-ends, fill-stops}
+use Rattle.supplement.specs.Read.{usedUnder}
+use Rattle.supplement.proofs.OverLaws.{gives, Over, over-first, over-most, over-next, Passes, passes}
+
+-- ---- the lines so far
+
+pub record Reads (d : Domain) (text buffer rest over : List ℕ) (used lines : ℕ) : Type 0 where
+  pub so-far : List Replacement
+  pub stand : Over so-far over used
+  pub each : lines ≡ length so-far
+  pub enough : 16_000 ≤ length buffer
+  pub run : supplementFrom d [] (framesOf text) ≡ supplementFrom d so-far (framesOf rest)
+  pub bytes : bytesIn text ≡ take used buffer ++ bytesIn rest
+
+pub reads-first : (d : Domain) (text buffer : List ℕ) → 16_000 ≤ length buffer → Reads d text buffer text (replicate 128 0) 0 0
+reads-first d text buffer h = record { so-far = []; stand = over-first; each = refl; enough = h; run = refl; bytes = refl }
+
+module _ {d : Domain} {text buffer rest over : List ℕ} {used lines : ℕ} (h : Reads d text buffer rest over used lines) where
+  pub reads-used : used ≤ 15_616
+  reads-used = over-most (h .stand)
+
+  pub reads-lines : lines ≤ 128
+  reads-lines = omega (arith, h .each, h .stand .few)
+
+  so-read : Decoded text buffer rest used
+  so-read = record { room = omega (arith, reads-used, h .enough); bytes = h .bytes }
+
+  -- no line is left
+  pub reads-done : none ≡ lineRead rest (lent buffer used) → (p : List ℕ) → (read used ≡ usedUnder d text) × (take used (renewed buffer used p) ≡ bytesIn text)
+  unfolding usedUnder supplementFrom
+  reads-done e p = (
+    sym (ap (λ r. afterwards r (λ s. read (length (bytesIn text)))) (h .run ∙ ap (supplementFrom d (h .so-far)) (none-left so-read e)) ∙ ap read (all-used so-read e)),
+    all-stand so-read e p,
+  )
+
+  -- a line that is refused
+  at-next : (m : ℕ) → supplementFrom d [] (framesOf text) ≡ refusedAt m (suc (length (h .so-far))) → (refusedAt m (lines + 1) ≡ usedUnder d text) × Unit {0}
+  unfolding usedUnder
+  at-next m e = (
+    ap (refusedAt m) (add-one lines ∙ ap suc (h .each)) ∙ sym (ap (λ r. afterwards r (λ s. read (length (bytesIn text)))) e),
+    tt,
+  )
+
+  pub reads-bad : (m : ℕ) → some (refused m) ≡ lineRead rest (lent buffer used) → (refusedAt m (lines + 1) ≡ usedUnder d text) × Unit {0}
+  unfolding supplementFrom
+  reads-bad m e = at-next m (h .run ∙ ap (supplementFrom d (h .so-far)) (bad-line so-read m e .1))
+
+  -- a line that is a frame's
+  module _ (size k : ℕ) (p : List ℕ) (e : some (got (record { bytes = size; characters = k })) ≡ lineRead rest (lent buffer used)) (b : p ≡ bytesRead rest (lent buffer used)) where
+    abbrev frame : Frame
+    frame = cut (renewed buffer used p) used size
+
+    pub reads-sizes : Sizes rest size k
+    reads-sizes = line-sizes so-read size k p e b
+
+    run-on : supplementFrom d [] (framesOf text)
+        ≡ atLine (suc (length (h .so-far))) (replacementIn d (h .so-far) frame) (λ r. supplementFrom d (h .so-far ++ (r ∷ [])) (framesOf (drop k rest)))
+    unfolding supplementFrom
+    run-on = h .run ∙ ap (supplementFrom d (h .so-far)) (frames-on so-read size k p e b)
+
+    pub reads-refused : (m : ℕ) → some m ≡ refusedIn (replacementIn d (h .so-far) frame) → (refusedAt m (lines + 1) ≡ usedUnder d text) × Unit {0}
+    reads-refused m q =
+        at-next m
+        (run-on
+        ∙ ap (λ a. atLine (suc (length (h .so-far))) a (λ r. supplementFrom d (h .so-far ++ (r ∷ [])) (framesOf (drop k rest)))) (refusal-is (replacementIn d (h .so-far) frame) m q))
+
+    module _ (q : none ≡ refusedIn (replacementIn d (h .so-far) frame)) where
+      pass : Passes d (h .so-far) frame
+      pass = passes d (h .so-far) frame q
+
+      pub reads-long : 3 ≤ length (frame .payload)
+      reads-long = pass .long
+
+      pub reads-number : numberIn frame < length (d .laws)
+      reads-number = pass .number
+
+      -- one replacement more
+      more : length (d .laws) ≤ 128 → Over (h .so-far ++ (pass .replacement ∷ [])) (set over (numberIn frame) (used + 1)) (used + size)
+      more few =
+          let here = frame-size so-read size k p e b in
+          let f : replaces (pass .replacement) ≡ numberIn frame = ap numberIn (pass .frame) in
+          let o = over-next (h .stand) (pass .replacement) (ap (λ (n : ℕ). any (gives n) (h .so-far)) f ∙ pass .new) (omega (arith, f, pass .number))
+          (omega (arith, here, reads-sizes .most, ap (λ (x : Frame). length (x .payload)) (pass .frame))) in
+          subst (λ (n : ℕ). Over (h .so-far ++ (pass .replacement ∷ [])) (set over n (used + 1)) (used + size)) f
+          (subst (λ (n : ℕ). Over (h .so-far ++ (pass .replacement ∷ [])) (set over (replaces (pass .replacement)) (used + 1)) (used + n))
+          (ap (λ (x : Frame). length (stored x)) (pass .frame) ∙ here) o)
+
+      pub reads-next : length (d .laws) ≤ 128 → length (renewed buffer used p) ≡ length buffer
+          → Reads d text (renewed buffer used p) (lent rest k) (set over (numberIn frame) (used + 1)) (used + size) (lines + 1)
+      reads-next few same = record {
+        so-far = h .so-far ++ (pass .replacement ∷ []);
+        stand = more few;
+        each = omega (arith, h .each, length-snoc (h .so-far) (pass .replacement));
+        enough = omega (arith, h .enough, same);
+        run =
+            run-on
+            ∙ ap (λ a. atLine (suc (length (h .so-far))) a (λ r. supplementFrom d (h .so-far ++ (r ∷ [])) (framesOf (drop k rest)))) (pass .is)
+            ∙ ap (λ l. supplementFrom d (h .so-far ++ (pass .replacement ∷ [])) (framesOf l)) (sym (part-to-end rest k));
+        bytes = bytes-on so-read size k p e b;
+      }
+
+-- ---- the reader around them
+
+module _ (store text buffer : List ℕ) where
+  pub read-short : length buffer < 16_000 → (refusedAt 10 0 ≡ readSupplement store text buffer .answer) × (buffer ≡ readSupplement store text buffer .buffer)
+  unfolding readSupplement
+  read-short h = rw (lt-leb 16_000 (length buffer) h) (refl, refl)
+
+  module _ (h : 16_000 ≤ length buffer) where
+    -- 15: the domain is not accepted
+    pub read-15 : domainIn store ≡ refused 15 → (exit : List ℕ) → exit ≡ padded (length buffer) (take 0 buffer)
+        → (refusedAt 15 0 ≡ readSupplement store text buffer .answer) × (exit ≡ readSupplement store text buffer .buffer)
+    unfolding readSupplement
+    read-15 e exit z = rw (le-leb 16_000 (length buffer) h, e) (refl, z)
+
+    module _ (d : Domain) (g : domainIn store ≡ got d) where
+      pub read-in-room : Fills (supplementFrom d [] (framesOf text)) (bytesIn text) (length buffer) (readSupplement store text buffer)
+      unfolding readSupplement bytesIn
+      read-in-room = rw (le-leb 16_000 (length buffer) h, g)
+
+      module _ (after : List ℕ) (same : length after ≡ length buffer) (r : ReadStore) (e : (readingOf r ≡ usedUnder d text) × Front (bytesIn text) (readingOf r) after) (exit : List ℕ) where
+        fills : Fills (supplementFrom d [] (framesOf text)) (bytesIn text) (length after) (readSupplement store text buffer)
+        fills = rw same read-in-room
+
+        pub read-ends : (used : ℕ) → r ≡ Read used → exit ≡ padded (length after) (take used after)
+            → (read used ≡ readSupplement store text buffer .answer) × (exit ≡ readSupplement store text buffer .buffer)
+        unfolding usedUnder
+        read-ends = fill-ends (supplementFrom d [] (framesOf text)) (bytesIn text) (readSupplement store text buffer) after fills r e exit
+
+        pub read-stops : (refusal : Refusal) (line : ℕ) → r ≡ Refused refusal line → exit ≡ padded (length after) (take 0 after)
+            → (readingOf r ≡ readSupplement store text buffer .answer) × (exit ≡ readSupplement store text buffer .buffer)
+        unfolding usedUnder
+        read-stops = fill-stops (supplementFrom d [] (framesOf text)) (bytesIn text) (readSupplement store text buffer) after fills r e exit

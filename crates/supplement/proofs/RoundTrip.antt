@@ -1,0 +1,53 @@
+-- There and back: the store that the reader leaves is the supplement that it read, and the lines of its frames are the text. Assumes nothing.
+use Prim.Native.Nat.{ℕ, suc, _≤_}
+use native.Mathlib.Omega.{arith}
+use mathlib.Core.Path.{_≡_, refl, sym, ap, _∙_}
+use mathlib.Core.List.{List, [], _∷_, _++_, map}
+use lib.Dec.{eqb}
+use lib.ListN.{length}
+use borrow.Author.Tests.{eqb-true}
+use Rattle.bmap.specs.Limits.{supplementSize}
+use Rattle.bmap.specs.Refusal.{Answer, got, known, then, Reading, read, afterwards}
+use Rattle.bmap.specs.Line.{Frame}
+use Rattle.bmap.specs.Domain.{Domain}
+use Rattle.bmap.specs.Buffer.{padded, Filled, fill}
+use Rattle.bmap.specs.Store.{framesOf, framesIn, whatWasRead, domainIn, textOf}
+use Rattle.bmap.specs.Supplement.{Replacement, replacementIn, supplementFrom, readSupplement, supplementIn}
+use Rattle.line.proofs.Answers.{need-got, then-got-inv, at-line-read}
+use Rattle.domain.specs.Read.{bytesIn}
+use Rattle.domain.proofs.RoundTrip.{First, TextFrames, text-frames, text-again, frames-again}
+use Rattle.supplement.proofs.ReaderLaws.{read-in-room}
+
+-- the kind of every frame of a supplement is AF
+replaces-kind : (d : Domain) (earlier : List Replacement) (f : Frame) (r : Replacement) → replacementIn d earlier f ≡ got r → f .kind ≡ 0xAF
+unfolding replacementIn
+replaces-kind d earlier f r e = eqb-true (f .kind) 0xAF (need-got (eqb (f .kind) 0xAF) 3 _ r e .0)
+
+-- a line that is read is such a frame's
+read-first : (d : Domain) (s earlier : List Replacement) (a : Answer Frame) (l : List (Answer Frame)) → supplementFrom d earlier (a ∷ l) ≡ read s
+    → First (λ (before : List Replacement) rest. supplementFrom d before rest ≡ read s) a l
+unfolding supplementFrom
+read-first d s earlier a l e =
+    let (r, y, t) = at-line-read (suc (length earlier)) (then a (replacementIn d earlier)) (λ r. supplementFrom d (earlier ++ (r ∷ [])) l) s e in
+    let (f, is, g) = then-got-inv a (replacementIn d earlier) r y in
+    let k = replaces-kind d earlier f r g in
+    record { frame = f; is = is; some-kind = λ z. omega arith; next = earlier ++ (r ∷ []); goes-on = t }
+
+module _ (store text buffer : List ℕ) (d : Domain) (s : List Replacement) (g : domainIn store ≡ got d) (e : supplementFrom d [] (framesOf text) ≡ read s)
+    (h : supplementSize ≤ length buffer) where
+  frames : TextFrames text
+  frames = text-frames (λ (before : List Replacement) rest. supplementFrom d before rest ≡ read s) (read-first d s) [] text e
+
+  left : readSupplement store text buffer .buffer ≡ padded (length buffer) (bytesIn text)
+  left =
+      ap (λ (x : Filled). x .buffer) (read-in-room store text buffer h d g)
+      ∙ ap (λ (r : Reading (List Replacement)). fill (length buffer) (afterwards r (λ s. read (record { count = length (bytesIn text); bytes = bytesIn text }))) .buffer) e
+
+  pub left-supplement : supplementIn d (readSupplement store text buffer .buffer) ≡ got s
+  unfolding supplementIn
+  left-supplement =
+      rw (left, frames-again text frames (length buffer))
+      (ap (λ (r : Reading (List Replacement)). known 15 (whatWasRead r)) (ap (supplementFrom d []) (sym (frames .are)) ∙ e))
+
+  pub left-lines : textOf (readSupplement store text buffer .buffer) ≡ text
+  left-lines = ap textOf left ∙ text-again text frames (length buffer)

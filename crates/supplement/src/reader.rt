@@ -83,7 +83,14 @@ fn read_lines(store: &[u8], index: Index, text: &[u8], buffer: &mut [u8]) -> Rea
                 let from = used + 2;
                 used += bytes;
                 let p = &buffer[from..used];
-                if let Check::Refused(refusal) = check_replacement(store, counts, &laws, &over, kind, p) {
+                if let Check::Refused(refusal) = check_replacement(
+                    store,
+                    counts,
+                    &laws,
+                    &over,
+                    kind,
+                    p,
+                ) {
                     return ReadStore::Refused { refusal, line };
                 }
                 over[byte_at(p, 0) as usize] = count as u16;

@@ -11,7 +11,7 @@ use lib.ListN.{length, getD, take, drop, replicate, length-append, length-replic
 use lib.Seq.{take-append-seam, drop-append-seam, drop-append-add, getD-append-seam, getD-append-add, drop-cons, drop-drop}
 use borrow.Author.Tests.{leb-true, leb-false, le-leb, ne-eqb}
 use Rattle.bmap.specs.Plain.{if-else, maybe, flat}
-use Rattle.bmap.specs.Refusal.{Answer, got, refused, known, then, Reading, read, refusedAt, atLine, afterwards}
+use Rattle.bmap.specs.Refusal.{Answer, got, refused, known, then, Reading, read, refusedAt, afterwards}
 use Rattle.bmap.specs.Line.{Frame, Line, stored, linesOf, decode, lineFor}
 use Rattle.bmap.specs.Domain.{Domain}
 use Rattle.bmap.specs.Payload.{Item}

@@ -1,18 +1,16 @@
 -- The reader, line by line. Assumes nothing.
-use Prim.Native.Nat.{ℕ, suc, _+_, _-_, _≤_, _<_}
+use Prim.Native.Nat.{ℕ, suc, _+_, _≤_, _<_}
 use native.Mathlib.Numerals.{add-one}
 use native.Mathlib.Omega.{arith}
 use mathlib.Core.Path.{_≡_, refl, sym, ap, subst, _∙_}
-use mathlib.Core.Bool.{false}
 use mathlib.Core.List.{List, [], _∷_, _++_}
 use mathlib.Core.Option.{none, some}
 use lib.ListN.{length, set, take, drop, replicate}
 use borrow.Author.Tests.{le-leb, lt-leb}
-use Rattle.bmap.specs.Plain.{any}
 use Rattle.bmap.specs.Refusal.{got, refused, read, refusedAt, atLine, afterwards}
 use Rattle.bmap.specs.Line.{Frame, stored}
 use Rattle.bmap.specs.Domain.{Domain}
-use Rattle.bmap.specs.Buffer.{padded, Filled}
+use Rattle.bmap.specs.Buffer.{padded}
 use Rattle.bmap.specs.Store.{framesOf, domainIn}
 use Rattle.bmap.specs.Supplement.{Replacement, replaces, numberIn, replacementIn, supplementFrom, readSupplement}
 use Rattle.bmap.specs.declared.refusal.Refusal.{Refusal}
@@ -27,7 +25,19 @@ use Rattle.domain.proofs.Held.{cut}
 use Rattle.domain.proofs.Stands.{refusal-is}
 use Rattle.domain.proofs.IntoStore.{lent, renewed, Sizes, Decoded, none-left, all-used, all-stand, bad-line, line-sizes, frames-on, frame-size, bytes-on, Fills, fill-ends, fill-stops}
 use Rattle.supplement.specs.Read.{usedUnder}
-use Rattle.supplement.proofs.OverLaws.{gives, Over, over-first, over-most, over-next, Passes, passes}
+use Rattle.supplement.proofs.OverLaws.{Over, over-first, over-most, over-next}
+use Rattle.supplement.proofs.Passes.{Passes, passes}
+
+-- ---- one replacement more
+
+pub over-passed : {d : Domain} {earlier : List Replacement} {f : Frame} {over : List ℕ} {at : ℕ} → Over earlier over at → (v : Passes d earlier f) → length (d .laws) ≤ 128 → length (f .payload) ≤ 120
+    → {number : ℕ} → number ≡ numberIn f → Over (earlier ++ (v .replacement ∷ [])) (set over number (at + 1)) (at + length (stored f))
+over-passed {d} {earlier} {f} {over} {at} h v few short {number} is =
+    let its : replaces (v .replacement) ≡ numberIn f = ap numberIn (v .frame) in
+    let size : length (v .replacement .frame .payload) ≡ length (f .payload) = ap (λ (x : Frame). length (x .payload)) (v .frame) in
+    subst (λ (k : ℕ). Over (earlier ++ (v .replacement ∷ [])) (set over number (at + 1)) k) (ap (λ (x : Frame). at + length (stored x)) (v .frame))
+    (subst (λ (k : ℕ). Over (earlier ++ (v .replacement ∷ [])) (set over k (at + 1)) (at + length (stored (v .replacement .frame)))) (its ∙ sym is)
+    (over-next h (v .replacement) (v .new) (omega (arith, v .fits .number, few)) (omega (arith, size, short))))
 
 -- ---- the lines so far
 
@@ -47,7 +57,7 @@ module _ {d : Domain} {text buffer rest over : List ℕ} {used lines : ℕ} (h :
   reads-used = over-most (h .stand)
 
   pub reads-lines : lines ≤ 128
-  reads-lines = omega (arith, h .each, h .stand .few)
+  reads-lines = omega (arith, h .each, h .stand .rest)
 
   so-read : Decoded text buffer rest used
   so-read = record { room = omega (arith, reads-used, h .enough); bytes = h .bytes }
@@ -95,28 +105,16 @@ module _ {d : Domain} {text buffer rest over : List ℕ} {used lines : ℕ} (h :
       pass : Passes d (h .so-far) frame
       pass = passes d (h .so-far) frame q
 
-      pub reads-long : 3 ≤ length (frame .payload)
-      reads-long = pass .long
-
       pub reads-number : numberIn frame < length (d .laws)
-      reads-number = pass .number
+      reads-number = omega (arith, ap numberIn (pass .frame), pass .fits .number)
 
-      -- one replacement more
-      more : length (d .laws) ≤ 128 → Over (h .so-far ++ (pass .replacement ∷ [])) (set over (numberIn frame) (used + 1)) (used + size)
-      more few =
-          let here = frame-size so-read size k p e b in
-          let f : replaces (pass .replacement) ≡ numberIn frame = ap numberIn (pass .frame) in
-          let o = over-next (h .stand) (pass .replacement) (ap (λ (n : ℕ). any (gives n) (h .so-far)) f ∙ pass .new) (omega (arith, f, pass .number))
-          (omega (arith, here, reads-sizes .most, ap (λ (x : Frame). length (x .payload)) (pass .frame))) in
-          subst (λ (n : ℕ). Over (h .so-far ++ (pass .replacement ∷ [])) (set over n (used + 1)) (used + size)) f
-          (subst (λ (n : ℕ). Over (h .so-far ++ (pass .replacement ∷ [])) (set over (replaces (pass .replacement)) (used + 1)) (used + n))
-          (ap (λ (x : Frame). length (stored x)) (pass .frame) ∙ here) o)
-
-      pub reads-next : length (d .laws) ≤ 128 → length (renewed buffer used p) ≡ length buffer
-          → Reads d text (renewed buffer used p) (lent rest k) (set over (numberIn frame) (used + 1)) (used + size) (lines + 1)
-      reads-next few same = record {
+      pub reads-next : length (d .laws) ≤ 128 → length (renewed buffer used p) ≡ length buffer → {n : ℕ} → n ≡ numberIn frame
+          → Reads d text (renewed buffer used p) (lent rest k) (set over n (used + 1)) (used + size) (lines + 1)
+      reads-next few same {n} at = let here = frame-size so-read size k p e b in record {
         so-far = h .so-far ++ (pass .replacement ∷ []);
-        stand = more few;
+        stand =
+            subst (λ (i : ℕ). Over (h .so-far ++ (pass .replacement ∷ [])) (set over n (used + 1)) (used + i)) here
+            (over-passed (h .stand) pass few (omega (arith, here, reads-sizes .most)) at);
         each = omega (arith, h .each, length-snoc (h .so-far) (pass .replacement));
         enough = omega (arith, h .enough, same);
         run =

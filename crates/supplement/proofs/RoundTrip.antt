@@ -1,8 +1,8 @@
 -- There and back: the store that the reader leaves is the supplement that it read, and the lines of its frames are the text. Assumes nothing.
 use Prim.Native.Nat.{ℕ, suc, _≤_}
 use native.Mathlib.Omega.{arith}
-use mathlib.Core.Path.{_≡_, refl, sym, ap, _∙_}
-use mathlib.Core.List.{List, [], _∷_, _++_, map}
+use mathlib.Core.Path.{_≡_, sym, ap, _∙_}
+use mathlib.Core.List.{List, [], _∷_, _++_}
 use lib.Dec.{eqb}
 use lib.ListN.{length}
 use borrow.Author.Tests.{eqb-true}
@@ -11,7 +11,7 @@ use Rattle.bmap.specs.Refusal.{Answer, got, known, then, Reading, read, afterwa
 use Rattle.bmap.specs.Line.{Frame}
 use Rattle.bmap.specs.Domain.{Domain}
 use Rattle.bmap.specs.Buffer.{padded, Filled, fill}
-use Rattle.bmap.specs.Store.{framesOf, framesIn, whatWasRead, domainIn, textOf}
+use Rattle.bmap.specs.Store.{framesOf, whatWasRead, domainIn, textOf}
 use Rattle.bmap.specs.Supplement.{Replacement, replacementIn, supplementFrom, readSupplement, supplementIn}
 use Rattle.line.proofs.Answers.{need-got, then-got-inv, at-line-read}
 use Rattle.domain.specs.Read.{bytesIn}

@@ -1,6 +1,6 @@
 -- `supplement::reader::read_lines` meets its contract: after each line the code holds where the replacements so far stand. Assumes nothing.
-use Rattle.supplement.proofs.ReaderLaws.{Reads, reads-first, reads-used, reads-lines, reads-done, reads-bad, reads-sizes, reads-refused, reads-long, reads-number, reads-next}
-use Rattle.supplement.proofs.OverLaws.{over-long, laws-stand}
+use Rattle.supplement.proofs.ReaderLaws.{Reads, reads-first, reads-used, reads-lines, reads-done, reads-bad, reads-sizes, reads-refused, reads-number, reads-next}
+use Rattle.supplement.proofs.CheckLaws.{laws-stand}
 use Rattle.supplement.specs.Check.{LawsStand}
 use Rattle.domain.proofs.IntoStore.{lent, renewed, Sizes}
 use Rattle.domain.proofs.Held.{cut}
@@ -14,12 +14,12 @@ use Rattle.bmap.specs.Domain.{Domain}
 use Rattle.bmap.specs.Supplement.{numberIn, replacementIn}
 use Rattle.bmap.specs.declared.limits.Counts.{Counts}
 use borrow.Author.Needs.{needs}
-use lib.ListN.{length, take, drop, length-drop}
+use lib.ListN.{length, length-drop}
 use mathlib.Core.Option.{some, none}
 use mathlib.Core.List.{List}
 use mathlib.Core.Path.{_≡_, refl, sym, ap, _∙_}
 use native.Mathlib.Omega.{arith}
-use Prim.Native.Nat.{ℕ, _+_, _-_, _≤_, _<_}
+use Prim.Native.Nat.{ℕ, _+_, _≤_, _<_}
 use Rattle.supplement.proofs.reader.read_lines.Statement.{statement}
 use Rattle.supplement.proofs.reader.read_lines.Tie as tie
 
@@ -93,11 +93,6 @@ passes t d s = sym (ap refusalOf (t .enum-told2 .given .1)) ∙ t .before .befor
 
 how-many : (l : tie.At-loop Inv-loop μ-loop) (d : Domain) → LawsStand d (l .before .before .before .before .before .before .args .store .now) (l .before .before .before .before .before .before .args .index .counts) (l .before .before .before .before .before .before .args .index .laws) → length (d .laws) ≤ 128
 how-many l d s = let e = ap (λ (n : Counts). n .laws) (s .counts) in omega (arith, e, l .before .before .before .before .before .before .pre .0 .laws)
-
-long : (t : tie.After-enum-told2 Inv-loop μ-loop) → 3 ≤ length (frame (arm t) .payload)
-long t =
-    let z = arm t in
-    reads-long (read-so (head z)) (z .bytes .given .0 .0) (z .bytes .given .0 .1 .0) (answered z .read-line .last .1 .0) (line-is z) (answered z .read-line .ensures .1) (passes t (domain (head z)) (stands (head z)))
 
 number : (t : tie.After-enum-told2 Inv-loop μ-loop) → numberIn (frame (arm t)) < 128
 number t =
@@ -193,17 +188,17 @@ enum-told-2 c = search needs
 cast-over : tie.Need-cast-over Inv-loop μ-loop
 cast-over c = omega (arith, reads-used (read-so (loop-at c)))
 
-shared-slice-read-over : tie.Need-shared-slice-read-over Inv-loop μ-loop
-shared-slice-read-over c = omega (arith, long (c .before))
+byte-at-requires : tie.Need-byte-at-requires Inv-loop μ-loop
+byte-at-requires c κs = search needs
 
 cast-over-2 : tie.Need-cast-over-2 Inv-loop μ-loop
-cast-over-2 c = omega (arith, number (c .before))
+cast-over-2 c = omega (arith, number (c .before), c .byte-at .ensures)
 
 mul-over : tie.Need-mul-over Inv-loop μ-loop
-mul-over c = omega (arith, number (c .before))
+mul-over c = omega (arith, number (c .before), c .byte-at .ensures)
 
 array-write-over : tie.Need-array-write-over Inv-loop μ-loop
-array-write-over c = omega (arith, number (c .before))
+array-write-over c = omega (arith, number (c .before), c .byte-at .ensures)
 
 sub-rest : tie.Need-sub-rest Inv-loop μ-loop
 sub-rest c = omega (arith, sizes (arm (c .before)) .characters)
@@ -224,7 +219,7 @@ loop-again c =
       again (answered z),
       λ d s.
           reads-next (head z .loop .inv .1 d s) (z .bytes .given .0 .0) (z .bytes .given .0 .1 .0) (answered z .read-line .last .1 .0) (line-is z) (answered z .read-line .ensures .1) (passes t d s)
-          (how-many (head z) d s) (again (answered z) ∙ sym (head z .loop .inv .0)),
+          (how-many (head z) d s) (again (answered z) ∙ sym (head z .loop .inv .0)) (c .before .byte-at .ensures),
     )
 
 pub read-lines-spec : {M : Type 1} → statement M
@@ -260,7 +255,7 @@ read-lines-spec =
     returns-3
     enum-told-2
     cast-over
-    shared-slice-read-over
+    byte-at-requires
     cast-over-2
     mul-over
     array-write-over

@@ -1,5 +1,5 @@
 -- What a frame that passes its check says, and the replacements of a supplement that is read. Assumes nothing.
-use Prim.Native.Nat.{ℕ, suc, _≤_, _<_}
+use Prim.Native.Nat.{ℕ, suc, _+_, _≤_, _<_}
 use native.Mathlib.Decide.{decLt}
 use native.Mathlib.Omega.{arith}
 use mathlib.Core.Path.{_≡_, refl, sym, ap, subst, _∙_}
@@ -7,11 +7,11 @@ use mathlib.Core.Bool.{Bool, true, false, not}
 use mathlib.Core.List.{List, [], _∷_, _++_, append-assoc, append-nil, map}
 use mathlib.Core.Option.{Option, none, some}
 use lib.Dec.{eqb, leb}
-use lib.ListN.{length, getD}
-use borrow.Author.Tests.{eqb-true, leb-true, not-true, not-false}
+use lib.ListN.{length, set}
+use borrow.Author.Tests.{eqb-true, leb-true, not-true}
 use Rattle.bmap.specs.Plain.{if-else, maybe, any}
-use Rattle.bmap.specs.Refusal.{Answer, got, refused, need, known, then, Reading, read, refusedAt, atLine}
-use Rattle.bmap.specs.Line.{Frame}
+use Rattle.bmap.specs.Refusal.{Answer, got, refused, known, then, read, atLine}
+use Rattle.bmap.specs.Line.{Frame, stored}
 use Rattle.bmap.specs.Domain.{Domain, Law}
 use Rattle.bmap.specs.Payload.{lawIn}
 use Rattle.bmap.specs.Accept.{countsOf}
@@ -19,7 +19,7 @@ use Rattle.bmap.specs.Supplement.{Replacement, replaces, replacementOf, numberI
 use Rattle.domain.specs.Check.{refusedIn}
 use Rattle.domain.proofs.Passed.{need-got}
 use Rattle.domain.proofs.Rows.{map-snoc}
-use Rattle.supplement.proofs.OverLaws.{gives}
+use Rattle.supplement.proofs.OverLaws.{gives, Over, over-next}
 use Rattle.supplement.proofs.CheckLaws.{lawAt, numbered-none, numbered-some, noLaw}
 
 -- ---- a replacement that fits the domain
@@ -69,6 +69,16 @@ passes d earlier f e =
           new = not-true _ t;
           fits = record { kind = eqb-true (f .kind) 0xAF a; long = leb-true 3 (length (f .payload)) b; number = n .0; same = n .1; law = q };
         }
+
+-- where it stands after the others
+pub over-passed : {d : Domain} {earlier : List Replacement} {f : Frame} {over : List ℕ} {at : ℕ} → Over earlier over at → (v : Passes d earlier f) → length (d .laws) ≤ 128 → length (f .payload) ≤ 120
+    → {number : ℕ} → number ≡ numberIn f → Over (earlier ++ (v .replacement ∷ [])) (set over number (at + 1)) (at + length (stored f))
+over-passed {d} {earlier} {f} {over} {at} h v few short {number} is =
+    let its : replaces (v .replacement) ≡ numberIn f = ap numberIn (v .frame) in
+    let size : length (v .replacement .frame .payload) ≡ length (f .payload) = ap (λ (x : Frame). length (x .payload)) (v .frame) in
+    subst (λ (k : ℕ). Over (earlier ++ (v .replacement ∷ [])) (set over number (at + 1)) k) (ap (λ (x : Frame). at + length (stored x)) (v .frame))
+    (subst (λ (k : ℕ). Over (earlier ++ (v .replacement ∷ [])) (set over k (at + 1)) (at + length (stored (v .replacement .frame)))) (its ∙ sym is)
+    (over-next h (v .replacement) (v .new) (omega (arith, v .fits .number, few)) (omega (arith, size, short))))
 
 -- ---- all of a supplement's
 

@@ -8,11 +8,11 @@ use mathlib.Core.Option.{none, some}
 use lib.ListN.{length, set, take, drop, replicate}
 use borrow.Author.Tests.{le-leb, lt-leb}
 use Rattle.bmap.specs.Refusal.{got, refused, read, refusedAt, atLine, afterwards}
-use Rattle.bmap.specs.Line.{Frame, stored}
+use Rattle.bmap.specs.Line.{Frame}
 use Rattle.bmap.specs.Domain.{Domain}
 use Rattle.bmap.specs.Buffer.{padded}
 use Rattle.bmap.specs.Store.{framesOf, domainIn}
-use Rattle.bmap.specs.Supplement.{Replacement, replaces, numberIn, replacementIn, supplementFrom, readSupplement}
+use Rattle.bmap.specs.Supplement.{Replacement, numberIn, replacementIn, supplementFrom, readSupplement}
 use Rattle.bmap.specs.declared.refusal.Refusal.{Refusal}
 use Rattle.line.specs.Read.{lineRead, bytesRead}
 use Rattle.line.proofs.Lists.{part-to-end}
@@ -25,19 +25,8 @@ use Rattle.domain.proofs.Held.{cut}
 use Rattle.domain.proofs.Stands.{refusal-is}
 use Rattle.domain.proofs.IntoStore.{lent, renewed, Sizes, Decoded, none-left, all-used, all-stand, bad-line, line-sizes, frames-on, frame-size, bytes-on, Fills, fill-ends, fill-stops}
 use Rattle.supplement.specs.Read.{usedUnder}
-use Rattle.supplement.proofs.OverLaws.{Over, over-first, over-most, over-next}
-use Rattle.supplement.proofs.Passes.{Passes, passes}
-
--- ---- one replacement more
-
-pub over-passed : {d : Domain} {earlier : List Replacement} {f : Frame} {over : List ℕ} {at : ℕ} → Over earlier over at → (v : Passes d earlier f) → length (d .laws) ≤ 128 → length (f .payload) ≤ 120
-    → {number : ℕ} → number ≡ numberIn f → Over (earlier ++ (v .replacement ∷ [])) (set over number (at + 1)) (at + length (stored f))
-over-passed {d} {earlier} {f} {over} {at} h v few short {number} is =
-    let its : replaces (v .replacement) ≡ numberIn f = ap numberIn (v .frame) in
-    let size : length (v .replacement .frame .payload) ≡ length (f .payload) = ap (λ (x : Frame). length (x .payload)) (v .frame) in
-    subst (λ (k : ℕ). Over (earlier ++ (v .replacement ∷ [])) (set over number (at + 1)) k) (ap (λ (x : Frame). at + length (stored x)) (v .frame))
-    (subst (λ (k : ℕ). Over (earlier ++ (v .replacement ∷ [])) (set over k (at + 1)) (at + length (stored (v .replacement .frame)))) (its ∙ sym is)
-    (over-next h (v .replacement) (v .new) (omega (arith, v .fits .number, few)) (omega (arith, size, short))))
+use Rattle.supplement.proofs.OverLaws.{Over, over-first, over-most}
+use Rattle.supplement.proofs.Passes.{Passes, passes, over-passed}
 
 -- ---- the lines so far
 

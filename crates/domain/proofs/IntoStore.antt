@@ -167,6 +167,9 @@ module _ {A : Type 0} (bytes : List ℕ) (size : ℕ) (f : Filled) where
   fill-refused (read a) is m l e = absurd (let z : _≡_ {A = ℕ} 0 1 = cc in omega arith)
   fill-refused (refusedAt k j) is m l e = is ∙ ap (λ a. record { answer = a; buffer = padded size [] }) (sym e)
 
+  pub fill-left : (r : Reading A) → Fills r bytes size f → (a : A) → r ≡ read a → f .buffer ≡ padded size bytes
+  fill-left r is a e = ap (λ (y : Filled). y .buffer) is ∙ ap (λ (q : Reading A). fill size (afterwards q (λ a. read (record { count = length bytes; bytes = bytes }))) .buffer) e
+
 -- what is read stands at the front, zeros after; "Any other refusal of a reader zeroes its whole buffer"
 module _ {A : Type 0} (r : Reading A) (bytes : List ℕ) (f : Filled) (after : List ℕ) (is : Fills r bytes (length after) f)
     (x : ReadStore) (e : (readingOf x ≡ afterwards r (λ a. read (length bytes))) × Front bytes (readingOf x) after) (exit : List ℕ) where

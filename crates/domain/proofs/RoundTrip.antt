@@ -28,6 +28,7 @@ use Rattle.domain.specs.Read.{bytesIn}
 use Rattle.domain.proofs.Passed.{Case, is-agents, is-fluent, is-knowledge, is-entry, is-law, passed}
 use Rattle.domain.proofs.Stands.{Here, here, with, accept-is}
 use Rattle.domain.proofs.Accepted.{domained}
+use Rattle.domain.proofs.IntoStore.{fill-left}
 use Rattle.domain.proofs.ReaderLaws.{read-in-room, read-short}
 
 -- ---- frames that a store can hold
@@ -167,15 +168,12 @@ text-frames Goes first s text g =
     let t = text-back (a .0) text (a .1 .0) (a .1 .1) in
     record { frames = a .0; are = a .1 .0; fine = t .1; lines = t .0; bytes = frames-bytes text (a .0) (a .1 .0) }
 
--- the store that they fill has their lines
-pub text-again : (text : List ℕ) (t : TextFrames text) (size : ℕ) → textOf (padded size (bytesIn text)) ≡ text
-text-again text t size =
-    ap (λ l. textOf (padded size l)) (t .bytes)
-    ∙ ap (λ o. maybe o [] (λ fs. flat (map lineFor fs))) (frames-back (t .frames) (size - length (flat (map stored (t .frames)))) (t .fine))
-    ∙ sym (t .lines)
-
+-- the store that they fill has them, and their lines
 pub frames-again : (text : List ℕ) (t : TextFrames text) (size : ℕ) → framesIn (padded size (bytesIn text)) ≡ some (t .frames)
 frames-again text t size = ap (λ l. framesIn (padded size l)) (t .bytes) ∙ frames-back (t .frames) (size - length (flat (map stored (t .frames)))) (t .fine)
+
+pub text-again : (text : List ℕ) (t : TextFrames text) (size : ℕ) → textOf (padded size (bytesIn text)) ≡ text
+text-again text t size = ap (λ o. maybe o [] (λ fs. flat (map lineFor fs))) (frames-again text t size) ∙ sym (t .lines)
 
 -- ---- ACCEPTED LINES, READ AND WRITTEN AGAIN, ARE THE SAME LINES
 
@@ -214,15 +212,12 @@ was-got text store n e = room (leb 36_000 (length store)) refl
   where
     by : (r : Reading Domain) → reading text ≡ r → 36_000 ≤ length store → Got text store n
     by (refusedAt m l) r h = absurd (let k = ap (λ (x : Filled). x .answer) (read-in-room text store h) in let q = ap (λ (x : Reading Domain). fill (length store) (afterwards x (λ d. read (record { count = length (bytesIn text); bytes = bytesIn text }))) .answer) r in let z : _≡_ {A = ℕ} 0 1 = cc in omega arith)
-    by (read d) r h =
-        record {
-          domain = d;
-          frames = text-frames (λ (q : ℕ × Partial) l. takenFrom (q .0) (q .1) l ≡ read d) (taken-first d) (0, nothing) text r;
-          reads = r;
-          left =
-              ap (λ (x : Filled). x .buffer) (read-in-room text store h)
-              ∙ ap (λ (x : Reading Domain). fill (length store) (afterwards x (λ d. read (record { count = length (bytesIn text); bytes = bytesIn text }))) .buffer) r;
-        }
+    by (read d) r h = record {
+      domain = d;
+      frames = text-frames (λ (q : ℕ × Partial) l. takenFrom (q .0) (q .1) l ≡ read d) (taken-first d) (0, nothing) text r;
+      reads = r;
+      left = fill-left (bytesIn text) (length store) (readDomain text store) (reading text) (read-in-room text store h) d r;
+    }
 
     room : (b : Bool) → leb 36_000 (length store) ≡ b → Got text store n
     room true q = by (reading text) refl (leb-true 36_000 (length store) q)

@@ -7,14 +7,15 @@ use lib.Dec.{eqb}
 use lib.ListN.{length}
 use borrow.Author.Tests.{eqb-true}
 use Rattle.bmap.specs.Limits.{supplementSize}
-use Rattle.bmap.specs.Refusal.{Answer, got, known, then, Reading, read, afterwards}
+use Rattle.bmap.specs.Refusal.{Answer, got, known, then, Reading, read}
 use Rattle.bmap.specs.Line.{Frame}
 use Rattle.bmap.specs.Domain.{Domain}
-use Rattle.bmap.specs.Buffer.{padded, Filled, fill}
+use Rattle.bmap.specs.Buffer.{padded}
 use Rattle.bmap.specs.Store.{framesOf, whatWasRead, domainIn, textOf}
 use Rattle.bmap.specs.Supplement.{Replacement, replacementIn, supplementFrom, readSupplement, supplementIn}
 use Rattle.line.proofs.Answers.{need-got, then-got-inv, at-line-read}
 use Rattle.domain.specs.Read.{bytesIn}
+use Rattle.domain.proofs.IntoStore.{fill-left}
 use Rattle.domain.proofs.RoundTrip.{First, TextFrames, text-frames, text-again, frames-again}
 use Rattle.supplement.proofs.ReaderLaws.{read-in-room}
 
@@ -39,9 +40,7 @@ module _ (store text buffer : List ℕ) (d : Domain) (s : List Replacement) (g :
   frames = text-frames (λ (before : List Replacement) rest. supplementFrom d before rest ≡ read s) (read-first d s) [] text e
 
   left : readSupplement store text buffer .buffer ≡ padded (length buffer) (bytesIn text)
-  left =
-      ap (λ (x : Filled). x .buffer) (read-in-room store text buffer h d g)
-      ∙ ap (λ (r : Reading (List Replacement)). fill (length buffer) (afterwards r (λ s. read (record { count = length (bytesIn text); bytes = bytesIn text }))) .buffer) e
+  left = fill-left (bytesIn text) (length buffer) (readSupplement store text buffer) (supplementFrom d [] (framesOf text)) (read-in-room store text buffer h d g) s e
 
   pub left-supplement : supplementIn d (readSupplement store text buffer .buffer) ≡ got s
   unfolding supplementIn

@@ -31,21 +31,30 @@ Inv-loop store text buffer₀ counts laws over₀ rest₀ used₀ line₀ buffer
 abbrev μ-loop : tie.MeasureT-loop
 μ-loop store text buffer₀ counts laws over₀ rest₀ used₀ line₀ buffer over rest used line = length rest
 
+abbrev start : tie.At-loop Inv-loop μ-loop → tie.Start Inv-loop μ-loop
+start l = l .before .before .before .before .before .before
+
+abbrev Stands : tie.At-loop Inv-loop μ-loop → Domain → Type 0
+Stands l d = LawsStand d (start l .args .store .now) (start l .args .index .counts) (start l .args .index .laws)
+
 -- the domain that the index makes is one
 abbrev domain : tie.At-loop Inv-loop μ-loop → Domain
-domain l = domainOf (l .before .before .before .before .before .before .args .store .now) (l .before .before .before .before .before .before .args .index)
+domain l = domainOf (start l .args .store .now) (start l .args .index)
 
-stands : (l : tie.At-loop Inv-loop μ-loop) → LawsStand (domain l) (l .before .before .before .before .before .before .args .store .now) (l .before .before .before .before .before .before .args .index .counts) (l .before .before .before .before .before .before .args .index .laws)
-stands l = laws-stand (l .before .before .before .before .before .before .args .store .now) (l .before .before .before .before .before .before .args .index) (l .before .before .before .before .before .before .pre .0)
+stands : (l : tie.At-loop Inv-loop μ-loop) → Stands l (domain l)
+stands l = laws-stand (start l .args .store .now) (start l .args .index) (start l .pre .0)
 
-abbrev read-so : (l : tie.At-loop Inv-loop μ-loop) → Reads (domain l) (l .before .before .before .before .before .before .args .text .now) (l .loop .buffer) (l .loop .rest .now) (l .loop .over) (l .loop .used) (l .loop .line)
+how-many : (l : tie.At-loop Inv-loop μ-loop) (d : Domain) → Stands l d → length (d .laws) ≤ 128
+how-many l d s = let e = ap (λ (n : Counts). n .laws) (s .counts) in omega (arith, e, start l .pre .0 .laws)
+
+abbrev read-so : (l : tie.At-loop Inv-loop μ-loop) → Reads (domain l) (start l .args .text .now) (l .loop .buffer) (l .loop .rest .now) (l .loop .over) (l .loop .used) (l .loop .line)
 read-so l = l .loop .inv .1 (domain l) (stands l)
 
 -- the buffer has its length again once the part comes back
 abbrev loop-of : tie.After-read-line Inv-loop μ-loop → tie.At-loop Inv-loop μ-loop
 loop-of r = r .before .before
 
-again : (r : tie.After-read-line Inv-loop μ-loop) → length (renewed (loop-of r .loop .buffer) (loop-of r .loop .used) (r .read-line .last .1 .0)) ≡ length (loop-of r .before .before .before .before .before .before .args .buffer .now)
+again : (r : tie.After-read-line Inv-loop μ-loop) → length (renewed (loop-of r .loop .buffer) (loop-of r .loop .used) (r .read-line .last .1 .0)) ≡ length (start (loop-of r) .args .buffer .now)
 again r =
     let l = loop-of r in
     length-back (l .loop .buffer) (r .read-line .last .1 .0) (l .loop .used) (omega (arith, reads-used (read-so l), read-so l .enough)) (r .read-line .kept .1 .0) ∙ l .loop .inv .0
@@ -87,12 +96,9 @@ arm t = t .before .before .before .before .before .before .before .before .befor
 abbrev loop-at : tie.After-enum-told2 Inv-loop μ-loop → tie.At-loop Inv-loop μ-loop
 loop-at t = head (arm t)
 
-passes : (t : tie.After-enum-told2 Inv-loop μ-loop) (d : Domain) (s : LawsStand d (loop-at t .before .before .before .before .before .before .args .store .now) (loop-at t .before .before .before .before .before .before .args .index .counts) (loop-at t .before .before .before .before .before .before .args .index .laws))
+passes : (t : tie.After-enum-told2 Inv-loop μ-loop) (d : Domain) (s : Stands (loop-at t) d)
     → none ≡ refusedIn (replacementIn d (loop-at t .loop .inv .1 d s .so-far) (frame (arm t)))
 passes t d s = sym (ap refusalOf (t .enum-told2 .given .1)) ∙ t .before .before .check-replacement .ensures d (loop-at t .loop .inv .1 d s .so-far) s (loop-at t .loop .inv .1 d s .stand .places)
-
-how-many : (l : tie.At-loop Inv-loop μ-loop) (d : Domain) → LawsStand d (l .before .before .before .before .before .before .args .store .now) (l .before .before .before .before .before .before .args .index .counts) (l .before .before .before .before .before .before .args .index .laws) → length (d .laws) ≤ 128
-how-many l d s = let e = ap (λ (n : Counts). n .laws) (s .counts) in omega (arith, e, l .before .before .before .before .before .before .pre .0 .laws)
 
 number : (t : tie.After-enum-told2 Inv-loop μ-loop) → numberIn (frame (arm t)) < 128
 number t =

@@ -5,24 +5,23 @@ use mathlib.Core.Path.{_≡_, refl, sym, ap, subst, _∙_}
 use mathlib.Core.Bool.{Bool, true, false}
 use mathlib.Core.List.{List, [], _∷_, _++_, map}
 use mathlib.Core.Option.{Option, none, some}
-use lib.ListN.{length, getD, set, drop, replicate}
+use lib.ListN.{length, set, drop, replicate}
 use Rattle.bmap.specs.Plain.{maybe}
-use Rattle.bmap.specs.Refusal.{Answer, got, refused, known, then}
+use Rattle.bmap.specs.Refusal.{got, refused, known, then}
 use Rattle.bmap.specs.Line.{Frame, stored}
 use Rattle.bmap.specs.Domain.{Domain}
-use Rattle.bmap.specs.Store.{frameAt, zeros, framesFrom, whatWasRead, domainIn}
+use Rattle.bmap.specs.Store.{frameAt, zeros, framesFrom, whatWasRead}
 use Rattle.bmap.specs.Supplement.{Replacement, replaces, numberIn, replacementIn, supplementFrom, supplementIn}
-use Rattle.index.specs.declared.Index.{Index}
 use Rattle.index.specs.Index.{domainOf, Sound}
 use Rattle.domain.specs.Check.{refusedIn}
 use Rattle.domain.specs.declared.found.Found.{Found}
 use Rattle.domain.specs.Found.{foundIn}
-use Rattle.domain.proofs.Stands.{here}
+use Rattle.domain.proofs.Stands.{here, refusal-is}
 use Rattle.domain.proofs.Accepted.{found-ok, found-none}
 use Rattle.supplement.specs.Check.{overOf}
 use Rattle.supplement.specs.Under.{underOf, underIn}
-use Rattle.supplement.proofs.OverLaws.{Over, over-first, over-next, over-most}
-use Rattle.supplement.proofs.Passes.{Passes, passes}
+use Rattle.supplement.proofs.OverLaws.{Over, over-first, over-most}
+use Rattle.supplement.proofs.Passes.{Passes, passes, over-passed}
 
 -- what the frames from a place on make, after some replacements
 abbrev run : ℕ → Domain → List Replacement → List ℕ → ℕ → Option (List Replacement)
@@ -80,11 +79,6 @@ pub passing-first : (d : Domain) (s : List ℕ) → Passing d s (replicate 128 0
 unfolding supplementIn
 passing-first d s = record { earlier = []; looks = suc (length s); stand = over-first; inside = omega arith; enough = omega arith; runs = refl }
 
--- the refusal of a frame, as an answer
-refused-by : {A : Type 0} (a : Answer A) (m : ℕ) → some m ≡ refusedIn a → a ≡ refused m
-refused-by (got x) m e = absurd (let z : _≡_ {A = ℕ} 0 1 = cc in omega arith)
-refused-by (refused k) m e = let z : k ≡ m = cc in ap refused z
-
 module _ {d : Domain} {s over : List ℕ} {at : ℕ} (h : Passing d s over at) where
   some-look : (looks : ℕ) × (h .looks ≡ suc looks)
   some-look = go (h .looks) refl
@@ -115,7 +109,7 @@ module _ {d : Domain} {s over : List ℕ} {at : ℕ} (h : Passing d s over at) w
 
   module _ (f : Frame) (e : frameAt s at ≡ some f) where
     pub passing-refused : (m : ℕ) → some m ≡ refusedIn (replacementIn d (h .earlier) f) → supplementIn d s ≡ refused 15
-    passing-refused m q = run-on ∙ ap (known 15) (run-refused (some-look .0) d (h .earlier) s at f e m (refused-by (replacementIn d (h .earlier) f) m q))
+    passing-refused m q = run-on ∙ ap (known 15) (run-refused (some-look .0) d (h .earlier) s at f e m (refusal-is (replacementIn d (h .earlier) f) m q))
 
     module _ (q : none ≡ refusedIn (replacementIn d (h .earlier) f)) (few : length (d .laws) ≤ 128) where
       pass : Passes d (h .earlier) f
@@ -130,14 +124,11 @@ module _ {d : Domain} {s over : List ℕ} {at : ℕ} (h : Passing d s over at) w
       pub passing-next : (number next : ℕ) → number ≡ numberIn f → next ≡ at + length (stored f) → Passing d s (set over number (at + 1)) next
       passing-next number next is ex =
           let there = here s at f e in
-          let size : length (pass .replacement .frame .payload) ≡ length (f .payload) = ap (λ (x : Frame). length (x .payload)) (pass .frame) in
-          let on = over-next (h .stand) (pass .replacement) (pass .new) (omega (arith, its, passing-number)) (omega (arith, size, there .most)) in
           record {
             earlier = h .earlier ++ (pass .replacement ∷ []);
             looks = some-look .0;
             stand =
-                subst (λ (k : ℕ). Over (h .earlier ++ (pass .replacement ∷ [])) (set over number (at + 1)) k) (ap (λ (x : Frame). at + length (stored x)) (pass .frame) ∙ sym ex)
-                (subst (λ (k : ℕ). Over (h .earlier ++ (pass .replacement ∷ [])) (set over k (at + 1)) (at + length (stored (pass .replacement .frame)))) (its ∙ sym is) on);
+                subst (λ (k : ℕ). Over (h .earlier ++ (pass .replacement ∷ [])) (set over number (at + 1)) k) (sym ex) (over-passed (h .stand) pass few (there .most) is);
             inside = omega (arith, there .within);
             enough = omega (arith, h .enough, some-look .1);
             runs = run-on ∙ ap (known 15) (run-next (some-look .0) d (h .earlier) s at f e (pass .replacement) (pass .is)) ∙ ap (λ (k : ℕ). known 15 (run (some-look .0) d (h .earlier ++ (pass .replacement ∷ [])) s k)) (sym ex);

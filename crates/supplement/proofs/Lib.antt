@@ -13,4 +13,6 @@ pub mod ReaderLaws
 -- THERE AND BACK: lines to a store, and its frames to lines.
 pub mod RoundTrip
 -- What document 02 asks for.
+pub mod EmptyLaws
+pub mod JudgedLaws
 pub mod Theorems

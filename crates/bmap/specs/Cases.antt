@@ -1,5 +1,5 @@
--- The cases of document 01: those marked with a star in one list, the others in a second; beside them what they leave open. One
--- statement.
+-- The cases of document 01: those marked with a star in one list, the others in a second; beside them what they leave open, and the
+-- sentences of document 02. One statement.
 use Prim.Native.Nat.{ℕ, _+_}
 use mathlib.Core.Path.{_≡_, refl}
 use mathlib.Core.Bool.{false}
@@ -14,7 +14,7 @@ use Rattle.bmap.specs.Code.{codeOf, parseE, parseC}
 use Rattle.bmap.specs.Line.{linesOf, digit, bytes, framed, decode, digitFor, hex, lineFor}
 use Rattle.bmap.specs.Domain.{Names, occursIn, knownTo, readable}
 use Rattle.bmap.specs.Payload.{maskFits, agentsFit, fluentFits, knowledgeFits, entryFits, executableIn, effectIn, mustIn, lawIn, itemIn}
-use Rattle.bmap.specs.Refusal.{Reading, read, refusedAt, got, refused}
+use Rattle.bmap.specs.Refusal.{Answer, Reading, read, refusedAt, got, refused}
 use Rattle.bmap.specs.Accept.{inOrder, room, fresh, checked, accept, complete, takenFrom}
 use Rattle.bmap.specs.Sheet.{stepOf, stepsFrom, stepsIn, readSheet, rows, sheetOf}
 use Rattle.bmap.specs.Buffer.{Filled, Written}
@@ -22,7 +22,8 @@ use Rattle.bmap.specs.Store.{readDomain, standsAt, frameAt, framesFrom, 
 use Rattle.bmap.specs.Verdict.{Judgement, judgeSheet}
 use Rattle.bmap.specs.Judge.{Judged, accepted, broken, eachFrom, history, holds, carries, placed, permits, permitted, mayOccur, sets, settled, levelAfter, stateAfter, inRange, landed, step, carried, ran, judge}
 use Rattle.bmap.specs.Session.{enter, strike, amend, edited, replayed, standingSheet, edit, undo, redo, verdict, Call, editing, undoing, redoing, Reply, done, turn, after, replies, loggedAll, layout, Changed, openSession}
-use Rattle.bmap.specs.Program.{digitsOf, spaced, stateLines, split, output}
+use Rattle.bmap.specs.Supplement.{replacementOf, inForceFrom, replaced, replacementIn, supplementFrom, readSupplement, supplementIn, judgeUnder, inDomain, inSupplement, Part, lawParts, replacementPart, lawInForce}
+use Rattle.bmap.specs.Program.{digitsOf, spaced, stateLines, split, output, lowWater}
 use Rattle.bmap.specs.River.{p, judgedUnder, gives}
 use Rattle.bmap.specs.declared.Operation.the-variants.{Product, Quotient, Remainder}
 use Rattle.bmap.specs.declared.session.Session.{Session}
@@ -264,10 +265,122 @@ calls =
     ∷ record { Of = Changed; left = openSession (store ++ (1 ∷ [])); right = record { answer = refused 15; session = unedited 0 } }
     ∷ []
 
+-- K7: supplements of domain P, whose laws are an A5 for each of two entries, an A6 for each, and a goal
+abbrev lent : List ℕ
+lent = replicate 16_000 7
+
+abbrev supplementReads : List ℕ → ℕ → List ℕ → Case
+supplementReads lines used bytes = record { Of = Filled; left = readSupplement store lines lent; right = record { answer = read used; buffer = bytes } }
+
+-- every refusal but 10 "zeroes its whole buffer"
+abbrev supplementRefused : List ℕ → ℕ → ℕ → Case
+supplementRefused lines number line = record { Of = Filled; left = readSupplement store lines lent; right = record { answer = refusedAt number line; buffer = replicate 16_000 0 } }
+
+abbrev force : List ℕ → ℕ → Answer Part → Case
+force supplement law part = record { Of = Answer Part; left = lawInForce store supplement law; right = part }
+
+-- the goal replaced by "always"
+abbrev noGoal : List ℕ
+noGoal = 175 ∷ 3 ∷ 4 ∷ 169 ∷ 42 ∷ []
+
+abbrev judgesUnder : List ℕ → List ℕ → Judgement → Case
+judgesUnder supplement steps j = record { Of = Judgement; left = judgeUnder store supplement steps (replicate 2_080 (pos 7)); right = j }
+
+abbrev lowPrints : List ℕ → List ℕ → Case
+lowPrints input out = record { Of = List ℕ; left = lowWater input; right = out }
+
+-- one law of each kind: A5, A6, A7, A8, A9
+abbrev kinds : List ℕ
+kinds = pool ++ text "A606002A0010012B\nA7012A\nA8012A\nA9012A\n"
+
+abbrev pub supplements : List Case
+supplements =
+    supplementReads (text "AF0304A92A\n") 5 (noGoal ++ replicate 15_995 0)
+    -- the empty text
+    ∷ supplementReads [] 0 (replicate 16_000 0)
+    -- "a store of at least 16,000 bytes": 10, before 15
+    ∷ record { Of = Filled; left = readSupplement [] (text "AF0304A92A\n") (replicate 15_999 7); right = record { answer = refusedAt 10 0; buffer = replicate 15_999 7 } }
+    -- "15 for the domain (line 0)", before the lines
+    ∷ record { Of = Filled; left = readSupplement (store ++ (1 ∷ [])) (text "a") lent; right = record { answer = refusedAt 15 0; buffer = replicate 16_000 0 } }
+    -- 1, and 2
+    ∷ supplementRefused (text "af0304A92A\n") 1 1
+    ∷ supplementRefused (text "AF0404A92A\n") 2 1
+    -- "3 (any kind but AF)", before 4
+    ∷ supplementRefused (text "AF0304A92A\nA9012A\n") 3 2
+    -- "a payload under 3 bytes is 4, not 20"
+    ∷ supplementRefused (text "AF02FFFF\n") 4 1
+    -- "a law number not in the domain"
+    ∷ supplementRefused (text "AF0305A92A\n") 20 1
+    -- "a kind … that differs"
+    ∷ supplementRefused (text "AF0304A82A\n") 20 1
+    -- a kind that is no law's
+    ∷ supplementRefused (text "AF0304A12A\n") 20 1
+    -- "or entry that differs", of A5 and of A6
+    ∷ supplementRefused (text "AF0400A5012A\n") 20 1
+    ∷ supplementRefused (text "AF0802A6012A0010012B\n") 20 1
+    -- "a law number given twice", before 4
+    ∷ supplementRefused (text "AF0304A92A\nAF0304A9FF\n") 20 2
+    -- 3 bytes: the entry differs, and there is no constraint
+    ∷ supplementRefused (text "AF0300A52A\n") 20 1
+    ∷ supplementRefused (text "AF0300A500\n") 4 1
+    -- a byte after the law; code 29 in A9
+    ∷ supplementRefused (text "AF0404A92A2A\n") 4 1
+    ∷ supplementRefused (text "AF0504A9290000\n") 4 1
+    -- two laws, not in the order of their numbers
+    ∷ supplementReads (text "AF0304A92A\nAF0400A5002A\n") 11 (noGoal ++ (175 ∷ 4 ∷ 0 ∷ 165 ∷ 0 ∷ 42 ∷ replicate 15_989 0))
+    -- "in domain or supplement", "its payload alone"
+    ∷ force [] 4 (got (record { stands = inDomain 72; bytes = 37 ∷ 17 ∷ 0 ∷ 0 ∷ 16 ∷ 1 ∷ 24 ∷ [] }))
+    ∷ force noGoal 4 (got (record { stands = inSupplement 4; bytes = 42 ∷ [] }))
+    ∷ force (noGoal ++ (175 ∷ 4 ∷ 0 ∷ 165 ∷ 0 ∷ 42 ∷ 0 ∷ [])) 0 (got (record { stands = inSupplement 9; bytes = 0 ∷ 42 ∷ [] }))
+    ∷ force noGoal 0 (got (record { stands = inDomain 28; bytes = 0 ∷ 36 ∷ 17 ∷ 0 ∷ 0 ∷ 16 ∷ 0 ∷ 220 ∷ [] }))
+    -- "a law asked for that the domain lacks"
+    ∷ force noGoal 5 (refused 20)
+    -- "15, before 20"
+    ∷ force (noGoal ++ (1 ∷ [])) 5 (refused 15)
+    ∷ record { Of = Answer Part; left = lawInForce (store ++ (1 ∷ [])) [] 5; right = refused 15 }
+    -- another domain's: law 4 is an A5 there
+    ∷ force (175 ∷ 3 ∷ 4 ∷ 165 ∷ 42 ∷ []) 0 (refused 15)
+    -- "judging the domain with those laws replaced": without the goal two steps are accepted
+    ∷ judgesUnder noGoal (1 ∷ 0 ∷ 1 ∷ 0 ∷ []) (record { answer = got accepted; levels = pos 300 ∷ pos 286 ∷ pos 272 ∷ replicate 2_077 (pos 7) })
+    ∷ judgesUnder [] (1 ∷ 0 ∷ 1 ∷ 0 ∷ []) (record { answer = got (broken 8 2 4); levels = pos 300 ∷ pos 286 ∷ pos 272 ∷ replicate 2_077 (pos 7) })
+    -- "an empty supplement changes nothing": zeros only
+    ∷ judgesUnder (0 ∷ 0 ∷ 0 ∷ []) (1 ∷ 0 ∷ 1 ∷ 0 ∷ []) (record { answer = got (broken 8 2 4); levels = pos 300 ∷ pos 286 ∷ pos 272 ∷ replicate 2_077 (pos 7) })
+    -- 15 for the supplement before 8, and 10 before 15
+    ∷ judgesUnder (noGoal ++ noGoal) (1 ∷ []) (record { answer = refused 15; levels = replicate 2_080 (pos 7) })
+    ∷ record { Of = Judgement; left = judgeUnder store noGoal (1 ∷ []) (replicate 2_080 (pos 7)); right = record { answer = refused 8; levels = replicate 2_080 (pos 7) } }
+    ∷ record { Of = Judgement; left = judgeUnder [] (1 ∷ []) [] (pos 7 ∷ []); right = record { answer = refused 10; levels = pos 7 ∷ [] } }
+    -- `low_water`
+    ∷ lowPrints (p ++ text "AF0304A92A\nB1020100\nB1020100\n") (text "S 0 300\nS 1 286\nS 2 272\nACCEPTED\n")
+    ∷ lowPrints (p ++ text "B1020100\nB1020100\n") (text "S 0 300\nS 1 286\nS 2 272\nBROKEN 8 2 4\n")
+    ∷ lowPrints (p ++ text "AF0304A92A\n") (text "S 0 300\nACCEPTED\n")
+    -- lines are counted from the input's first
+    ∷ lowPrints (p ++ text "AF0304A92A\nAF0304A92A\nB1020100\n") (text "REFUSED 20 12\n")
+    ∷ lowPrints (p ++ text "AF0304A92A\nB1020100\nB10101\n") (text "REFUSED 8 13\n")
+    -- the domain's refusals, then the supplement's, then the sheet's
+    ∷ lowPrints (text "A10102\nAF02FFFF\nB1\n") (text "REFUSED 7 1\n")
+    ∷ lowPrints (p ++ text "AF02FFFF\nB1\n") (text "REFUSED 4 11\n")
+    -- what starts "AF" in a sheet is a line of the sheet
+    ∷ lowPrints (p ++ text "B1020100\nAF0304A92A\n") (text "REFUSED 3 12\n")
+    -- a law of the domain after the supplement's first line is a line of the supplement
+    ∷ lowPrints (p ++ text "AF0304A92A\nA9012A\n") (text "REFUSED 3 12\n")
+    -- `waroth` takes no supplement
+    ∷ prints (p ++ text "AF0304A92A\nB1020100\n") (text "REFUSED 3 11\n")
+    ∷ lowPrints (replicate 60_001 10) (text "REFUSED 18 0\n")
+    -- each kind replaced
+    ∷ lowPrints (kinds ++ text "B1020100\n") (text "S 0 300\nS 1 299\nACCEPTED\n")
+    ∷ lowPrints (kinds ++ text "AF0500A500282A\nB1020100\n") (text "S 0 300\nBROKEN 2 1 0\n")
+    ∷ lowPrints (kinds ++ text "AF0801A6002A0010012A\nB1020100\n") (text "S 0 300\nS 1 298\nACCEPTED\n")
+    ∷ lowPrints (kinds ++ text "AF0402A7282A\nB1020100\n") (text "BROKEN 6 0 2\n")
+    ∷ lowPrints (kinds ++ text "AF0403A8282A\nB1020100\n") (text "S 0 300\nBROKEN 3 1 3\n")
+    ∷ lowPrints (kinds ++ text "AF0404A9282A\nB1020100\n") (text "S 0 300\nS 1 299\nBROKEN 8 1 4\n")
+    -- the fluent known to nobody in the crew is asked of the law in force
+    ∷ lowPrints (gauge ++ text "A403010003\nA502002A\nAF0A00A50025110100100000\nB103010100\n") (text "S 0 300 1\nBROKEN 2 1 0\n")
+    ∷ []
+
 abbrev pub AllHold : List Case → Type 0
 AllHold [] = Unit {0}
 AllHold (c ∷ l) = (c .left ≡ c .right) × AllHold l
 
-pub shown : AllHold starred × AllHold others × AllHold edges × AllHold sessions × AllHold calls
-unfolding p judgedUnder text any all flat numbers bounded signedWord namedE namedC allowedE allowedC evalE evalC codeOf parseE parseC linesOf digit bytes framed decode occursIn knownTo readable maskFits agentsFit fluentFits knowledgeFits entryFits executableIn effectIn mustIn lawIn itemIn inOrder room fresh checked accept complete takenFrom stepOf stepsFrom eachFrom history holds carries placed permits permitted mayOccur sets settled levelAfter stateAfter inRange landed step carried ran judge digitsOf spaced stateLines split output edited replayed standingSheet edit undo redo turn after replies loggedAll layout openSession readDomain standsAt frameAt framesFrom domainIn start nextFrame writeDomain stepsIn readSheet rows judgeSheet sheetOf verdict digitFor hex lineFor
-shown = ((refl, (refl, (refl, (refl, (refl, (refl, (refl, (refl, (refl, (refl, (refl, (refl, (refl, (refl, (refl, (refl, tt)))))))))))))))), (refl, (refl, (refl, (refl, (refl, (refl, tt)))))), (refl, (refl, (refl, (refl, (refl, (refl, (refl, (refl, (refl, (refl, (refl, (refl, (refl, (refl, (refl, (refl, (refl, (refl, (refl, (refl, (refl, (refl, (refl, (refl, (refl, (refl, (refl, (refl, (refl, (refl, (refl, (refl, (refl, (refl, (refl, (refl, (refl, (refl, (refl, (refl, (refl, (refl, (refl, (refl, (refl, (refl, (refl, (refl, (refl, (refl, (refl, (refl, (refl, (refl, (refl, (refl, (refl, (refl, (refl, tt))))))))))))))))))))))))))))))))))))))))))))))))))))))))))), (refl, (refl, (refl, (refl, (refl, (refl, (refl, (refl, (refl, (refl, tt)))))))))), (refl, (refl, (refl, (refl, (refl, (refl, (refl, (refl, (refl, (refl, (refl, (refl, (refl, tt))))))))))))))
+pub shown : AllHold starred × AllHold others × AllHold edges × AllHold sessions × AllHold calls × AllHold supplements
+unfolding p judgedUnder text any all flat numbers bounded signedWord namedE namedC allowedE allowedC evalE evalC codeOf parseE parseC linesOf digit bytes framed decode occursIn knownTo readable maskFits agentsFit fluentFits knowledgeFits entryFits executableIn effectIn mustIn lawIn itemIn inOrder room fresh checked accept complete takenFrom stepOf stepsFrom eachFrom history holds carries placed permits permitted mayOccur sets settled levelAfter stateAfter inRange landed step carried ran judge digitsOf spaced stateLines split output edited replayed standingSheet edit undo redo turn after replies loggedAll layout openSession readDomain standsAt frameAt framesFrom domainIn start nextFrame writeDomain stepsIn readSheet rows judgeSheet sheetOf verdict digitFor hex lineFor replacementOf inForceFrom replaced replacementIn supplementFrom readSupplement supplementIn judgeUnder lawParts replacementPart lawInForce lowWater
+shown = ((refl, (refl, (refl, (refl, (refl, (refl, (refl, (refl, (refl, (refl, (refl, (refl, (refl, (refl, (refl, (refl, tt)))))))))))))))), (refl, (refl, (refl, (refl, (refl, (refl, tt)))))), (refl, (refl, (refl, (refl, (refl, (refl, (refl, (refl, (refl, (refl, (refl, (refl, (refl, (refl, (refl, (refl, (refl, (refl, (refl, (refl, (refl, (refl, (refl, (refl, (refl, (refl, (refl, (refl, (refl, (refl, (refl, (refl, (refl, (refl, (refl, (refl, (refl, (refl, (refl, (refl, (refl, (refl, (refl, (refl, (refl, (refl, (refl, (refl, (refl, (refl, (refl, (refl, (refl, (refl, (refl, (refl, (refl, (refl, (refl, tt))))))))))))))))))))))))))))))))))))))))))))))))))))))))))), (refl, (refl, (refl, (refl, (refl, (refl, (refl, (refl, (refl, (refl, tt)))))))))), (refl, (refl, (refl, (refl, (refl, (refl, (refl, (refl, (refl, (refl, (refl, (refl, (refl, tt))))))))))))), (refl, (refl, (refl, (refl, (refl, (refl, (refl, (refl, (refl, (refl, (refl, (refl, (refl, (refl, (refl, (refl, (refl, (refl, (refl, (refl, (refl, (refl, (refl, (refl, (refl, (refl, (refl, (refl, (refl, (refl, (refl, (refl, (refl, (refl, (refl, (refl, (refl, (refl, (refl, (refl, (refl, (refl, (refl, (refl, (refl, (refl, (refl, (refl, (refl, (refl, (refl, tt))))))))))))))))))))))))))))))))))))))))))))))))))))

@@ -1,13 +1,13 @@
 -- What the bytes of a law say, kind by kind. Assumes nothing.
-use Prim.Native.Nat.{ℕ, _≤_, _<_}
+use Prim.Native.Nat.{ℕ, _<_}
 use mathlib.Core.Path.{_≡_, refl, sym, ap, _∙_, subst}
 use mathlib.Core.Logic.{_⊎_, inl, inr, ⊎-elim}
-use mathlib.Core.List.{List, [], _∷_, _++_, append-nil}
+use mathlib.Core.List.{List, [], _∷_, _++_}
 use mathlib.Core.Option.{Option, none, some}
 use mathlib.Core.Bool.{Bool, true, false}
 use native.Mathlib.Omega.{arith}
 use lib.Dec.{eqb, ltb}
-use lib.ListN.{length, getD, drop}
+use lib.ListN.{getD, drop}
 use lib.Seq.{drop-append-le}
 use borrow.Author.Tests.{eqb-true, ltb-true}
 use Rattle.bmap.specs.Plain.{if-else}
@@ -105,12 +105,3 @@ spelt n k p more {l} e =
     (by-kind k 0xA7 (eqb k 0xA7) (mustIn static n p) (if-else (eqb k 0xA8) (mustIn concurrency n p) (if-else (eqb k 0xA9) (mustIn goal n p) none)) refl e₂))
     (by-kind k 0xA6 (eqb k 0xA6) (effectIn n p) (if-else (eqb k 0xA7) (mustIn static n p) (if-else (eqb k 0xA8) (mustIn concurrency n p) (if-else (eqb k 0xA9) (mustIn goal n p) none))) refl e₁))
     (by-kind k 0xA5 (eqb k 0xA5) (executableIn n p) (if-else (eqb k 0xA6) (effectIn n p) (if-else (eqb k 0xA7) (mustIn static n p) (if-else (eqb k 0xA8) (mustIn concurrency n p) (if-else (eqb k 0xA9) (mustIn goal n p) none)))) refl e)
-
--- and some payload there is
-pub payload-some : (n : Counts) (k : ℕ) (p : List ℕ) (l : Law) → lawIn n k p ≡ some l → 1 ≤ length p
-payload-some n k p l e = some-byte l (subst (λ (q : List ℕ). Spelt n k q l) (append-nil p) (spelt n k p [] e))
-  where
-    some-byte : (l : Law) → Spelt n k p l → 1 ≤ length p
-    some-byte (executable e c) w = omega (arith, used-c mostDepth p 1 (w .1 .1 .read) .1)
-    some-byte (effect e c f x) w = omega (arith, used-c mostDepth p 1 (w .1 .con .read) .1)
-    some-byte (must s c) w = omega (arith, used-c mostDepth p 0 (w .1 .read) .1, used-c mostDepth p 0 (w .1 .read) .0)

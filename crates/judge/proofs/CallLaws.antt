@@ -1,24 +1,28 @@
 -- The judgement as a call: its refusals in their order, and what it leaves in the levels buffer. Assumes nothing.
 use Prim.Native.Nat.{ℕ, _+_, _*_, _/_, _%_, _≤_, _<_}
-use mathlib.Core.Path.{_≡_, refl}
-use mathlib.Core.List.{List}
+use mathlib.Core.Path.{_≡_, refl, ap}
+use mathlib.Core.List.{List, []}
 use native.Mathlib.Omega.{arith}
 use native.Mathlib.Nat.{div-add-mod'}
+use lib.Dec.{leb}
 use lib.IntN.{ℤ}
 use lib.ListN.{length}
 use borrow.Author.Tests.{eq-eqb, ne-eqb, le-leb, lt-leb}
 use Rattle.bmap.specs.Plain.{flat}
 use Rattle.bmap.specs.Limits.{mostSteps, levelsSize}
-use Rattle.bmap.specs.Refusal.{got, refused, then}
+use Rattle.bmap.specs.Refusal.{Answer, got, refused, need, then}
 use Rattle.bmap.specs.Domain.{Domain}
 use Rattle.bmap.specs.Buffer.{over}
 use Rattle.bmap.specs.Store.{domainIn}
 use Rattle.bmap.specs.Sheet.{rows, sheetOf}
 use Rattle.bmap.specs.Judge.{Judged, judge}
-use Rattle.bmap.specs.Verdict.{judgement, judgeSheet}
-use Rattle.judge.specs.Answer.{statesIn, statesWritten}
-use Rattle.index.specs.declared.Index.{Index}
+use Rattle.bmap.specs.Verdict.{judgement, sheetJudged, judgeSheet}
+use Rattle.bmap.specs.Supplement.{Replacement, replaced, supplementIn, sheetJudgedUnder, judgeUnder}
 use Rattle.index.specs.Index.{domainOf}
+use Rattle.supplement.specs.declared.under.Under.{Under}
+use Rattle.supplement.proofs.Theorems.{empty-changes-nothing}
+use Rattle.judge.specs.Answer.{statesIn, statesWritten, statesWrittenUnder}
+use Rattle.judge.specs.Prepared.{Replacing, inForce}
 
 -- a sheet of whole steps
 pub whole : (l a : ℕ) → l % a ≡ 0 → l ≡ l / a * a
@@ -38,17 +42,44 @@ module _ (d : Domain) (a : ℕ) (sheet : List ℕ) (levels : List ℤ) where
   unfolding sheetOf
   by-steps j l n c e h q p = rw (eq-eqb (length sheet % a) 0 e, le-leb (length sheet / a) mostSteps h, ← q, p) (refl, c)
 
-module _ (store sheet : List ℕ) (levels : List ℤ) where
-  pub call-short : length levels < levelsSize → (record { answer = refused 10; levels = levels } ≡ judgeSheet store sheet levels) × (0 ≡ statesWritten store sheet levels)
-  unfolding judgeSheet statesWritten
+-- ---- the whole call
+
+-- a refusal by the second of two, where the first has something to say to what follows
+refused-second : {A B C : Type 0} (a : Answer A) (f : A → Answer B) (g : A → B → Answer C) {n : ℕ} → then a f ≡ refused n → then a (λ x. then (f x) (g x)) ≡ refused n
+refused-second {A} {B} {C} (refused m) f g {n} e = let q : m ≡ n = cc in ap (λ (k : ℕ). refused k) q
+refused-second {A} {B} {C} (got x) f g {n} e = ap (λ (b : Answer B). then b (g x)) e
+
+module _ (store supplement sheet : List ℕ) (levels : List ℤ) where
+  pub call-short : length levels < levelsSize → (record { answer = refused 10; levels = levels } ≡ judgeUnder store supplement sheet levels) × (0 ≡ statesWrittenUnder store supplement sheet levels)
+  unfolding judgeUnder statesWrittenUnder
   call-short h = rw (lt-leb levelsSize (length levels) h) (refl, refl)
 
-  pub call-none : levelsSize ≤ length levels → domainIn store ≡ refused 15 → (record { answer = refused 15; levels = levels } ≡ judgeSheet store sheet levels) × (0 ≡ statesWritten store sheet levels)
-  unfolding judgeSheet statesWritten
-  call-none h e = rw (le-leb levelsSize (length levels) h, e) (refl, refl)
+  pub call-none : levelsSize ≤ length levels → then (domainIn store) (λ d. supplementIn d supplement) ≡ refused 15
+      → (record { answer = refused 15; levels = levels } ≡ judgeUnder store supplement sheet levels) × (0 ≡ statesWrittenUnder store supplement sheet levels)
+  unfolding judgeUnder statesWrittenUnder
+  call-none h e =
+      let none = refused-second (domainIn store) (λ (d : Domain). supplementIn d supplement) (λ (d : Domain) (s : List Replacement). then (sheetOf (d .agents) sheet) (λ steps. got (judge (replaced s d) steps))) e in
+      rw (le-leb levelsSize (length levels) h, none) (refl, refl)
 
-  pub call-judged : (x : Index) → levelsSize ≤ length levels → domainIn store ≡ got (domainOf store x)
-      → (judgement levels (then (sheetOf (x .counts .agents) sheet) (λ steps. got (judge (domainOf store x) steps))) ≡ judgeSheet store sheet levels)
-      × (statesIn (then (sheetOf (x .counts .agents) sheet) (λ steps. got (judge (domainOf store x) steps))) ≡ statesWritten store sheet levels)
-  unfolding judgeSheet statesWritten domainOf
-  call-judged x h e = rw (le-leb levelsSize (length levels) h, e) (refl, refl)
+  pub call-judged : {u : Under} (here : Replacing store supplement u) → levelsSize ≤ length levels
+      → (judgement levels (then (sheetOf (u .index .counts .agents) sheet) (λ steps. got (judge (inForce here) steps))) ≡ judgeUnder store supplement sheet levels)
+      × (statesIn (then (sheetOf (u .index .counts .agents) sheet) (λ steps. got (judge (inForce here) steps))) ≡ statesWrittenUnder store supplement sheet levels)
+  unfolding judgeUnder statesWrittenUnder domainOf
+  call-judged here h = rw (le-leb levelsSize (length levels) h, here .domain, here .accepted) (refl, refl)
+
+-- "an empty supplement changes nothing"
+module _ (store sheet : List ℕ) (levels : List ℤ) where
+  none-over : (a : Answer Domain) → then a (λ d. then (supplementIn d []) (λ s. then (sheetOf (d .agents) sheet) (λ steps. got (judge (replaced s d) steps)))) ≡ then a (λ d. then (sheetOf (d .agents) sheet) (λ steps. got (judge d steps)))
+  none-over (refused n) = refl
+  none-over (got d) = rw (empty-changes-nothing .accepted d 0, empty-changes-nothing .laws d) refl
+
+  judged-alike : sheetJudgedUnder store [] sheet levels ≡ sheetJudged store sheet levels
+  judged-alike = ap (need (leb levelsSize (length levels)) 10) (none-over (domainIn store))
+
+  pub call-alike : judgeUnder store [] sheet levels ≡ judgeSheet store sheet levels
+  unfolding judgeUnder judgeSheet
+  call-alike = ap (judgement levels) judged-alike
+
+  pub states-alike : statesWrittenUnder store [] sheet levels ≡ statesWritten store sheet levels
+  unfolding statesWrittenUnder statesWritten
+  states-alike = ap statesIn judged-alike

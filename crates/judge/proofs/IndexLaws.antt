@@ -1,26 +1,31 @@
--- The domain of a sound index, as the judge's functions take it for granted. Assumes nothing.
+-- The domain with its laws replaced, of a sound index and a supplement accepted for it, as the judge's functions take it for granted.
+-- Assumes nothing.
 use Prim.Native.Nat.{ℕ, _≤_, _<_}
 use mathlib.Core.Path.{_≡_, refl, sym, ap, _∙_, subst}
+use mathlib.Core.Bool.{true}
 use mathlib.Core.List.{List, [], _∷_, map}
-use mathlib.Core.Option.{some}
 use lib.Dec.{eqb}
 use lib.IntN.{pos}
-use lib.ListN.{length, getD, take, drop}
+use lib.ListN.{length, getD, take}
 use Rattle.bmap.specs.Plain.{numbers}
-use Rattle.law.specs.Evaluate.{heldSize}
-use Rattle.bmap.specs.Domain.{Fluent, Entry, has}
+use Rattle.bmap.specs.Domain.{Domain, Fluent, Entry, has}
 use Rattle.bmap.specs.Payload.{lawIn}
 use Rattle.bmap.specs.Accept.{countsOf}
+use Rattle.bmap.specs.Supplement.{replaced}
 use Rattle.bmap.specs.Judge.{startOf}
 use Rattle.bmap.specs.declared.limits.Counts.{Counts}
 use Rattle.index.specs.declared.Index.{Index}
-use Rattle.index.specs.Index.{fluentAt, knowledgeAt, entryOf, lawBytes, lawOf, lawAt, domainOf, Sound}
+use Rattle.index.specs.Index.{fluentAt, knowledgeAt, entryOf, lawAt, domainOf}
+use Rattle.supplement.specs.declared.under.Under.{Under}
+use Rattle.supplement.specs.Force.{payloadOf}
+use Rattle.supplement.specs.Under.{underIn}
+use Rattle.supplement.proofs.Accepted.{under-ok, length-in-force}
 use Rattle.judge.specs.Masks.{unionFrom}
 use Rattle.judge.specs.Landing.{Ranged}
-use Rattle.judge.specs.Told.{Lawful, Knowing, Held, lawNumber, frameOf}
-use Rattle.judge.specs.Prepared.{Entered}
+use Rattle.judge.specs.Told.{Lawful, Knowing, Held, kindThere, lawNumber, frameOf}
+use Rattle.judge.specs.Prepared.{Entered, Replacing, inForce}
 use Rattle.bmap.proofs.NumbersLaws.{map-length, map-at}
-use Rattle.judge.proofs.CheckLaws.{noLaw, noEntry}
+use Rattle.judge.proofs.CheckLaws.{noEntry}
 use Rattle.judge.proofs.HeldLaws.{held-says}
 use Rattle.judge.proofs.LandingLaws.{noFluent}
 use Rattle.judge.proofs.KnowledgeLaws.{knows-is}
@@ -30,66 +35,71 @@ map-map : {A B C : Type 0} (f : B → C) (g : A → B) (l : List A) → map f (m
 map-map f g [] = refl
 map-map {A} {B} {C} f g (x ∷ l) = ap (λ (t : List C). f (g x) ∷ t) (map-map f g l)
 
-module _ (s : List ℕ) (x : Index) where
+-- what was found, where both are accepted
+pub replacing : (store supplement : List ℕ) {u : Under} → u ≡ underIn store supplement → u .ok ≡ true → Replacing store supplement u
+replacing store supplement {u} e ok =
+    let w = under-ok store supplement (sym (ap (λ (v : Under). v .ok) e) ∙ ok) in
+    subst (λ (v : Under). Replacing store supplement v) (sym e) (record { sound = w .sound; domain = w .domain; replacements = w .replacements; accepted = w .accepted; law = w .law; short = w .short })
+
+-- its agents, fluents, knowledge and entries are those of the index's domain, and so is the number of its laws
+module _ {s supplement : List ℕ} {u : Under} (here : Replacing s supplement u) where
+  abbrev x : Index
+  x = u .index
+
   abbrev n : Counts
   n = x .counts
 
-  counts-are : countsOf (domainOf s x) ≡ x .counts
+  abbrev d : Domain
+  d = inForce here
+
+  law-count : length (d .laws) ≡ n .laws
   unfolding domainOf
+  law-count = length-in-force (here .replacements) (domainOf s x) ∙ map-length (lawAt s x) 0 (n .laws)
+
+  counts-are : countsOf d ≡ n
+  unfolding domainOf replaced
   counts-are =
-      ap (λ (k : ℕ). record { agents = n .agents; fluents = k; knowledge = length (map (knowledgeAt x) (numbers 0 (n .knowledge))); entries = length (map (entryOf x) (numbers 0 (n .entries))); laws = length (map (lawAt s x) (numbers 0 (n .laws))) }) (map-length (fluentAt x) 0 (n .fluents))
-      ∙ (ap (λ (k : ℕ). record { agents = n .agents; fluents = n .fluents; knowledge = k; entries = length (map (entryOf x) (numbers 0 (n .entries))); laws = length (map (lawAt s x) (numbers 0 (n .laws))) }) (map-length (knowledgeAt x) 0 (n .knowledge))
-      ∙ (ap (λ (k : ℕ). record { agents = n .agents; fluents = n .fluents; knowledge = n .knowledge; entries = k; laws = length (map (lawAt s x) (numbers 0 (n .laws))) }) (map-length (entryOf x) 0 (n .entries))
-      ∙ ap (λ (k : ℕ). record { agents = n .agents; fluents = n .fluents; knowledge = n .knowledge; entries = n .entries; laws = k }) (map-length (lawAt s x) 0 (n .laws))))
+      ap (λ (k : ℕ). record { agents = n .agents; fluents = k; knowledge = length (map (knowledgeAt x) (numbers 0 (n .knowledge))); entries = length (map (entryOf x) (numbers 0 (n .entries))); laws = length (d .laws) }) (map-length (fluentAt x) 0 (n .fluents))
+      ∙ (ap (λ (k : ℕ). record { agents = n .agents; fluents = n .fluents; knowledge = k; entries = length (map (entryOf x) (numbers 0 (n .entries))); laws = length (d .laws) }) (map-length (knowledgeAt x) 0 (n .knowledge))
+      ∙ (ap (λ (k : ℕ). record { agents = n .agents; fluents = n .fluents; knowledge = n .knowledge; entries = k; laws = length (d .laws) }) (map-length (entryOf x) 0 (n .entries))
+      ∙ ap (λ (k : ℕ). record { agents = n .agents; fluents = n .fluents; knowledge = n .knowledge; entries = n .entries; laws = k }) law-count))
 
-  law-number : (i : ℕ) → i < n .laws → lawNumber (domainOf s x) i ≡ lawAt s x i
-  unfolding domainOf
-  law-number i h = map-at (lawAt s x) (n .laws) i noLaw h
-
-  law-count : length (domainOf s x .laws) ≡ n .laws
-  unfolding domainOf
-  law-count = map-length (lawAt s x) 0 (n .laws)
-
-  law-says : Sound s x → (i : ℕ) → i < n .laws → lawIn (countsOf (domainOf s x)) (getD (lawBytes s x i) 0 0) (drop 2 (lawBytes s x i)) ≡ some (lawNumber (domainOf s x) i)
-  unfolding lawOf
-  law-says sound i h = ap (λ (c : Counts). lawIn c (getD (lawBytes s x i) 0 0) (drop 2 (lawBytes s x i))) counts-are ∙ (sound .law i h ∙ ap some (sym (law-number i h)))
-
-  pub index-lawful : (held : List ℕ) → Sound s x → length held ≡ heldSize → Held s (x .laws) (n .laws) held → Lawful (domainOf s x) held (n .laws)
-  index-lawful held sound long copied = record {
-    long = long;
+  pub index-lawful : (held : List ℕ) → Held s (x .laws) supplement (u .over) (n .laws) held → Lawful d held (n .laws)
+  index-lawful held copied = record {
+    long = copied .long;
     count = law-count;
-    law = λ i h. held-says (domainOf s x) (lawBytes s x i) (frameOf held i) (lawNumber (domainOf s x) i) (copied i h) (law-says sound i h);
+    law = λ i h. held-says d (payloadOf s (x .laws) supplement (u .over) i) (frameOf held i) (lawNumber d i) (copied .law i h) (ap (λ (c : Counts). lawIn c (kindThere s (x .laws) i) (payloadOf s (x .laws) supplement (u .over) i)) counts-are ∙ here .law i h);
   }
 
-  pub index-ranged : Ranged (domainOf s x) (x .lowest) (x .highest) (n .fluents)
-  unfolding domainOf
+  pub index-ranged : Ranged d (x .lowest) (x .highest) (n .fluents)
+  unfolding domainOf replaced
   index-ranged = record {
     count = map-length (fluentAt x) 0 (n .fluents);
     low = λ f h. ap (λ (y : Fluent). y .lowest) (map-at (fluentAt x) (n .fluents) f noFluent h);
     high = λ f h. ap (λ (y : Fluent). y .highest) (map-at (fluentAt x) (n .fluents) f noFluent h);
   }
 
-  pub index-entered : Entered (domainOf s x) (x .names) (x .crews) (n .entries)
-  unfolding domainOf
+  pub index-entered : Entered d (x .names) (x .crews) (n .entries)
+  unfolding domainOf replaced
   index-entered = refl
 
-  pub index-entries : length (domainOf s x .entries) ≡ n .entries
-  unfolding domainOf
+  pub index-entries : length (d .entries) ≡ n .entries
+  unfolding domainOf replaced
   index-entries = map-length (entryOf x) 0 (n .entries)
 
-  pub index-agents : domainOf s x .agents ≡ n .agents
-  unfolding domainOf
+  pub index-agents : d .agents ≡ n .agents
+  unfolding domainOf replaced
   index-agents = refl
 
-  pub index-started : n .fluents ≤ length (x .start) → startOf (domainOf s x) ≡ take (n .fluents) (x .start)
-  unfolding domainOf
+  pub index-started : n .fluents ≤ length (x .start) → startOf d ≡ take (n .fluents) (x .start)
+  unfolding domainOf replaced
   index-started h = map-map (λ (f : Fluent). f .start) (fluentAt x) (numbers 0 (n .fluents)) ∙ firsts (pos 0) (x .start) (n .fluents) h
 
-  pub index-knowing : (table : List ℕ) → ((f : ℕ) → f < n .fluents → getD table f 0 ≡ unionFrom (λ i. eqb (getD (x .known) i 0) f) (x .knowers) 0 (n .knowledge)) → Knowing (domainOf s x) table (n .fluents) (x .crews) (n .agents)
-  unfolding domainOf
+  pub index-knowing : (table : List ℕ) → ((f : ℕ) → f < n .fluents → getD table f 0 ≡ unionFrom (λ i. eqb (getD (x .known) i 0) f) (x .knowers) 0 (n .knowledge)) → Knowing d table (n .fluents) (x .crews) (n .agents)
+  unfolding domainOf replaced
   index-knowing table e = record {
     fluents = map-length (fluentAt x) 0 (n .fluents);
     count = refl;
-    knowers = λ f a h. ap (λ (m : ℕ). has m a) (e f h) ∙ knows-is (domainOf s x) (x .known) (x .knowers) (n .knowledge) f a refl;
+    knowers = λ f a h. ap (λ (m : ℕ). has m a) (e f h) ∙ knows-is d (x .known) (x .knowers) (n .knowledge) f a refl;
     crew = λ i h. ap (λ (y : Entry). y .crew) (map-at (entryOf x) (n .entries) i noEntry (subst (λ (k : ℕ). i < k) (map-length (entryOf x) 0 (n .entries)) h));
   }

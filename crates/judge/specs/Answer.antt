@@ -9,6 +9,7 @@ use Rattle.bmap.specs.Number.{Valued, value, no-value}
 use Rattle.bmap.specs.Judge.{Pass, pass, fault, Setting, accepted, broken}
 use Rattle.bmap.specs.Judge as paper
 use Rattle.bmap.specs.Verdict.{sheetJudged}
+use Rattle.bmap.specs.Supplement.{sheetJudgedUnder}
 use Rattle.judge.specs.declared.verdict.Fault.{Fault}
 use Rattle.judge.specs.declared.verdict.Fault.the-variants.{Misplaced, Barred, Concurrency, Conflict, Range, Static, NoValue, Goal}
 use Rattle.judge.specs.declared.verdict.Verdict.{Verdict}
@@ -58,3 +59,7 @@ statesIn (got j) = length (j .states)
 -- those of `judgeSheet`: none where it refuses
 unfoldable pub statesWritten : List ℕ → List ℕ → List ℤ → ℕ
 statesWritten store sheet levels = statesIn (sheetJudged store sheet levels)
+
+-- those of `judgeUnder`
+unfoldable pub statesWrittenUnder : List ℕ → List ℕ → List ℕ → List ℤ → ℕ
+statesWrittenUnder store supplement sheet levels = statesIn (sheetJudgedUnder store supplement sheet levels)

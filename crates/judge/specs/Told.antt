@@ -7,7 +7,7 @@ use mathlib.Core.Option.{some}
 use lib.IntN.{ℤ, pos}
 use lib.ListN.{length, getD, take, drop}
 use Rattle.bmap.specs.Plain.{any, if-else}
-use Rattle.bmap.specs.Limits.{mostFluents, mostEntries, mostLaws, frameSize}
+use Rattle.bmap.specs.Limits.{mostFluents, mostEntries, mostLaws, mostPayload, frameSize}
 use Rattle.bmap.specs.Line.{effectKind, staticKind, concurrencyKind, goalKind}
 use Rattle.bmap.specs.Tree.{Con, always}
 use Rattle.bmap.specs.Meaning.{History}
@@ -17,6 +17,7 @@ use Rattle.bmap.specs.Payload.{lawIn, asks}
 use Rattle.bmap.specs.Accept.{countsOf}
 use Rattle.index.specs.Index.{frameBytes}
 use Rattle.law.specs.Evaluate.{heldSize}
+use Rattle.supplement.specs.Force.{payloadOf}
 use Rattle.judge.specs.declared.reading.Runs.{Runs}
 
 -- the parts that the laws of every kind have
@@ -40,7 +41,7 @@ placeOf (executable e c) = 3
 placeOf (effect e c f x) = 3
 placeOf (must s c) = 2
 
--- the bytes start with a frame that is this law
+-- the bytes start with this law: its kind, a byte that says nothing, its payload
 pub record Says (d : Domain) (bytes : List ℕ) (l : Law) : Type 0 where
   pub payload : List ℕ
   pub more : List ℕ
@@ -51,9 +52,25 @@ pub record Says (d : Domain) (bytes : List ℕ) (l : Law) : Type 0 where
 abbrev pub frameOf : List ℕ → ℕ → List ℕ
 frameOf held i = drop (frameSize * i) held
 
--- the frames at these places of a store are held
-abbrev pub Held : List ℕ → List ℕ → ℕ → List ℕ → Type 0
-Held store places n held = (i : ℕ) → i < n → take (length (frameBytes store (getD places i 0))) (frameOf held i) ≡ frameBytes store (getD places i 0)
+-- a kind and a payload, as they are held
+pub record HeldLaw (kind : ℕ) (payload bytes : List ℕ) : Type 0 where
+  pub first : getD bytes 0 0 ≡ kind
+  pub rest : take (length payload) (drop 2 bytes) ≡ payload
+
+-- the kind of law i, which is that of the domain's frame: what stands in for a law has the law's kind
+abbrev pub kindThere : List ℕ → List ℕ → ℕ → ℕ
+kindThere store laws i = getD (frameBytes store (getD laws i 0)) 0 0
+
+-- the first n laws in force are held
+pub record Held (store laws supplement over : List ℕ) (n : ℕ) (held : List ℕ) : Type 0 where
+  pub long : length held ≡ heldSize
+  pub law : (i : ℕ) → i < n → HeldLaw (kindThere store laws i) (payloadOf store laws supplement over i) (frameOf held i)
+
+-- and there is room for them
+pub record Holdable (store laws supplement over : List ℕ) (n : ℕ) (held : List ℕ) : Type 0 where
+  pub long : length held ≡ heldSize
+  pub few : n ≤ mostLaws
+  pub short : (i : ℕ) → i < n → length (payloadOf store laws supplement over i) ≤ mostPayload
 
 -- the held laws are the domain's
 pub record Lawful (d : Domain) (held : List ℕ) (n : ℕ) : Type 0 where

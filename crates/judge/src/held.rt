@@ -1,37 +1,53 @@
-// The laws of a judgement, held where every check reads them: `index::law_at` hands each out once, and its frame stands from
-// then on at a place of its own in an array, which a call takes in a register where a slice goes through memory. Each has room
-// for a whole frame: law l stands at l times that.
+// The laws of a judgement, held where every check reads them: the domain's frame gives a law's kind and `supplement::payload_at`
+// the payload in force, each once, and they stand from then on at a place of their own in an array, which a call takes in a
+// register where a slice goes through memory. Each has room for a whole frame, law l at l times that: its kind, a byte that
+// nothing reads where a frame has its count, and its payload.
 ghost use mathlib.Core.Path.{_≡_};
-ghost use Prim.Native.Nat.{ℕ, _+_, _≤_, _<_};
-ghost use lib.ListN.{length, getD};
+ghost use Prim.Native.Nat.{_+_, _≤_};
+ghost use lib.ListN.{length, set};
 ghost use lib.Seq.{paste};
-ghost use Rattle.bmap.specs.Limits.{mostLaws, frameSize};
 ghost use Rattle.law.specs.Evaluate.{heldSize};
-ghost use Rattle.index.specs.Index.{frameBytes};
-ghost use Rattle.judge.specs.Told.{Held};
+ghost use Rattle.judge.specs.Told.{Held, Holdable};
 use bmap::Counts;
 use bmap::FRAME;
+use index::byte_at;
 use index::law_at;
 use law::HELD;
+use supplement::payload_at;
 
-fn hold(held: &mut [u8; HELD], at: usize, frame: &[u8])
-    requires { ⌜ (length (now held) ≡ heldSize) × (at + length (now frame) ≤ heldSize) ⌝ }
-    ensures { λ _. ⌜ now (held .exit) ≡ paste (now (held .entry)) at (now (frame .entry)) (length (now (frame .entry))) ⌝ }
+fn hold(held: &mut [u8; HELD], at: usize, kind: u8, payload: &[u8])
+    requires { ⌜ (length (now held) ≡ heldSize) × (at + 2 + length (now payload) ≤ heldSize) ⌝ }
+    ensures { λ _. ⌜ now (held .exit) ≡ paste (set (now (held .entry)) at kind) (at + 2) (now (payload .entry)) (length (now (payload .entry))) ⌝ }
 {
+    held[at] = kind;
+    let from = at + 2;
     let mut i = 0;
-    while i < frame.len() {
-        held[at + i] = frame[i];
+    while i < payload.len() {
+        held[from + i] = payload[i];
         i += 1;
     }
 }
 
-pub(crate) fn hold_laws(held: &mut [u8; HELD], store: &[u8], laws: &[u16; Counts::LAWS], n: usize)
-    requires { ⌜ (length (now held) ≡ heldSize) × ((n ≤ mostLaws) × ((i : ℕ) → i < n → length (frameBytes (now store) (getD (now laws) i 0)) ≤ frameSize)) ⌝ }
-    ensures { λ _. ⌜ (length (now (held .exit)) ≡ heldSize) × Held (now (store .entry)) (now (laws .entry)) n (now (held .exit)) ⌝ }
+pub(crate) fn hold_laws<'a>(
+    held: &mut [u8; HELD],
+    store: &'a [u8],
+    laws: &[u16; Counts::LAWS],
+    supplement: &'a [u8],
+    over: &[u16; Counts::LAWS],
+    n: usize,
+)
+    requires { ⌜ Holdable (now store) (now laws) (now supplement) (now over) n (now held) ⌝ }
+    ensures { λ _. ⌜ Held (now (store .entry)) (now (laws .entry)) (now (supplement .entry)) (now (over .entry)) n (now (held .exit)) ⌝ }
 {
     let mut i = 0;
     while i < n {
-        hold(held, FRAME * i, law_at(store, laws, i));
+        let kind = byte_at(law_at(store, laws, i), 0);
+        hold(
+            held,
+            FRAME * i,
+            kind,
+            payload_at(store, laws, supplement, over, i),
+        );
         i += 1;
     }
 }

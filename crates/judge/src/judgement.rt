@@ -1,15 +1,15 @@
-// The judgement of a sheet against a store.
+// The judgement of a sheet against a store, under a supplement or under none.
 ghost use mathlib.Core.Path.{_≡_};
-ghost use Prim.Native.Nat.{_+_, _*_, _≤_};
+ghost use Prim.Native.Nat.{_+_, _≤_};
 ghost use lib.ListN.{length};
 ghost use Rattle.bmap.specs.Limits.{mostSteps, levelsSize};
 ghost use Rattle.bmap.specs.Refusal.{got, then};
 ghost use Rattle.bmap.specs.Sheet.{rows, sheetOf};
+ghost use Rattle.bmap.specs.Supplement.{judgeUnder};
 ghost use Rattle.bmap.specs.Judge.{judge};
 ghost use Rattle.bmap.specs.Verdict.{judgement, judgeSheet};
-ghost use Rattle.index.specs.Index.{domainOf, Sound};
-ghost use Rattle.judge.specs.Answer.{answerOf, statesIn, statesWritten};
-ghost use Rattle.judge.specs.Prepared.{judgedOf};
+ghost use Rattle.judge.specs.Answer.{answerOf, statesIn, statesWritten, statesWrittenUnder};
+ghost use Rattle.judge.specs.Prepared.{judgedOf, Replacing, inForce, Judgeable};
 use crate::held::hold_laws;
 use crate::knowledge::all_knowers;
 use crate::knowledge::all_owners;
@@ -21,29 +21,33 @@ use crate::verdict::Judgement;
 use bmap::LEVELS;
 use bmap::Refusal;
 use bmap::Sheet;
-use domain::index_of;
-use index::Index;
 use law::HELD;
+use supplement::Under;
+use supplement::index_of;
 
-// What the checks need is found once: the laws, who knows what, whose laws count, where those of each kind stand.
-fn judge_steps(
-    store: &[u8],
-    index: Index,
+// What the checks need is found once: the laws in force, who knows what, whose laws count, where those of each kind stand.
+fn judge_steps<'a>(
+    store: &'a [u8],
+    supplement: &'a [u8],
+    under: Under,
     sheet: &[u8],
     n: usize,
     levels: &mut [i16; LEVELS],
 ) -> Ran
-    requires { ⌜ Sound (now store) index × ((n ≤ mostSteps) × ((length (now sheet) ≡ n * index .counts .agents) × (length (now levels) ≡ levelsSize))) ⌝ }
+    requires { ⌜ Judgeable (now store) (now supplement) under (now sheet) n (now levels) ⌝ }
     ensures { λ r. ⌜ ((r .reached ≤ mostSteps + 1) × (length (now (levels .exit)) ≡ levelsSize))
-        × (judgedOf (index .counts .fluents) r (now (levels .exit)) ≡ judge (domainOf (now (store .entry)) index) (rows (index .counts .agents) n (now (sheet .entry)))) ⌝ }
+        × ((here : Replacing (now (store .entry)) (now (supplement .entry)) under)
+        → judgedOf (under .index .counts .fluents) r (now (levels .exit)) ≡ judge (inForce here) (rows (under .index .counts .agents) n (now (sheet .entry)))) ⌝ }
 {
+    let index = under.index;
+    let over = under.over;
     let counts = index.counts;
     let laws = index.laws;
     let known = index.known;
     let knowers = index.knowers;
     let crews = index.crews;
     let mut held = [0u8; HELD];
-    hold_laws(&mut held, store, &laws, counts.laws);
+    hold_laws(&mut held, store, &laws, supplement, &over, counts.laws);
     let table = all_knowers(&known, &knowers, counts.knowledge, counts.fluents);
     let owners = all_owners(
         &held,
@@ -81,14 +85,22 @@ pub struct Counted {
     pub states: usize,
 }
 
-// By an index: "8, 9", then the states go to the caller's buffer once.
-fn judge_by(store: &[u8], index: Index, sheet: &[u8], levels: &mut [i16]) -> Counted
-    requires { ⌜ Sound (now store) index × (levelsSize ≤ length (now levels)) ⌝ }
-    ensures { λ r. ⌜ (record { answer = answerOf (r .judgement); levels = now (levels .exit) }
-        ≡ judgement (now (levels .entry)) (then (sheetOf (index .counts .agents) (now (sheet .entry))) (λ steps. got (judge (domainOf (now (store .entry)) index) steps))))
-        × (r .states ≡ statesIn (then (sheetOf (index .counts .agents) (now (sheet .entry))) (λ steps. got (judge (domainOf (now (store .entry)) index) steps)))) ⌝ }
+// By what was found: "8, 9", then the states go to the caller's buffer once.
+fn judge_by<'a>(
+    store: &'a [u8],
+    supplement: &'a [u8],
+    under: Under,
+    sheet: &[u8],
+    levels: &mut [i16],
+) -> Counted
+    requires { ⌜ Replacing (now store) (now supplement) under × (levelsSize ≤ length (now levels)) ⌝ }
+    ensures { λ r. ⌜ ((here : Replacing (now (store .entry)) (now (supplement .entry)) under)
+        → (record { answer = answerOf (r .judgement); levels = now (levels .exit) }
+        ≡ judgement (now (levels .entry)) (then (sheetOf (under .index .counts .agents) (now (sheet .entry))) (λ steps. got (judge (inForce here) steps))))
+        × (r .states ≡ statesIn (then (sheetOf (under .index .counts .agents) (now (sheet .entry))) (λ steps. got (judge (inForce here) steps))))) ⌝ }
 {
-    let agents = index.counts.agents;
+    let counts = under.index.counts;
+    let agents = counts.agents;
     if sheet.len() % agents != 0 {
         return Counted {
             judgement: Judgement::Refused(Refusal::NotWhole),
@@ -103,8 +115,8 @@ fn judge_by(store: &[u8], index: Index, sheet: &[u8], levels: &mut [i16]) -> Cou
         };
     }
     let mut history = [0i16; LEVELS];
-    let ran = judge_steps(store, index, sheet, n, &mut history);
-    copy_states(&history, ran.reached, index.counts.fluents, levels);
+    let ran = judge_steps(store, supplement, under, sheet, n, &mut history);
+    copy_states(&history, ran.reached, counts.fluents, levels);
     let verdict = ran.verdict;
     Counted {
         judgement: Judgement::Judged(verdict),
@@ -125,19 +137,44 @@ pub fn judge_counted(store: &[u8], sheet: &[u8], levels: &mut [i16]) -> Counted
     ensures { λ r. ⌜ (record { answer = answerOf (r .judgement); levels = now (levels .exit) } ≡ judgeSheet (now (store .entry)) (now (sheet .entry)) (now (levels .entry)))
         × (r .states ≡ statesWritten (now (store .entry)) (now (sheet .entry)) (now (levels .entry))) ⌝ }
 {
+    // "an empty supplement changes nothing"
+    judge_under_counted(store, &store[..0], sheet, levels)
+}
+
+// "Judging with a supplement equals judging the domain with those laws replaced": 15 also for a supplement that is not one for it.
+pub fn judge_under<'a>(
+    store: &'a [u8],
+    supplement: &'a [u8],
+    sheet: &[u8],
+    levels: &mut [i16],
+) -> Judgement
+    ensures { λ r. ⌜ record { answer = answerOf r; levels = now (levels .exit) } ≡ judgeUnder (now (store .entry)) (now (supplement .entry)) (now (sheet .entry)) (now (levels .entry)) ⌝ }
+{
+    let counted = judge_under_counted(store, supplement, sheet, levels);
+    counted.judgement
+}
+
+pub fn judge_under_counted<'a>(
+    store: &'a [u8],
+    supplement: &'a [u8],
+    sheet: &[u8],
+    levels: &mut [i16],
+) -> Counted
+    ensures { λ r. ⌜ (record { answer = answerOf (r .judgement); levels = now (levels .exit) } ≡ judgeUnder (now (store .entry)) (now (supplement .entry)) (now (sheet .entry)) (now (levels .entry)))
+        × (r .states ≡ statesWrittenUnder (now (store .entry)) (now (supplement .entry)) (now (sheet .entry)) (now (levels .entry))) ⌝ }
+{
     if levels.len() < LEVELS {
         return Counted {
             judgement: Judgement::Refused(Refusal::NoRoom),
             states: 0,
         };
     }
-    let found = index_of(store);
-    if !found.ok {
+    let under = index_of(store, supplement);
+    if !under.ok {
         return Counted {
             judgement: Judgement::Refused(Refusal::NotDomain),
             states: 0,
         };
     }
-    let index = found.index;
-    judge_by(store, index, sheet, levels)
+    judge_by(store, supplement, under, sheet, levels)
 }

@@ -3,7 +3,8 @@ use native.Mathlib.Omega.{arith}
 use borrow.Author.Needs.{needs}
 use lib.ListN.{length}
 use Rattle.index.specs.declared.Index.{Index}
-use Rattle.index.specs.Index.{domainOf}
+use Rattle.judge.specs.Told.{Lawful}
+use Rattle.judge.specs.Prepared.{inForce}
 use Rattle.judge.proofs.IndexLaws.{index-lawful, index-ranged, index-entered, index-entries, index-agents, index-started, index-knowing}
 use Rattle.judge.proofs.judgement.judge_steps.Statement.{statement}
 use Rattle.judge.proofs.judgement.judge_steps.Tie as tie
@@ -17,9 +18,8 @@ record Long (x : Index) : Type 0 where
   knowers : length (x .knowers) ≡ 64
   names : length (x .names) ≡ 64
   crews : length (x .crews) ≡ 64
-  laws : length (x .laws) ≡ 128
 
-long : (s : tie.Start) → Long (s .args .index)
+long : (s : tie.Start) → Long (s .args .under .index)
 long s = record {
   lowest = search needs;
   highest = search needs;
@@ -28,50 +28,75 @@ long s = record {
   knowers = search needs;
   names = search needs;
   crews = search needs;
-  laws = search needs;
 }
 
+-- ---- the places, each from the one after it
+
+abbrev start : tie.After-hold-laws → tie.Start
+start c = c .before .before .before .before .before .before .before .before .before .before .before .before .before .before
+
+abbrev held : tie.After-all-knowers → tie.After-hold-laws
+held c = c .before .before .before
+
+abbrev known : tie.After-all-owners → tie.After-all-knowers
+known c = c .before .before .before .before
+
+abbrev owned : tie.After-all-runs → tie.After-all-owners
+owned c = c .before .before .before
+
+abbrev begun : tie.After-all-runs → tie.Start
+begun c = start (held (known (owned c)))
+
 hold-laws-requires : tie.Need-hold-laws-requires
-hold-laws-requires c κs = (search needs, (c .before .before .before .before .before .before .before .before .before .pre .0 .laws, c .before .before .before .before .before .before .before .before .before .pre .0 .short))
+hold-laws-requires c κs = search needs
 
 slice-aggregate-all-knowers : tie.Need-slice-aggregate-all-knowers
-slice-aggregate-all-knowers c = search needs
+slice-aggregate-all-knowers c = sym (long (start (c .before)) .known)
 
 slice-aggregate-all-knowers-2 : tie.Need-slice-aggregate-all-knowers-2
-slice-aggregate-all-knowers-2 c = search needs
+slice-aggregate-all-knowers-2 c = sym (long (start (c .before .before)) .knowers)
 
 all-knowers-requires : tie.Need-all-knowers-requires
-all-knowers-requires c κs = (c .before .before .before .before .before .before .before .before .before .before .before .before .pre .0 .fluents, (omega (arith, c .before .before .before .before .before .before .before .before .before .before .before .before .pre .0 .knowledge, long (c .before .before .before .before .before .before .before .before .before .before .before .before) .known), omega (arith, c .before .before .before .before .before .before .before .before .before .before .before .before .pre .0 .knowledge, long (c .before .before .before .before .before .before .before .before .before .before .before .before) .knowers)))
+all-knowers-requires c κs = let s = start (c .before .before) in let sound = s .pre .here .sound in (sound .fluents, (omega (arith, sound .knowledge, long s .known), omega (arith, sound .knowledge, long s .knowers)))
 
 slice-aggregate-all-owners : tie.Need-slice-aggregate-all-owners
-slice-aggregate-all-owners c = sym (long (c .before .before .before .before .before .before .before .before .before .before .before .before .before .before .before .before) .crews)
+slice-aggregate-all-owners c = sym (long (start (held (c .before .before .before))) .crews)
 
 all-owners-requires : tie.Need-all-owners-requires
-all-owners-requires c κs = (c .before .before .before .before .before .before .before .before .before .before .before .before .before .before .before .before .pre .0 .laws, (c .before .before .before .before .before .before .before .before .before .before .before .before .before .before .before .before .pre .0 .fluents, (c .before .before .before .all-knowers .ensures .0, c .before .before .before .before .before .before .before .before .before .before .before .before .before .before .before .before .pre .0 .agents)))
+all-owners-requires c κs = search needs
 
 all-runs-requires : tie.Need-all-runs-requires
-all-runs-requires c κs = search needs
+all-runs-requires c κs = start (held (known (c .before .before))) .pre .here .sound .laws
 
 run-sheet-requires : tie.Need-run-sheet-requires
-run-sheet-requires c κs = (
-  (c .before .before .before .before .before .before .before .before .before .before .before .before .before .before .before .before .before .before .before .before .before .before .before .before .before .before .before .before .before .before .before .before .pre .1 .0, (((λ i h. omega (arith, c .before .before .before .before .before .before .before .before .before .before .before .before .all-runs .ensures .executable i h .ends, c .before .before .before .before .before .before .before .before .before .before .before .before .before .before .before .before .before .before .before .before .before .before .before .before .before .before .before .before .before .before .before .before .pre .0 .laws), omega (arith, c .before .before .before .before .before .before .before .before .before .before .before .before .all-runs .ensures .effect .ends, c .before .before .before .before .before .before .before .before .before .before .before .before .before .before .before .before .before .before .before .before .before .before .before .before .before .before .before .before .before .before .before .before .pre .0 .laws)), (omega (arith, c .before .before .before .before .before .before .before .before .before .before .before .before .all-runs .ensures .fixed .ends, c .before .before .before .before .before .before .before .before .before .before .before .before .before .before .before .before .before .before .before .before .before .before .before .before .before .before .before .before .before .before .before .before .pre .0 .laws), (omega (arith, c .before .before .before .before .before .before .before .before .before .before .before .before .all-runs .ensures .concurrency .ends, c .before .before .before .before .before .before .before .before .before .before .before .before .before .before .before .before .before .before .before .before .before .before .before .before .before .before .before .before .before .before .before .before .pre .0 .laws), omega (arith, c .before .before .before .before .before .before .before .before .before .before .before .before .all-runs .ensures .goal .ends, c .before .before .before .before .before .before .before .before .before .before .before .before .before .before .before .before .before .before .before .before .before .before .before .before .before .before .before .before .before .before .before .before .pre .0 .laws)))), c .before .before .before .before .before .before .before .before .before .before .before .before .before .before .before .before .before .before .before .before .before .before .before .before .before .before .before .before .before .before .before .before .pre .1 .1 .0)),
-  (
-    (c .before .before .before .before .before .before .before .before .before .before .before .before .before .before .before .before .before .before .before .before .before .before .before .before .before .before .before .before .before .before .before .before .pre .0 .agents, (c .before .before .before .before .before .before .before .before .before .before .before .before .before .before .before .before .before .before .before .before .before .before .before .before .before .before .before .before .before .before .before .before .pre .0 .entries, (omega (arith, c .before .before .before .before .before .before .before .before .before .before .before .before .before .before .before .before .before .before .before .before .before .before .before .before .before .before .before .before .before .before .before .before .pre .0 .entries, long (c .before .before .before .before .before .before .before .before .before .before .before .before .before .before .before .before .before .before .before .before .before .before .before .before .before .before .before .before .before .before .before .before) .names), omega (arith, c .before .before .before .before .before .before .before .before .before .before .before .before .before .before .before .before .before .before .before .before .before .before .before .before .before .before .before .before .before .before .before .before .pre .0 .entries, long (c .before .before .before .before .before .before .before .before .before .before .before .before .before .before .before .before .before .before .before .before .before .before .before .before .before .before .before .before .before .before .before .before) .crews)))),
-    (c .before .before .before .before .before .before .before .before .before .before .before .before .before .before .before .before .before .before .before .before .before .before .before .before .before .before .before .before .before .before .before .before .pre .0 .fluents, ((omega (arith, c .before .before .before .before .before .before .before .before .before .before .before .before .before .before .before .before .before .before .before .before .before .before .before .before .before .before .before .before .before .before .before .before .pre .0 .fluents, long (c .before .before .before .before .before .before .before .before .before .before .before .before .before .before .before .before .before .before .before .before .before .before .before .before .before .before .before .before .before .before .before .before) .lowest), omega (arith, c .before .before .before .before .before .before .before .before .before .before .before .before .before .before .before .before .before .before .before .before .before .before .before .before .before .before .before .before .before .before .before .before .pre .0 .fluents, long (c .before .before .before .before .before .before .before .before .before .before .before .before .before .before .before .before .before .before .before .before .before .before .before .before .before .before .before .before .before .before .before .before) .highest)), (omega (arith, c .before .before .before .before .before .before .before .before .before .before .before .before .before .before .before .before .before .before .before .before .before .before .before .before .before .before .before .before .before .before .before .before .pre .0 .fluents, long (c .before .before .before .before .before .before .before .before .before .before .before .before .before .before .before .before .before .before .before .before .before .before .before .before .before .before .before .before .before .before .before .before) .start), c .before .before .before .before .before .before .before .before .before .before .before .before .before .before .before .before .before .before .before .before .before .before .before .before .before .before .before .before .before .before .before .before .pre .1 .1 .1))),
-  ),
-)
+run-sheet-requires c κs =
+    let ran = c .before .before .before .before .before .before .before .before .before .before .before .before in let s = begun ran in let sound = s .pre .here .sound in let runs = ran .all-runs .ensures in (
+      (
+        s .pre .steps,
+        (
+          ((λ i h. omega (arith, runs .executable i h .ends, sound .laws), omega (arith, runs .effect .ends, sound .laws)), (omega (arith, runs .fixed .ends, sound .laws), (omega (arith, runs .concurrency .ends, sound .laws), omega (arith, runs .goal .ends, sound .laws)))),
+          s .pre .whole,
+        ),
+      ),
+      (
+        (sound .agents, (sound .entries, (omega (arith, sound .entries, long s .names), omega (arith, sound .entries, long s .crews)))),
+        (sound .fluents, ((omega (arith, sound .fluents, long s .lowest), omega (arith, sound .fluents, long s .highest)), (omega (arith, sound .fluents, long s .start), s .pre .room))),
+      ),
+    )
 
 returns : tie.Need-returns
-returns c = let s = c .before .before .before .before .before .before .before .before .before .before .before .before .before .before .before .before .before .before .before .before .before .before .before .before .before .before .before .before .before .before .before .before .before .args in let x = s .index in let d = domainOf (s .store .now) x in (
-  c .run-sheet .ensures .0,
-  c .run-sheet .ensures .1 d (x .counts .laws) (record {
-    lawful = index-lawful (s .store .now) x (c .before .before .before .before .before .before .before .before .before .before .before .before .before .before .before .before .before .before .before .before .before .before .before .hold-laws .last .0) (c .before .before .before .before .before .before .before .before .before .before .before .before .before .before .before .before .before .before .before .before .before .before .before .before .before .before .before .before .before .before .before .before .before .pre .0) (c .before .before .before .before .before .before .before .before .before .before .before .before .before .before .before .before .before .before .before .before .before .before .before .hold-laws .ensures .0) (c .before .before .before .before .before .before .before .before .before .before .before .before .before .before .before .before .before .before .before .before .before .before .before .hold-laws .ensures .1);
-    owned = c .before .before .before .before .before .before .before .before .before .before .before .before .before .before .before .before .all-owners .ensures .1 d (index-lawful (s .store .now) x (c .before .before .before .before .before .before .before .before .before .before .before .before .before .before .before .before .before .before .before .before .before .before .before .hold-laws .last .0) (c .before .before .before .before .before .before .before .before .before .before .before .before .before .before .before .before .before .before .before .before .before .before .before .before .before .before .before .before .before .before .before .before .before .pre .0) (c .before .before .before .before .before .before .before .before .before .before .before .before .before .before .before .before .before .before .before .before .before .before .before .hold-laws .ensures .0) (c .before .before .before .before .before .before .before .before .before .before .before .before .before .before .before .before .before .before .before .before .before .before .before .hold-laws .ensures .1)) (index-knowing (s .store .now) x (c .before .before .before .before .before .before .before .before .before .before .before .before .before .before .before .before .before .before .before .before .all-knowers .result) (c .before .before .before .before .before .before .before .before .before .before .before .before .before .before .before .before .before .before .before .before .all-knowers .ensures .1));
-    ordered = c .before .before .before .before .before .before .before .before .before .before .before .before .before .all-runs .ensures;
-    ranged = index-ranged (s .store .now) x;
-    entries = index-entries (s .store .now) x;
-  }) (index-entered (s .store .now) x) (index-agents (s .store .now) x) (index-started (s .store .now) x (omega (arith, c .before .before .before .before .before .before .before .before .before .before .before .before .before .before .before .before .before .before .before .before .before .before .before .before .before .before .before .before .before .before .before .before .before .pre .0 .fluents, long (c .before .before .before .before .before .before .before .before .before .before .before .before .before .before .before .before .before .before .before .before .before .before .before .before .before .before .before .before .before .before .before .before .before) .start))),
-)
+returns c =
+    let ran = c .before .before .before .before .before .before .before .before .before .before .before .before .before in let s = begun ran in let x = s .args .under .index in let kept = held (known (owned ran)) in (
+      c .run-sheet .ensures .0,
+      λ here. let lawful : Lawful (inForce here) (kept .hold-laws .last .0) (x .counts .laws) = index-lawful here (kept .hold-laws .last .0) (kept .hold-laws .ensures) in
+          c .run-sheet .ensures .1 (inForce here) (x .counts .laws) (record {
+            lawful = lawful;
+            owned = owned ran .all-owners .ensures .1 (inForce here) lawful (index-knowing here (known (owned ran) .all-knowers .result) (known (owned ran) .all-knowers .ensures .1));
+            ordered = ran .all-runs .ensures;
+            ranged = index-ranged here;
+            entries = index-entries here;
+          }) (index-entered here) (index-agents here) (index-started here (omega (arith, s .pre .here .sound .fluents, long s .start))),
+    )
 
 pub judge-steps-spec : {M : Type 1} → statement M
 judge-steps-spec =

@@ -39,13 +39,12 @@ fn judge_steps<'a>(
         × ((here : Replacing (now (store .entry)) (now (supplement .entry)) under)
         → judgedOf (under .index .counts .fluents) r (now (levels .exit)) ≡ judge (inForce here) (rows (under .index .counts .agents) n (now (sheet .entry)))) ⌝ }
 {
-    let index = under.index;
+    let counts = under.index.counts;
+    let laws = under.index.laws;
     let over = under.over;
-    let counts = index.counts;
-    let laws = index.laws;
-    let known = index.known;
-    let knowers = index.knowers;
-    let crews = index.crews;
+    let known = under.index.known;
+    let knowers = under.index.knowers;
+    let crews = under.index.crews;
     let mut held = [0u8; HELD];
     hold_laws(&mut held, store, &laws, supplement, &over, counts.laws);
     let table = all_knowers(&known, &knowers, counts.knowledge, counts.fluents);
@@ -58,10 +57,10 @@ fn judge_steps<'a>(
         counts.agents,
     );
     let runs = all_runs(&held, &owners, counts.laws);
-    let start = index.start;
-    let lowest = index.lowest;
-    let highest = index.highest;
-    let names = index.names;
+    let start = under.index.start;
+    let lowest = under.index.lowest;
+    let highest = under.index.highest;
+    let names = under.index.names;
     run_sheet(
         &held,
         &owners,

@@ -1,7 +1,8 @@
-// Document 01's cases of domain P, through the code: for each sheet the levels written, then the verdict.
+// Document 01's cases of domain P, through the code: for each sheet the levels written, then the verdict; and under supplements.
 // It stands on `judge`, and on `number` for the bytes of a level.
 use bmap::LEVELS;
 use bmap::Sheet;
+use judge::Counted;
 use judge::Judgement;
 use judge::Verdict;
 use libc::STDOUT_FILENO;
@@ -101,6 +102,9 @@ const P: [u8; 91] = [
     0,
 ];
 
+// Law 4, P's goal, replaced by one that is always true.
+const NO_GOAL: [u8; 5] = [0xAF, 3, 4, 0xA9, 0x2A];
+
 // One step more than a sheet may have, of P's two agents.
 const TOO_LONG: usize = (Sheet::STEPS + 1) * 2;
 
@@ -145,11 +149,8 @@ fn print_verdict(verdict: Verdict) {
     }
 }
 
-fn judged(sheet: &[u8]) {
-    let store = P;
-    let mut levels = [0i16; LEVELS];
-    let counted = judge::judge_counted(&store, sheet, &mut levels);
-    print_levels(&levels, counted.states);
+fn print_judged(levels: &[i16], counted: Counted) {
+    print_levels(levels, counted.states);
     let judgement = counted.judgement;
     match judgement {
         Judgement::Refused(refusal) => {
@@ -159,6 +160,20 @@ fn judged(sheet: &[u8]) {
         Judgement::Judged(verdict) => print_verdict(verdict),
     }
     print(b"\n");
+}
+
+fn judged(sheet: &[u8]) {
+    let store = P;
+    let mut levels = [0i16; LEVELS];
+    let counted = judge::judge_counted(&store, sheet, &mut levels);
+    print_judged(&levels, counted);
+}
+
+fn judged_under(supplement: &[u8], sheet: &[u8]) {
+    let store = P;
+    let mut levels = [0i16; LEVELS];
+    let counted = judge::judge_under_counted(&store, supplement, sheet, &mut levels);
+    print_judged(&levels, counted);
 }
 
 fn main() {
@@ -174,4 +189,7 @@ fn main() {
     judged(&[1, 0, 1, 0, 1, 0, 1, 0, 1, 0, 1, 0, 1, 0]);
     judged(&[1, 0, 1]);
     judged(&[0; TOO_LONG]);
+    judged_under(&NO_GOAL, &[1, 0, 1, 0]);
+    judged_under(&none, &[1, 0, 1, 0]);
+    judged_under(&[1], &[1, 0, 1]);
 }

@@ -33,7 +33,7 @@ long s = record {
 -- ---- the places, each from the one after it
 
 abbrev start : tie.After-hold-laws → tie.Start
-start c = c .before .before .before .before .before .before .before .before .before .before .before .before .before .before
+start c = c .before .before .before .before .before .before .before .before .before .before .before .before .before
 
 abbrev held : tie.After-all-knowers → tie.After-hold-laws
 held c = c .before .before .before

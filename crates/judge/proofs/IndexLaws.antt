@@ -15,7 +15,8 @@ use Rattle.bmap.specs.Supplement.{replaced}
 use Rattle.bmap.specs.Judge.{startOf}
 use Rattle.bmap.specs.declared.limits.Counts.{Counts}
 use Rattle.index.specs.declared.Index.{Index}
-use Rattle.index.specs.Index.{fluentAt, knowledgeAt, entryOf, lawAt, domainOf}
+use Rattle.index.specs.Index.{fluentAt, entryOf, domainOf}
+use Rattle.index.proofs.DomainLaws.{counts-are, law-count}
 use Rattle.supplement.specs.declared.under.Under.{Under}
 use Rattle.supplement.specs.Force.{payloadOf}
 use Rattle.supplement.specs.Under.{underIn}
@@ -41,7 +42,7 @@ replacing store supplement {u} e ok =
     let w = under-ok store supplement (sym (ap (λ (v : Under). v .ok) e) ∙ ok) in
     subst (λ (v : Under). Replacing store supplement v) (sym e) (record { sound = w .sound; domain = w .domain; replacements = w .replacements; accepted = w .accepted; law = w .law; short = w .short })
 
--- its agents, fluents, knowledge and entries are those of the index's domain, and so is the number of its laws
+-- its agents, fluents, knowledge and entries are those of the index's domain, and so is the number of its laws: what is replaced is a law
 module _ {s supplement : List ℕ} {u : Under} (here : Replacing s supplement u) where
   abbrev x : Index
   x = u .index
@@ -52,23 +53,17 @@ module _ {s supplement : List ℕ} {u : Under} (here : Replacing s supplement u)
   abbrev d : Domain
   d = inForce here
 
-  law-count : length (d .laws) ≡ n .laws
-  unfolding domainOf
-  law-count = length-in-force (here .replacements) (domainOf s x) ∙ map-length (lawAt s x) 0 (n .laws)
-
-  counts-are : countsOf d ≡ n
-  unfolding domainOf replaced
-  counts-are =
-      ap (λ (k : ℕ). record { agents = n .agents; fluents = k; knowledge = length (map (knowledgeAt x) (numbers 0 (n .knowledge))); entries = length (map (entryOf x) (numbers 0 (n .entries))); laws = length (d .laws) }) (map-length (fluentAt x) 0 (n .fluents))
-      ∙ (ap (λ (k : ℕ). record { agents = n .agents; fluents = n .fluents; knowledge = k; entries = length (map (entryOf x) (numbers 0 (n .entries))); laws = length (d .laws) }) (map-length (knowledgeAt x) 0 (n .knowledge))
-      ∙ (ap (λ (k : ℕ). record { agents = n .agents; fluents = n .fluents; knowledge = n .knowledge; entries = k; laws = length (d .laws) }) (map-length (entryOf x) 0 (n .entries))
-      ∙ ap (λ (k : ℕ). record { agents = n .agents; fluents = n .fluents; knowledge = n .knowledge; entries = n .entries; laws = k }) law-count))
+  counts-in-force : countsOf d ≡ n
+  unfolding replaced
+  counts-in-force =
+      let own = domainOf s x in
+      ap (λ (k : ℕ). record { agents = own .agents; fluents = length (own .fluents); knowledge = length (own .knowledge); entries = length (own .entries); laws = k }) (length-in-force (here .replacements) own) ∙ counts-are s x
 
   pub index-lawful : (held : List ℕ) → Held s (x .laws) supplement (u .over) (n .laws) held → Lawful d held (n .laws)
   index-lawful held copied = record {
     long = copied .long;
-    count = law-count;
-    law = λ i h. held-says d (payloadOf s (x .laws) supplement (u .over) i) (frameOf held i) (lawNumber d i) (copied .law i h) (ap (λ (c : Counts). lawIn c (kindThere s (x .laws) i) (payloadOf s (x .laws) supplement (u .over) i)) counts-are ∙ here .law i h);
+    count = length-in-force (here .replacements) (domainOf s x) ∙ law-count s x;
+    law = λ i h. held-says d (payloadOf s (x .laws) supplement (u .over) i) (frameOf held i) (lawNumber d i) (copied .law i h) (ap (λ (c : Counts). lawIn c (kindThere s (x .laws) i) (payloadOf s (x .laws) supplement (u .over) i)) counts-in-force ∙ here .law i h);
   }
 
   pub index-ranged : Ranged d (x .lowest) (x .highest) (n .fluents)

@@ -20,9 +20,10 @@ use Rattle.bmap.specs.Verdict.{judgement, sheetJudged, judgeSheet}
 use Rattle.bmap.specs.Supplement.{Replacement, replaced, supplementIn, sheetJudgedUnder, judgeUnder}
 use Rattle.index.specs.Index.{domainOf}
 use Rattle.supplement.specs.declared.under.Under.{Under}
+use Rattle.supplement.proofs.Accepted.{UnderIs}
 use Rattle.supplement.proofs.Theorems.{empty-changes-nothing}
 use Rattle.judge.specs.Answer.{statesIn, statesWritten, statesWrittenUnder}
-use Rattle.judge.specs.Prepared.{Replacing, inForce}
+use Rattle.judge.proofs.IndexLaws.{domainHere}
 
 -- a sheet of whole steps
 pub whole : (l a : ℕ) → l % a ≡ 0 → l ≡ l / a * a
@@ -61,9 +62,9 @@ module _ (store supplement sheet : List ℕ) (levels : List ℤ) where
       let none = refused-second (domainIn store) (λ (d : Domain). supplementIn d supplement) (λ (d : Domain) (s : List Replacement). then (sheetOf (d .agents) sheet) (λ steps. got (judge (replaced s d) steps))) e in
       rw (le-leb levelsSize (length levels) h, none) (refl, refl)
 
-  pub call-judged : {u : Under} (here : Replacing store supplement u) → levelsSize ≤ length levels
-      → (judgement levels (then (sheetOf (u .index .counts .agents) sheet) (λ steps. got (judge (inForce here) steps))) ≡ judgeUnder store supplement sheet levels)
-      × (statesIn (then (sheetOf (u .index .counts .agents) sheet) (λ steps. got (judge (inForce here) steps))) ≡ statesWrittenUnder store supplement sheet levels)
+  pub call-judged : {u : Under} (here : UnderIs store supplement u) → levelsSize ≤ length levels
+      → (judgement levels (then (sheetOf (u .index .counts .agents) sheet) (λ steps. got (judge (domainHere here) steps))) ≡ judgeUnder store supplement sheet levels)
+      × (statesIn (then (sheetOf (u .index .counts .agents) sheet) (λ steps. got (judge (domainHere here) steps))) ≡ statesWrittenUnder store supplement sheet levels)
   unfolding judgeUnder statesWrittenUnder domainOf
   call-judged here h = rw (le-leb levelsSize (length levels) h, here .domain, here .accepted) (refl, refl)
 

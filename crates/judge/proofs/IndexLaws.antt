@@ -2,7 +2,6 @@
 -- Assumes nothing.
 use Prim.Native.Nat.{ℕ, _≤_, _<_}
 use mathlib.Core.Path.{_≡_, refl, sym, ap, _∙_, subst}
-use mathlib.Core.Bool.{true}
 use mathlib.Core.List.{List, [], _∷_, map}
 use lib.Dec.{eqb}
 use lib.IntN.{pos}
@@ -11,7 +10,8 @@ use Rattle.bmap.specs.Plain.{numbers}
 use Rattle.bmap.specs.Domain.{Domain, Fluent, Entry, has}
 use Rattle.bmap.specs.Payload.{lawIn}
 use Rattle.bmap.specs.Accept.{countsOf}
-use Rattle.bmap.specs.Supplement.{replaced}
+use Rattle.bmap.specs.Refusal.{got}
+use Rattle.bmap.specs.Supplement.{Replacement, replaced}
 use Rattle.bmap.specs.Judge.{startOf}
 use Rattle.bmap.specs.declared.limits.Counts.{Counts}
 use Rattle.index.specs.declared.Index.{Index}
@@ -19,12 +19,11 @@ use Rattle.index.specs.Index.{fluentAt, entryOf, domainOf}
 use Rattle.index.proofs.DomainLaws.{counts-are, law-count}
 use Rattle.supplement.specs.declared.under.Under.{Under}
 use Rattle.supplement.specs.Force.{payloadOf}
-use Rattle.supplement.specs.Under.{underIn}
-use Rattle.supplement.proofs.Accepted.{under-ok, length-in-force}
+use Rattle.supplement.proofs.Accepted.{UnderIs, under-ok, length-in-force}
 use Rattle.judge.specs.Masks.{unionFrom}
 use Rattle.judge.specs.Landing.{Ranged}
 use Rattle.judge.specs.Told.{Lawful, Knowing, Held, kindThere, lawNumber, frameOf}
-use Rattle.judge.specs.Prepared.{Entered, Replacing, inForce}
+use Rattle.judge.specs.Prepared.{Entered, Accepted, InForce}
 use Rattle.bmap.proofs.NumbersLaws.{map-length, map-at}
 use Rattle.judge.proofs.CheckLaws.{noEntry}
 use Rattle.judge.proofs.HeldLaws.{held-says}
@@ -36,37 +35,41 @@ map-map : {A B C : Type 0} (f : B → C) (g : A → B) (l : List A) → map f (m
 map-map f g [] = refl
 map-map {A} {B} {C} f g (x ∷ l) = ap (λ (t : List C). f (g x) ∷ t) (map-map f g l)
 
--- what was found, where both are accepted
-pub replacing : (store supplement : List ℕ) {u : Under} → u ≡ underIn store supplement → u .ok ≡ true → Replacing store supplement u
-replacing store supplement {u} e ok =
-    let w = under-ok store supplement (sym (ap (λ (v : Under). v .ok) e) ∙ ok) in
-    subst (λ (v : Under). Replacing store supplement v) (sym e) (record { sound = w .sound; domain = w .domain; replacements = w .replacements; accepted = w .accepted; law = w .law; short = w .short })
+-- what a caller of `supplement` has of the two stores
+pub under-is : (store supplement : List ℕ) {u : Under} → Accepted store supplement u → UnderIs store supplement u
+under-is store supplement {u} a = subst (UnderIs store supplement) (sym (a .found)) (under-ok store supplement (sym (ap (λ (v : Under). v .ok) (a .found)) ∙ a .ok))
 
 -- its agents, fluents, knowledge and entries are those of the index's domain, and so is the number of its laws: what is replaced is a law
-module _ {s supplement : List ℕ} {u : Under} (here : Replacing s supplement u) where
+module _ {s supplement : List ℕ} {u : Under} (here : UnderIs s supplement u) where
   abbrev x : Index
   x = u .index
 
   abbrev n : Counts
   n = x .counts
 
-  abbrev d : Domain
-  d = inForce here
+  abbrev pub domainHere : Domain
+  domainHere = replaced (here .replacements) (domainOf s x)
 
-  counts-in-force : countsOf d ≡ n
+  pub in-force : InForce s supplement u domainHere
+  in-force = record { replacements = here .replacements; accepted = here .accepted; is = refl }
+
+  pub only-one : {d : Domain} → InForce s supplement u d → domainHere ≡ d
+  only-one f = let z : got (here .replacements) ≡ got (f .replacements) = sym (here .accepted) ∙ f .accepted in let same : here .replacements ≡ f .replacements = cc in ap (λ (r : List Replacement). replaced r (domainOf s x)) same ∙ f .is
+
+  counts-in-force : countsOf domainHere ≡ n
   unfolding replaced
   counts-in-force =
       let own = domainOf s x in
       ap (λ (k : ℕ). record { agents = own .agents; fluents = length (own .fluents); knowledge = length (own .knowledge); entries = length (own .entries); laws = k }) (length-in-force (here .replacements) own) ∙ counts-are s x
 
-  pub index-lawful : (held : List ℕ) → Held s (x .laws) supplement (u .over) (n .laws) held → Lawful d held (n .laws)
+  pub index-lawful : (held : List ℕ) → Held s (x .laws) supplement (u .over) (n .laws) held → Lawful domainHere held (n .laws)
   index-lawful held copied = record {
     long = copied .long;
     count = length-in-force (here .replacements) (domainOf s x) ∙ law-count s x;
-    law = λ i h. held-says d (payloadOf s (x .laws) supplement (u .over) i) (frameOf held i) (lawNumber d i) (copied .law i h) (ap (λ (c : Counts). lawIn c (kindThere s (x .laws) i) (payloadOf s (x .laws) supplement (u .over) i)) counts-in-force ∙ here .law i h);
+    law = λ i h. held-says domainHere (payloadOf s (x .laws) supplement (u .over) i) (frameOf held i) (lawNumber domainHere i) (copied .law i h) (ap (λ (c : Counts). lawIn c (kindThere s (x .laws) i) (payloadOf s (x .laws) supplement (u .over) i)) counts-in-force ∙ here .law i h);
   }
 
-  pub index-ranged : Ranged d (x .lowest) (x .highest) (n .fluents)
+  pub index-ranged : Ranged domainHere (x .lowest) (x .highest) (n .fluents)
   unfolding domainOf replaced
   index-ranged = record {
     count = map-length (fluentAt x) 0 (n .fluents);
@@ -74,27 +77,27 @@ module _ {s supplement : List ℕ} {u : Under} (here : Replacing s supplement u)
     high = λ f h. ap (λ (y : Fluent). y .highest) (map-at (fluentAt x) (n .fluents) f noFluent h);
   }
 
-  pub index-entered : Entered d (x .names) (x .crews) (n .entries)
+  pub index-entered : Entered domainHere (x .names) (x .crews) (n .entries)
   unfolding domainOf replaced
   index-entered = refl
 
-  pub index-entries : length (d .entries) ≡ n .entries
+  pub index-entries : length (domainHere .entries) ≡ n .entries
   unfolding domainOf replaced
   index-entries = map-length (entryOf x) 0 (n .entries)
 
-  pub index-agents : d .agents ≡ n .agents
+  pub index-agents : domainHere .agents ≡ n .agents
   unfolding domainOf replaced
   index-agents = refl
 
-  pub index-started : n .fluents ≤ length (x .start) → startOf d ≡ take (n .fluents) (x .start)
+  pub index-started : n .fluents ≤ length (x .start) → startOf domainHere ≡ take (n .fluents) (x .start)
   unfolding domainOf replaced
   index-started h = map-map (λ (f : Fluent). f .start) (fluentAt x) (numbers 0 (n .fluents)) ∙ firsts (pos 0) (x .start) (n .fluents) h
 
-  pub index-knowing : (table : List ℕ) → ((f : ℕ) → f < n .fluents → getD table f 0 ≡ unionFrom (λ i. eqb (getD (x .known) i 0) f) (x .knowers) 0 (n .knowledge)) → Knowing d table (n .fluents) (x .crews) (n .agents)
+  pub index-knowing : (table : List ℕ) → ((f : ℕ) → f < n .fluents → getD table f 0 ≡ unionFrom (λ i. eqb (getD (x .known) i 0) f) (x .knowers) 0 (n .knowledge)) → Knowing domainHere table (n .fluents) (x .crews) (n .agents)
   unfolding domainOf replaced
   index-knowing table e = record {
     fluents = map-length (fluentAt x) 0 (n .fluents);
     count = refl;
-    knowers = λ f a h. ap (λ (m : ℕ). has m a) (e f h) ∙ knows-is d (x .known) (x .knowers) (n .knowledge) f a refl;
+    knowers = λ f a h. ap (λ (m : ℕ). has m a) (e f h) ∙ knows-is domainHere (x .known) (x .knowers) (n .knowledge) f a refl;
     crew = λ i h. ap (λ (y : Entry). y .crew) (map-at (entryOf x) (n .entries) i noEntry (subst (λ (k : ℕ). i < k) (map-length (entryOf x) 0 (n .entries)) h));
   }

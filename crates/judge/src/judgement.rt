@@ -4,12 +4,13 @@ ghost use Prim.Native.Nat.{_+_, _≤_};
 ghost use lib.ListN.{length};
 ghost use Rattle.bmap.specs.Limits.{mostSteps, levelsSize};
 ghost use Rattle.bmap.specs.Refusal.{got, then};
+ghost use Rattle.bmap.specs.Domain.{Domain};
 ghost use Rattle.bmap.specs.Sheet.{rows, sheetOf};
 ghost use Rattle.bmap.specs.Supplement.{judgeUnder};
 ghost use Rattle.bmap.specs.Judge.{judge};
 ghost use Rattle.bmap.specs.Verdict.{judgement, judgeSheet};
 ghost use Rattle.judge.specs.Answer.{answerOf, statesIn, statesWritten, statesWrittenUnder};
-ghost use Rattle.judge.specs.Prepared.{judgedOf, Replacing, inForce, Judgeable};
+ghost use Rattle.judge.specs.Prepared.{judgedOf, Accepted, InForce, Judgeable};
 use crate::held::hold_laws;
 use crate::knowledge::all_knowers;
 use crate::knowledge::all_owners;
@@ -36,8 +37,8 @@ fn judge_steps<'a>(
 ) -> Ran
     requires { ⌜ Judgeable (now store) (now supplement) under (now sheet) n (now levels) ⌝ }
     ensures { λ r. ⌜ ((r .reached ≤ mostSteps + 1) × (length (now (levels .exit)) ≡ levelsSize))
-        × ((here : Replacing (now (store .entry)) (now (supplement .entry)) under)
-        → judgedOf (under .index .counts .fluents) r (now (levels .exit)) ≡ judge (inForce here) (rows (under .index .counts .agents) n (now (sheet .entry)))) ⌝ }
+        × ((d : Domain) → InForce (now (store .entry)) (now (supplement .entry)) under d
+        → judgedOf (under .index .counts .fluents) r (now (levels .exit)) ≡ judge d (rows (under .index .counts .agents) n (now (sheet .entry)))) ⌝ }
 {
     let counts = under.index.counts;
     let laws = under.index.laws;
@@ -92,11 +93,11 @@ fn judge_by<'a>(
     sheet: &[u8],
     levels: &mut [i16],
 ) -> Counted
-    requires { ⌜ Replacing (now store) (now supplement) under × (levelsSize ≤ length (now levels)) ⌝ }
-    ensures { λ r. ⌜ ((here : Replacing (now (store .entry)) (now (supplement .entry)) under)
+    requires { ⌜ Accepted (now store) (now supplement) under × (levelsSize ≤ length (now levels)) ⌝ }
+    ensures { λ r. ⌜ ((d : Domain) → InForce (now (store .entry)) (now (supplement .entry)) under d
         → (record { answer = answerOf (r .judgement); levels = now (levels .exit) }
-        ≡ judgement (now (levels .entry)) (then (sheetOf (under .index .counts .agents) (now (sheet .entry))) (λ steps. got (judge (inForce here) steps))))
-        × (r .states ≡ statesIn (then (sheetOf (under .index .counts .agents) (now (sheet .entry))) (λ steps. got (judge (inForce here) steps))))) ⌝ }
+        ≡ judgement (now (levels .entry)) (then (sheetOf (under .index .counts .agents) (now (sheet .entry))) (λ steps. got (judge d steps))))
+        × (r .states ≡ statesIn (then (sheetOf (under .index .counts .agents) (now (sheet .entry))) (λ steps. got (judge d steps))))) ⌝ }
 {
     let counts = under.index.counts;
     let agents = counts.agents;

@@ -3,7 +3,7 @@ use borrow.Author.Needs.{needs}
 use borrow.Author.Tests.{not-false, not-true}
 use Rattle.supplement.specs.declared.under.Under.{Under}
 use Rattle.supplement.proofs.Accepted.{under-none}
-use Rattle.judge.proofs.IndexLaws.{replacing}
+use Rattle.judge.proofs.IndexLaws.{under-is, domainHere, in-force}
 use Rattle.judge.proofs.CallLaws.{call-short, call-none, call-judged}
 use Rattle.judge.proofs.judgement.judge_under_counted.Statement.{statement}
 use Rattle.judge.proofs.judgement.judge_under_counted.Tie as tie
@@ -19,17 +19,18 @@ returns-2 c = let s = c .before .before .before .before .before .before .before 
     call-none (s .store .now) (s .supplement .now) (s .sheet .now) (s .levels .now) (c .before .before .before .if1 .left) (under-none (s .store .now) (s .supplement .now) (sym (ap (λ (u : Under). u .ok) (found .ensures)) ∙ not-true (found .result .ok) (c .if2 .taken)))
 
 judge-by-requires : tie.Need-judge-by-requires
-judge-by-requires c κs = let s = c .before .before .before .before .before .before .before .before .args in let found = c .before .before .before .index-of in
-    (replacing (s .store .now) (s .supplement .now) (found .ensures) (not-false (found .result .ok) (c .before .if2 .left)), c .before .before .before .before .if1 .left)
+judge-by-requires c κs = let found = c .before .before .before .index-of in
+    (record { found = found .ensures; ok = not-false (found .result .ok) (c .before .if2 .left) }, c .before .before .before .before .if1 .left)
 
 same-length : tie.Need-same-length
 same-length c = search needs
 
 returns-3 : tie.Need-returns-3
 returns-3 c = let s = c .before .before .before .before .before .before .before .before .before .before .args in let found = c .before .before .before .before .before .index-of in
-    let here = replacing (s .store .now) (s .supplement .now) (found .ensures) (not-false (found .result .ok) (c .before .before .before .if2 .left)) in
+    let here = under-is (s .store .now) (s .supplement .now) {u = found .result} (record { found = found .ensures; ok = not-false (found .result .ok) (c .before .before .before .if2 .left) }) in
+    let judged = c .before .judge-by .ensures (domainHere here) (in-force here) in
     let called = call-judged (s .store .now) (s .supplement .now) (s .sheet .now) (s .levels .now) here (c .before .before .before .before .before .before .if1 .left) in
-    (c .before .judge-by .ensures here .0 ∙ called .0, c .before .judge-by .ensures here .1 ∙ called .1)
+    (judged .0 ∙ called .0, judged .1 ∙ called .1)
 
 pub judge-under-counted-spec : {M : Type 1} → statement M
 judge-under-counted-spec =

@@ -1,4 +1,4 @@
--- The lines of a text up to a place, and the cut at the first line that starts "B1". Assumes nothing.
+-- The lines of a text up to a place, and the cut at the first line that starts with two characters. Assumes nothing.
 use Prim.Native.Nat.{ℕ, suc, _+_, _≤_, _<_}
 use mathlib.Core.Path.{_≡_, refl, sym, ap, _∙_, subst}
 use mathlib.Core.Bool.{true, false}
@@ -12,10 +12,9 @@ use lib.ListN.{length, take, drop, getD, length-append, length-drop, take-append
 use lib.Seq.{take-all, drop-cons, getD-drop, take-add}
 use borrow.Author.Tests.{eq-eqb, ne-eqb}
 use Rattle.bmap.proofs.PlainLaws.{both-false}
-use Rattle.bmap.specs.Plain.{both}
 use Rattle.bmap.specs.Line.{Line, linesOf, lineFeed, before}
-use Rattle.bmap.specs.Program.{startsSheet, split}
-use Rattle.answer.specs.Cut.{CutIn, feedIn}
+use Rattle.bmap.specs.Program.{Mark, starts, split}
+use Rattle.answer.specs.Cut.{CutIn, startsAt, feedIn}
 
 -- ---- the first line feed
 
@@ -59,46 +58,53 @@ closed-line (c ∷ s) b h =
       | no q ↦ rw (ne-eqb _ _ q) (ap (before c) (closed-line s b (omega (arith, rw (ne-eqb _ _ q) at h))))
     ]
 
--- whether a line starts "B1" is seen at its place in the text
-starts : (s : List ℕ) → startsSheet (take (feedIn s) s) ≡ both (eqb (getD s 0 0) 66) (eqb (getD s 1 0) 49)
+-- ---- the test of the two characters
+
+-- the characters of hex lines come after LF
+abbrev pub Hex : Mark → Type 0
+Hex m = (lineFeed < m .first) × (lineFeed < m .second)
+
+module _ (m : Mark) (s : List ℕ) (at : ℕ) where
+  pub too-short : lineFeed < m .second → length s < at + 2 → false ≡ startsAt m s at
+  too-short g h = rw (List·getD-eq-default s 0 {n = at + 1} (omega arith), ne-eqb 0 (m .second) (λ e. omega arith)) (sym (both-false (eqb (getD s at 0) (m .first))))
+
+  pub not-first : (getD s at 0 ≡ m .first → ⊥) → false ≡ startsAt m s at
+  not-first h = rw (ne-eqb _ _ h)
+
+  pub is-first : getD s at 0 ≡ m .first → eqb (getD s (at + 1) 0) (m .second) ≡ startsAt m s at
+  is-first h = rw (eq-eqb _ _ h)
+
+-- whether a line starts with two characters is seen at its place in the text: neither of them is LF
+seen-first : (m : Mark) → Hex m → (s : List ℕ) → starts m (take (feedIn s) s) ≡ startsAt m s 0
 unfolding feedIn
-starts [] = refl
-starts (c ∷ []) = elim (ℕ-discrete c lineFeed) [ yes q ↦ rw (eq-eqb _ _ q) (sym (both-false (eqb c 66))) | no q ↦ rw (ne-eqb _ _ q) (sym (both-false (eqb c 66))) ]
-starts (c ∷ d ∷ s) =
+seen-first m h [] = too-short m [] 0 (h .1) (omega arith)
+seen-first m h (c ∷ []) = elim (ℕ-discrete c lineFeed) [ yes q ↦ rw (eq-eqb _ _ q) (too-short m (c ∷ []) 0 (h .1) (omega arith)) | no q ↦ rw (ne-eqb _ _ q) (too-short m (c ∷ []) 0 (h .1) (omega arith)) ]
+seen-first m h (c ∷ d ∷ s) =
     elim (ℕ-discrete c lineFeed) [
-      | yes q ↦ rw (eq-eqb _ _ q, ne-eqb c 66 (λ e. omega arith))
+      | yes q ↦ rw (eq-eqb _ _ q, ne-eqb c (m .first) (λ e. omega (arith, h .0)))
       | no q ↦ rw (ne-eqb _ _ q) (elim (ℕ-discrete d lineFeed) [
-        | yes r ↦ rw (eq-eqb _ _ r, ne-eqb d 49 (λ e. omega arith)) (sym (both-false (eqb c 66)))
+        | yes r ↦ rw (eq-eqb _ _ r, ne-eqb d (m .second) (λ e. omega (arith, h .1))) (sym (both-false (eqb c (m .first))))
         | no r ↦ rw (ne-eqb _ _ r)
       ])
     ]
 
--- the test of the two characters
-pub too-short : (s : List ℕ) (at : ℕ) → length s < at + 2 → false ≡ both (eqb (getD s at 0) 66) (eqb (getD s (at + 1) 0) 49)
-too-short s at h = rw (List·getD-eq-default s 0 {n = at + 1} (omega arith)) (sym (both-false (eqb (getD s at 0) 66)))
-
-pub not-b : (s : List ℕ) (at : ℕ) → (getD s at 0 ≡ 66 → ⊥) → false ≡ both (eqb (getD s at 0) 66) (eqb (getD s (at + 1) 0) 49)
-not-b s at h = rw (ne-eqb _ _ h)
-
-pub is-b : (s : List ℕ) (at : ℕ) → getD s at 0 ≡ 66 → eqb (getD s (at + 1) 0) 49 ≡ both (eqb (getD s at 0) 66) (eqb (getD s (at + 1) 0) 49)
-is-b s at h = rw (eq-eqb _ _ h)
-
 -- ---- the lines before a place
 
--- lines that none of which starts the sheet
-abbrev pub Skips : List Line → Type 0
-Skips d = (m : List Line) → (split (d ++ m) .domain ≡ d ++ split m .domain) × (split (d ++ m) .sheet ≡ split m .sheet)
+-- lines none of which starts so
+abbrev pub Skips : Mark → List Line → Type 0
+Skips m d = (rest : List Line) → (split m (d ++ rest) .before ≡ d ++ split m rest .before) × (split m (d ++ rest) .from ≡ split m rest .from)
 
--- the text up to a place ends with its lines, and none of them starts the sheet
-pub record Before (input : List ℕ) (at lines : ℕ) : Type 0 where
+-- the text up to a place ends with its lines, and none of them starts so
+pub record Before (m : Mark) (input : List ℕ) (at lines : ℕ) : Type 0 where
+  pub hex : Hex m
   pub within : at ≤ length input
   pub closed : (b : List ℕ) → linesOf (take at input ++ b) ≡ linesOf (take at input) ++ linesOf b
-  pub skips : Skips (linesOf (take at input))
+  pub skips : Skips m (linesOf (take at input))
   pub count : lines ≡ length (linesOf (take at input))
 
-pub nothing-before : (input : List ℕ) → Before input 0 0
+pub nothing-before : (m : Mark) (input : List ℕ) → Hex m → Before m input 0 0
 unfolding linesOf
-nothing-before input = record { within = omega arith; closed = λ b. refl; skips = λ m. (refl, refl); count = refl }
+nothing-before m input h = record { hex = h; within = omega arith; closed = λ b. refl; skips = λ rest. (refl, refl); count = refl }
 
 -- the first line of a text
 record First (s : List ℕ) : Type 0 where
@@ -126,29 +132,29 @@ first s h =
           }
     ]
 
--- a line that does not start the sheet is the domain's
-skip-one : (l : Line) → startsSheet (l .digits) ≡ false → Skips (l ∷ [])
+-- a line that does not start so is skipped
+skip-one : (m : Mark) (l : Line) → starts m (l .digits) ≡ false → Skips m (l ∷ [])
 unfolding split
-skip-one l t m = (rw t, rw t)
+skip-one m l t rest = (rw t, rw t)
 
-skip-more : (d : List Line) (l : Line) → Skips d → Skips (l ∷ []) → Skips (d ++ (l ∷ []))
-skip-more d l f g m = rw (append-assoc d (l ∷ []) m) (f (l ∷ m) .0 ∙ ap (λ r. d ++ r) (g m .0) ∙ sym (append-assoc d (l ∷ []) _), f (l ∷ m) .1 ∙ g m .1)
+skip-more : (m : Mark) (d : List Line) (l : Line) → Skips m d → Skips m (l ∷ []) → Skips m (d ++ (l ∷ []))
+skip-more m d l f g rest = rw (append-assoc d (l ∷ []) rest) (f (l ∷ rest) .0 ∙ ap (λ r. d ++ r) (g rest .0) ∙ sym (append-assoc d (l ∷ []) _), f (l ∷ rest) .1 ∙ g rest .1)
 
-module _ {input : List ℕ} {at lines : ℕ} (x : Before input at lines) where
+module _ {m : Mark} {input : List ℕ} {at lines : ℕ} (x : Before m input at lines) where
   whole : linesOf input ≡ linesOf (take at input) ++ linesOf (drop at input)
   whole = ap linesOf (sym (take-append-drop at input)) ∙ x .closed (drop at input)
 
-  close : split (linesOf (drop at input)) .domain ≡ [] → split (linesOf (drop at input)) .sheet ≡ linesOf (drop at input) → CutIn input at lines
+  close : split m (linesOf (drop at input)) .before ≡ [] → split m (linesOf (drop at input)) .from ≡ linesOf (drop at input) → CutIn m input at lines
   close d s =
-      let domain : linesOf (take at input) ≡ split (linesOf input) .domain = sym (rw (whole, x .skips (linesOf (drop at input)) .0, d) (append-nil _)) in
+      let here : linesOf (take at input) ≡ split m (linesOf input) .before = sym (rw (whole, x .skips (linesOf (drop at input)) .0, d) (append-nil _)) in
       record {
         within = x .within;
-        domain = domain;
-        sheet = sym (rw whole (x .skips (linesOf (drop at input)) .1 ∙ s));
-        before = x .count ∙ ap length domain;
+        before = here;
+        from = sym (rw whole (x .skips (linesOf (drop at input)) .1 ∙ s));
+        count = x .count ∙ ap length here;
       }
 
-  pub cut-end : length input ≤ at → CutIn input at lines
+  pub cut-end : length input ≤ at → CutIn m input at lines
   unfolding split linesOf
   cut-end g = close (rw (drop-of-length-le input g)) (rw (drop-of-length-le input g))
 
@@ -156,37 +162,37 @@ module _ {input : List ℕ} {at lines : ℕ} (x : Before input at lines) where
     some : 0 < length (drop at input)
     some = rw (length-drop at input) (omega arith)
 
-    mark : startsSheet (take (feedIn (drop at input)) (drop at input)) ≡ both (eqb (getD input at 0) 66) (eqb (getD input (at + 1) 0) 49)
-    mark = starts (drop at input) ∙ rw (getD-drop at input 0 0, getD-drop at input 1 0, add-zero at)
+    seen : starts m (take (feedIn (drop at input)) (drop at input)) ≡ startsAt m input at
+    seen = seen-first m (x .hex) (drop at input) ∙ rw (getD-drop at input 0 0, getD-drop at input 1 0, add-zero at)
 
-    -- the rest begins the sheet
-    pub cut-here : both (eqb (getD input at 0) 66) (eqb (getD input (at + 1) 0) 49) ≡ true → CutIn input at lines
+    -- the part begins here
+    pub cut-here : startsAt m input at ≡ true → CutIn m input at lines
     unfolding split
     cut-here t =
         let f : First (drop at input) = first (drop at input) some in
-        let s : startsSheet (f .line .digits) ≡ true = ap startsSheet (f .digits) ∙ mark ∙ t in
+        let s : starts m (f .line .digits) ≡ true = ap (starts m) (f .digits) ∙ seen ∙ t in
         close (rw (f .lines, s)) (rw (f .lines, s))
 
-    module _ (t : both (eqb (getD input at 0) 66) (eqb (getD input (at + 1) 0) 49) ≡ false) where
+    module _ (t : startsAt m input at ≡ false) where
       -- the rest is one line without LF
-      open-end : at + feedIn (drop at input) ≡ length input → CutIn input (length input) (lines + 1)
+      open-end : at + feedIn (drop at input) ≡ length input → CutIn m input (length input) (lines + 1)
       unfolding split linesOf
       open-end e =
           let all : feedIn (drop at input) ≡ length (drop at input) = rw (length-drop at input) (omega arith) in
           let l : Line = record { digits = drop at input; ended = false } in
           let only : linesOf (drop at input) ≡ l ∷ [] = open-line (drop at input) some all in
-          let s : startsSheet (drop at input) ≡ false = ap startsSheet (sym (take-all (feedIn (drop at input)) (drop at input) (omega arith))) ∙ mark ∙ t in
-          let k : Skips (linesOf (take at input) ++ (l ∷ [])) = skip-more (linesOf (take at input)) l (x .skips) (skip-one l s) in
+          let s : starts m (drop at input) ≡ false = ap (starts m) (sym (take-all (feedIn (drop at input)) (drop at input) (omega arith))) ∙ seen ∙ t in
+          let k : Skips m (linesOf (take at input) ++ (l ∷ [])) = skip-more m (linesOf (take at input)) l (x .skips) (skip-one m l s) in
           let now : linesOf input ≡ (linesOf (take at input) ++ (l ∷ [])) ++ [] = whole ∙ ap (λ r. linesOf (take at input) ++ r) only ∙ sym (append-nil _) in
-          let domain : linesOf input ≡ split (linesOf input) .domain = now ∙ sym (ap (λ r. split r .domain) now ∙ k [] .0) in
+          let here : linesOf input ≡ split m (linesOf input) .before = now ∙ sym (ap (λ r. split m r .before) now ∙ k [] .0) in
           record {
             within = omega arith;
-            domain = ap linesOf (take-all (length input) input (omega arith)) ∙ domain;
-            sheet = rw (drop-of-length-le input {i = length input} (omega arith)) (sym (ap (λ r. split r .sheet) now ∙ k [] .1));
-            before = rw (x .count) (sym (ap length (sym domain ∙ now ∙ append-nil (linesOf (take at input) ++ (l ∷ []))) ∙ length-append (linesOf (take at input)) (l ∷ [])));
+            before = ap linesOf (take-all (length input) input (omega arith)) ∙ here;
+            from = rw (drop-of-length-le input {i = length input} (omega arith)) (sym (ap (λ r. split m r .from) now ∙ k [] .1));
+            count = rw (x .count) (sym (ap length (sym here ∙ now ∙ append-nil (linesOf (take at input) ++ (l ∷ []))) ∙ length-append (linesOf (take at input)) (l ∷ [])));
           }
 
-      next-line : at + feedIn (drop at input) < length input → Before input (at + feedIn (drop at input) + 1) (lines + 1)
+      next-line : at + feedIn (drop at input) < length input → Before m input (at + feedIn (drop at input) + 1) (lines + 1)
       unfolding linesOf
       next-line e =
           let k : ℕ = feedIn (drop at input) in
@@ -198,18 +204,19 @@ module _ {input : List ℕ} {at lines : ℕ} (x : Before input at lines) where
           let part : take (at + k + 1) input ≡ a ++ new = ap (λ n. take n input) size ∙ take-add at (suc k) input in
           let now : linesOf (a ++ new) ≡ linesOf a ++ (l ∷ []) = x .closed new ∙ ap (λ r. linesOf a ++ r) (ap linesOf (sym (append-nil new)) ∙ closed-line (drop at input) [] short) in
           record {
+            hex = x .hex;
             within = omega arith;
             closed = λ b. rw part (ap linesOf (append-assoc a new b) ∙ x .closed (new ++ b) ∙ ap (λ r. linesOf a ++ r) (closed-line (drop at input) b short) ∙ sym (ap (λ r. r ++ linesOf b) now ∙ append-assoc (linesOf a) (l ∷ []) (linesOf b)));
-            skips = rw (part, now) (skip-more (linesOf a) l (x .skips) (skip-one l (mark ∙ t)));
+            skips = rw (part, now) (skip-more m (linesOf a) l (x .skips) (skip-one m l (seen ∙ t)));
             count = rw (part, now, length-append (linesOf a) (l ∷ []), x .count);
           }
 
       module _ {feed : ℕ} (f : feed ≡ at + feedIn (drop at input)) where
-        pub cut-open : feed ≡ length input → CutIn input feed (lines + 1)
-        cut-open e = subst (λ n. CutIn input n (lines + 1)) (sym e) (open-end (sym f ∙ e))
+        pub cut-open : feed ≡ length input → CutIn m input feed (lines + 1)
+        cut-open e = subst (λ n. CutIn m input n (lines + 1)) (sym e) (open-end (sym f ∙ e))
 
-        pub one-more : (feed ≡ length input → ⊥) → Before input (feed + 1) (lines + 1)
-        one-more e = subst (λ n. Before input (n + 1) (lines + 1)) (sym f) (next-line (within-line e))
+        pub one-more : (feed ≡ length input → ⊥) → Before m input (feed + 1) (lines + 1)
+        one-more e = subst (λ n. Before m input (n + 1) (lines + 1)) (sym f) (next-line (within-line e))
           where
             within-line : (feed ≡ length input → ⊥) → at + feedIn (drop at input) < length input
             within-line e = elim (decLt (at + feedIn (drop at input)) (length input)) [ yes g ↦ g | no g ↦ absurd (e (omega (arith, feed-most (drop at input), length-drop at input))) ]

@@ -2,3 +2,5 @@ pub mod PutLaws
 pub mod CutLaws
 pub mod StatesLaws
 pub mod ProgramLaws
+pub mod LowWaterLaws
+pub mod Theorems

@@ -12,20 +12,20 @@ use lib.Seq.{sets-eq, take-all}
 use borrow.Author.Tests.{le-leb, lt-leb}
 use Rattle.bmap.specs.Plain.{if-else, flat, text}
 use Rattle.bmap.specs.Limits.{mostAgents, mostFluents, levelsSize, storeSize, sheetSize, mostInput}
-use Rattle.bmap.specs.Refusal.{got, numberOf, Reading, read, refusedAt}
+use Rattle.bmap.specs.Refusal.{got, numberOf, Reading, read, refusedAt, afterwards}
 use Rattle.bmap.specs.declared.refusal.Refusal.{Refusal}
 use Rattle.bmap.specs.declared.limits.Counts.{Counts}
 use Rattle.bmap.specs.Line.{Line, linesOf, decode, lineFeed, before}
 use Rattle.bmap.specs.Domain.{Domain, Names, State}
 use Rattle.bmap.specs.Accept.{countsOf, taken}
-use Rattle.bmap.specs.Buffer.{over}
+use Rattle.bmap.specs.Buffer.{over, Filling, filled}
 use Rattle.bmap.specs.Store.{domainIn, reading, readDomain}
 use Rattle.bmap.specs.Sheet.{rows, sheetOf, stepsFrom, readSheet}
 use Rattle.bmap.specs.Judge.{judge}
 use Rattle.bmap.specs.Judge as paper
-use Rattle.bmap.specs.Verdict.{judgeSheet}
+use Rattle.bmap.specs.Supplement.{Replacement, replaced, supplementIn, judgeUnder}
 use Rattle.bmap.specs.Verdict as call
-use Rattle.bmap.specs.Program.{decimal, lineOf, stateLines, lastLine, judgedText, refusedText, split, judgedBy, answeredBy, output}
+use Rattle.bmap.specs.Program.{decimal, lineOf, stateLines, lastLine, judgedText, refusedText, Mark, Parts, split, sheetMark, judgedBy, answeredBy, output}
 use Rattle.domain.specs.Read as domains
 use Rattle.domain.specs.Found.{indexWith, foundIn}
 use Rattle.domain.specs.declared.found.Found.{Found}
@@ -38,12 +38,13 @@ use Rattle.sheet.specs.Step.{agentsAllowed, outcome}
 use Rattle.sheet.specs.declared.reader.ReadSheet.{ReadSheet}
 use Rattle.sheet.specs.declared.reader.ReadSheet.the-variants.{Read, Refused}
 use Rattle.sheet.proofs.RoundTrip.{rows-front, Kept, kept, Turned, turned}
-use Rattle.judge.specs.Answer.{kindOf, verdictOf, answerOf, statesWritten}
+use Rattle.judge.specs.Answer.{kindOf, verdictOf, answerOf, statesWrittenUnder}
 use Rattle.judge.specs.declared.verdict.Fault.{Fault}
 use Rattle.judge.specs.declared.verdict.Verdict.{Verdict}
 use Rattle.judge.specs.declared.verdict.Verdict.the-variants.{Accepted, Broken}
 use Rattle.judge.specs.declared.verdict.Judgement.{Judgement}
 use Rattle.judge.specs.declared.verdict.Judgement.the-variants as said
+use Rattle.supplement.proofs.Theorems.{empty-changes-nothing}
 use Rattle.answer.specs.Put.{Put}
 use Rattle.answer.specs.Cut.{CutIn}
 use Rattle.answer.specs.Room.{outputSize}
@@ -69,34 +70,38 @@ module _ {buffer new : List ℕ} {at p : ℕ} (v : Verdict) where
 pub product-most : (n w : ℕ) {most width size : ℕ} → n ≤ most → w ≤ width → most * width ≡ size → n * w ≤ size
 product-most n w {most} {width} h g e = omega (arith, mul-le-mul-right w h, mul-le-mul-right most g, mul-comm most w, mul-comm most width)
 
-module _ (store sheet : List ℕ) (levels : List ℤ) {after : List ℤ} (j : Judgement) {states : ℕ}
-    (told : (record { answer = answerOf j; levels = after } ≡ judgeSheet store sheet levels) × (states ≡ statesWritten store sheet levels)) (room : length levels ≡ levelsSize)
-    (d : Domain) (steps : List Names) (domain : domainIn store ≡ got d) where
-  module _ (whole : sheetOf (d .agents) sheet ≡ got steps) where
-    judged : _≡_ {A = call.Judgement} (record { answer = answerOf j; levels = after }) (record { answer = got (judge d steps .verdict); levels = over (flat (judge d steps .states)) levels })
-    unfolding judgeSheet
-    judged = told .0 ∙ simp (le-leb levelsSize (length levels) (omega (arith, room)), domain, whole)
+module _ (store supplement sheet : List ℕ) (levels : List ℤ) {after : List ℤ} (j : Judgement) {states : ℕ}
+    (told : (record { answer = answerOf j; levels = after } ≡ judgeUnder store supplement sheet levels) × (states ≡ statesWrittenUnder store supplement sheet levels)) (room : length levels ≡ levelsSize)
+    (d : Domain) (s : List Replacement) (steps : List Names) (domain : domainIn store ≡ got d) (accepted : supplementIn d supplement ≡ got s) where
+  abbrev expected : paper.Judged
+  expected = judge (replaced s d) steps
 
-    counted : states ≡ length (judge d steps .states)
-    unfolding statesWritten
-    counted = told .1 ∙ simp (le-leb levelsSize (length levels) (omega (arith, room)), domain, whole)
+  module _ (whole : sheetOf (d .agents) sheet ≡ got steps) where
+    judged : _≡_ {A = call.Judgement} (record { answer = answerOf j; levels = after }) (record { answer = got (expected .verdict); levels = over (flat (expected .states)) levels })
+    unfolding judgeUnder
+    judged = told .0 ∙ simp (le-leb levelsSize (length levels) (omega (arith, room)), domain, accepted, whole)
+
+    counted : states ≡ length (expected .states)
+    unfolding statesWrittenUnder
+    counted = told .1 ∙ simp (le-leb levelsSize (length levels) (omega (arith, room)), domain, accepted, whole)
 
     -- the states written are those of the judgement
-    written : {fluents : ℕ} → fluents ≡ length (d .fluents) → rows fluents states after ≡ judge d steps .states
+    written : {fluents : ℕ} → fluents ≡ length (d .fluents) → rows fluents states after ≡ expected .states
+    unfolding replaced
     written {fluents} e =
         ap (λ (w : ℕ). rows w states after) e ∙ ap (λ (n : ℕ). rows (length (d .fluents)) n after) counted
-        ∙ ap (λ (x : call.Judgement). rows (length (d .fluents)) (length (judge d steps .states)) (x .levels)) judged
-        ∙ rows-front (length (d .fluents)) (drop (length (flat (judge d steps .states))) levels) (judge-reached d steps .whole)
+        ∙ ap (λ (x : call.Judgement). rows (length (d .fluents)) (length (expected .states)) (x .levels)) judged
+        ∙ rows-front (length (d .fluents)) (drop (length (flat (expected .states))) levels) (judge-reached (replaced s d) steps .whole)
 
-    verdict-is : (v : Verdict) → j ≡ said.Judged v → verdictOf v ≡ judge d steps .verdict
-    verdict-is v e = let q : answerOf j ≡ got (judge d steps .verdict) = ap (λ (x : call.Judgement). x .answer) judged in cc
+    verdict-is : (v : Verdict) → j ≡ said.Judged v → verdictOf v ≡ expected .verdict
+    verdict-is v e = let q : answerOf j ≡ got (expected .verdict) = ap (λ (x : call.Judgement). x .answer) judged in cc
 
     pub refused-not : (r : Refusal) → j ≡ said.Refused r → ⊥
-    refused-not r e = let q : answerOf j ≡ got (judge d steps .verdict) = ap (λ (x : call.Judgement). x .answer) judged in let z : _≡_ {A = ℕ} 0 1 = cc in omega arith
+    refused-not r e = let q : answerOf j ≡ got (expected .verdict) = ap (λ (x : call.Judgement). x .answer) judged in let z : _≡_ {A = ℕ} 0 1 = cc in omega arith
 
   module _ {out mid new : List ℕ} {p q fluents : ℕ} (e : fluents ≡ length (d .fluents)) (whole : sheetOf (d .agents) sheet ≡ got steps) where
     pub judged-text : (v : Verdict) → j ≡ said.Judged v → Put out 0 (stateLines 0 (rows fluents states after)) p mid → Put mid p (lastLine (verdictOf v)) q new
-        → Put out 0 (judgedText (judge d steps)) q new
+        → Put out 0 (judgedText expected) q new
     judged-text v g x y =
         put-then (subst (λ (l : List State). Put out 0 (stateLines 0 l) p mid) (written whole e) x)
         (subst (λ (w : paper.Verdict). Put mid p (lastLine w) q new) (verdict-is whole v g) y)
@@ -161,100 +166,111 @@ module _ (store : List ℕ) {found : Found} (is : found ≡ foundIn store) where
     pub used-most : (n : ℕ) → answer ≡ Read n → n * counts .agents ≤ sheetSize
     used-most n e = product-most n (counts .agents) (kept-at n e .few) (counts-small .0) refl
 
-    module _ {out new : List ℕ} {q : ℕ} (lines : ℕ) (d : Domain) (domain : domainIn store ≡ got d) where
+    module _ {out new : List ℕ} {q : ℕ} (lines : ℕ) (d : Domain) (l : List Replacement) (domain : domainIn store ≡ got d) where
       pub sheet-refused : {number line : ℕ} (r : Refusal) → answer ≡ Refused r line → number ≡ numberOf r → Put out 0 (refusedText number (lines + line)) q new
-          → Put out 0 (judgedBy d lines (stepsFrom (d .agents) [] (map decode (linesOf s)))) q new
+          → Put out 0 (judgedBy (replaced l d) lines (stepsFrom (d .agents) [] (map decode (linesOf s)))) q new
       sheet-refused {number} {line} r e k x =
           let goes : outcome (d .agents) s ≡ refusedAt (numberOf r) line = subst (λ (a : ℕ). outcome a s ≡ refusedAt (numberOf r) line) (agents-are d domain) (turned-at r line e .goes (agents-fit d domain)) in
-          subst (λ (o : Reading (List Names)). Put out 0 (judgedBy d lines o) q new) (sym goes) (subst (λ (m : ℕ). Put out 0 (refusedText m (lines + line)) q new) k x)
+          subst (λ (o : Reading (List Names)). Put out 0 (judgedBy (replaced l d) lines o) q new) (sym goes) (subst (λ (m : ℕ). Put out 0 (refusedText m (lines + line)) q new) k x)
 
-      pub sheet-judged : (n : ℕ) → answer ≡ Read n
-          → ((d : Domain) (steps : List Names) → domainIn store ≡ got d → counts .fluents ≡ length (d .fluents) → sheetOf (d .agents) (take (n * counts .agents) after) ≡ got steps → Put out 0 (judgedText (judge d steps)) q new)
-          → Put out 0 (judgedBy d lines (stepsFrom (d .agents) [] (map decode (linesOf s)))) q new
-      sheet-judged n e judges =
+      pub sheet-judged : (n : ℕ) (supplement : List ℕ) → supplementIn d supplement ≡ got l → answer ≡ Read n
+          → ((d : Domain) (l : List Replacement) (steps : List Names) → domainIn store ≡ got d → supplementIn d supplement ≡ got l → counts .fluents ≡ length (d .fluents) → sheetOf (d .agents) (take (n * counts .agents) after) ≡ got steps
+          → Put out 0 (judgedText (judge (replaced l d) steps)) q new)
+          → Put out 0 (judgedBy (replaced l d) lines (stepsFrom (d .agents) [] (map decode (linesOf s)))) q new
+      sheet-judged n supplement accepted e judges =
           let k = kept-at n e in
           let goes : outcome (d .agents) s ≡ read (k .steps) = subst (λ (a : ℕ). outcome a s ≡ read (k .steps)) (agents-are d domain) (k .goes) in
           let names-are : sheetOf (d .agents) (take (n * counts .agents) after) ≡ got (k .steps) =
-          ap (λ (l : List ℕ). sheetOf (d .agents) (take (n * counts .agents) l)) (told .1)
+          ap (λ (x : List ℕ). sheetOf (d .agents) (take (n * counts .agents) x)) (told .1)
           ∙ subst (λ (a : ℕ). sheetOf a (take (n * counts .agents) (readSheet (counts .agents) s names .buffer)) ≡ got (k .steps)) (agents-are d domain) (k .sheet) in
-          subst (λ (o : Reading (List Names)). Put out 0 (judgedBy d lines o) q new) (sym goes)
-          (judges d (k .steps) domain (ap (λ (c : Counts). c .fluents) (counts-are d domain)) names-are)
+          subst (λ (o : Reading (List Names)). Put out 0 (judgedBy (replaced l d) lines o) q new) (sym goes)
+          (judges d l (k .steps) domain accepted (ap (λ (c : Counts). c .fluents) (counts-are d domain)) names-are)
 
--- ---- an input
+-- ---- a part of an input
 
-pub no-room : (input out : List ℕ) → length out < outputSize → _≡_ {A = Answered} (record { count = 0; buffer = out }) (answered input out)
-unfolding answered
-no-room input out h = simp (lt-leb outputSize (length out) h)
-
--- a refusal of the domain reader is the reading's
-refused-reading : (s store : List ℕ) (n line : ℕ) → storeSize ≤ length store → readDomain s store .answer ≡ refusedAt n line → reading s ≡ refusedAt n line
-unfolding readDomain
-refused-reading s store n line h e = go (reading s) refl
-  where
-    go : (r : Reading Domain) → reading s ≡ r → reading s ≡ refusedAt n line
-    go (read d) q = absurd (let x = simp (le-leb storeSize (length store) h, q) at e in let z : _≡_ {A = ℕ} 0 1 = cc in omega arith)
-    go (refusedAt m l) q =
-        let x : _≡_ {A = Reading ℕ} (refusedAt m l) (refusedAt n line) = simp (le-leb storeSize (length store) h, q) at e in
-        let k : m ≡ n = cc in
-        let a : l ≡ line = cc in
-        rw (← k, ← a) q
-
-module _ (input : List ℕ) {at lines : ℕ} (short : length input ≤ mostInput) (cut : CutIn input at lines) where
-  output-is : output input ≡ answeredBy (split (linesOf input)) (reading (take at input))
-  unfolding output
-  output-is = simp (le-leb (length input) mostInput short) (ap (λ (ls : List Line). answeredBy (split (linesOf input)) (taken (map decode ls))) (sym (cut .domain)))
-
-module _ (input out : List ℕ) {new : List ℕ} {q : ℕ} (room : outputSize ≤ length out) (bound : q ≤ outputSize) where
-  answered-by : {t : List ℕ} → output input ≡ t → Put out 0 t q new → record { count = q; buffer = new } ≡ answered input out
-  unfolding answered
-  answered-by {t} e x =
-      let n : q ≡ length t = x .place ∙ zero-add (length t) in
-      let b : new ≡ over t out = x .bytes ∙ sets-eq t out 0 (omega (arith, n)) ∙ ap (λ (k : ℕ). t ++ drop k out) (zero-add (length t)) in
-      simp (le-leb outputSize (length out) room, e) (ap (λ (k : ℕ). record { count = k; buffer = new }) n ∙ ap (λ (l : List ℕ). record { count = length t; buffer = l }) b)
-
-  pub input-long : {number : ℕ} → mostInput < length input → number ≡ 18 → Put out 0 (refusedText number 0) q new → record { count = q; buffer = new } ≡ answered input out
-  unfolding output
-  input-long h k x = answered-by (simp (lt-leb (length input) mostInput h)) (subst (λ (m : ℕ). Put out 0 (refusedText m 0) q new) k x)
-
-  module _ {at lines : ℕ} (short : length input ≤ mostInput) (cut : CutIn input at lines) where
-    module _ (store : List ℕ) {after : List ℕ} (answer : ReadStore)
-        (told : (domains.readingOf answer ≡ readDomain (take at input) store .answer) × (after ≡ readDomain (take at input) store .buffer)) where
-      pub input-refused : {number line : ℕ} (r : Refusal) → length store ≡ storeSize → answer ≡ given.Refused r line → number ≡ numberOf r → Put out 0 (refusedText number line) q new
-          → record { count = q; buffer = new } ≡ answered input out
-      input-refused {number} {line} r size e k x =
-          answered-by (output-is input short cut ∙ ap (answeredBy (split (linesOf input))) (refused-reading (take at input) store (numberOf r) line (omega (arith, size)) (sym (told .0) ∙ ap domains.readingOf e)))
-          (subst (λ (m : ℕ). Put out 0 (refusedText m line) q new) k x)
-
-      pub input-read : (n : ℕ) → answer ≡ given.Read n
-          → ((d : Domain) → domainIn after ≡ got d → Put out 0 (judgedBy d lines (stepsFrom (d .agents) [] (map decode (linesOf (take (length input - at) (drop at input)))))) q new)
-          → record { count = q; buffer = new } ≡ answered input out
-      input-read n e judges =
-          let k = stores.kept (take at input) store n (sym (told .0) ∙ ap domains.readingOf e) in
-          let d = k .domain in
-          let rest : linesOf (take (length input - at) (drop at input)) ≡ split (linesOf input) .sheet = ap linesOf (take-all (length input - at) (drop at input) (omega (arith, length-drop at input))) ∙ cut .sheet in
-          answered-by
-          (output-is input short cut ∙ ap (answeredBy (split (linesOf input))) (k .reads)
-          ∙ ap (λ (m : ℕ). judgedBy d m (stepsFrom (d .agents) [] (map decode (split (linesOf input) .sheet)))) (sym (cut .before))
-          ∙ ap (λ (ls : List Line). judgedBy d lines (stepsFrom (d .agents) [] (map decode ls))) (sym rest))
-          (judges d (ap domainIn (told .1) ∙ k .holds))
-
--- the domain's lines are no more than its characters
-pub lines-small : {input : List ℕ} {at lines : ℕ} → CutIn input at lines → lines ≤ length input
-lines-small {input} {at} cut = omega (arith, cut .before, ap length (cut .domain), lines-most (take at input), length-take at input, cut .within)
+-- the lines before a cut are no more than its characters
+pub lines-small : {m : Mark} {input : List ℕ} {at lines : ℕ} → CutIn m input at lines → lines ≤ length input
+lines-small {input = input} {at = at} cut = omega (arith, cut .count, ap length (cut .before), lines-most (take at input), length-take at input, cut .within)
 
 pub rest-small : (input : List ℕ) (at : ℕ) {most : ℕ} → length input ≤ most → length (take (length input - at) (drop at input)) ≤ most
 rest-small input at h = simp length-take (omega arith)
 
+-- what is after a cut, as it is lent
+pub rest-lines : {m : Mark} {input : List ℕ} {at lines : ℕ} → CutIn m input at lines → linesOf (take (length input - at) (drop at input)) ≡ split m (linesOf input) .from
+rest-lines {input = input} {at = at} cut = ap linesOf (take-all (length input - at) (drop at input) (omega (arith, length-drop at input))) ∙ cut .from
+
+-- ---- what a reader read
+
+module _ {A : Type 0} (least : ℕ) (buffer : List ℕ) (room : least ≤ length buffer) (f : Filling) where
+  -- its refusal is the reading's
+  pub refused-reading : (a : Reading A) {n line : ℕ} → filled least buffer (afterwards a (λ x. read f)) .answer ≡ refusedAt n line → a ≡ refusedAt n line
+  refused-reading (read x) e = absurd (let q = simp (le-leb least (length buffer) room) at e in let z : _≡_ {A = ℕ} 0 1 = cc in omega arith)
+  refused-reading (refusedAt m l) {n} {line} e = let q : _≡_ {A = Reading ℕ} (refusedAt m l) (refusedAt n line) = simp (le-leb least (length buffer) room) at e in cc
+
+pub domain-refused : (s store : List ℕ) → length store ≡ storeSize → (answer : ReadStore) → domains.readingOf answer ≡ readDomain s store .answer → {line : ℕ} (r : Refusal) → answer ≡ given.Refused r line
+    → reading s ≡ refusedAt (numberOf r) line
+unfolding readDomain
+domain-refused s store size answer told r e = refused-reading storeSize store (omega (arith, size)) _ (reading s) (sym told ∙ ap domains.readingOf e)
+
+-- ---- an input
+
+pub no-room : (output out : List ℕ) → length out < outputSize → _≡_ {A = Answered} (record { count = 0; buffer = out }) (answered output out)
+unfolding answered
+no-room output out h = simp (lt-leb outputSize (length out) h)
+
+pub long-output : (input : List ℕ) → mostInput < length input → output input ≡ refusedText 18 0
+unfolding output
+long-output input h = simp (lt-leb (length input) mostInput h)
+
+module _ {out new : List ℕ} {q : ℕ} (room : outputSize ≤ length out) (bound : q ≤ outputSize) where
+  pub answered-by : {text t : List ℕ} → text ≡ t → Put out 0 t q new → record { count = q; buffer = new } ≡ answered text out
+  unfolding answered
+  answered-by {t = t} e x =
+      let n : q ≡ length t = x .place ∙ zero-add (length t) in
+      let b : new ≡ over t out = x .bytes ∙ sets-eq t out 0 (omega (arith, n)) ∙ ap (λ (k : ℕ). t ++ drop k out) (zero-add (length t)) in
+      simp (le-leb outputSize (length out) room, e) (ap (λ (k : ℕ). record { count = k; buffer = new }) n ∙ ap (λ (l : List ℕ). record { count = length t; buffer = l }) b)
+
+  -- a refusal by its number
+  pub answered-refusal : {text : List ℕ} {number n : ℕ} (line : ℕ) → text ≡ refusedText n line → number ≡ n → Put out 0 (refusedText number line) q new → record { count = q; buffer = new } ≡ answered text out
+  answered-refusal line e k x = answered-by e (subst (λ (m : ℕ). Put out 0 (refusedText m line) q new) k x)
+
+module _ (input : List ℕ) {at lines : ℕ} (short : length input ≤ mostInput) (cut : CutIn sheetMark input at lines) where
+  abbrev parts : Parts
+  parts = split sheetMark (linesOf input)
+
+  output-is : output input ≡ answeredBy parts (reading (take at input))
+  unfolding output
+  output-is = simp (le-leb (length input) mostInput short) (ap (λ (ls : List Line). answeredBy parts (taken (map decode ls))) (sym (cut .before)))
+
+  module _ (store : List ℕ) {after : List ℕ} (answer : ReadStore)
+      (told : (domains.readingOf answer ≡ readDomain (take at input) store .answer) × (after ≡ readDomain (take at input) store .buffer)) where
+    pub output-refused : {line : ℕ} (r : Refusal) → length store ≡ storeSize → answer ≡ given.Refused r line → output input ≡ refusedText (numberOf r) line
+    output-refused r size e = output-is ∙ ap (answeredBy parts) (domain-refused (take at input) store size answer (told .0) r e)
+
+    pub output-read : {out new : List ℕ} {q : ℕ} (n : ℕ) → answer ≡ given.Read n
+        → ((d : Domain) (s : List Replacement) → domainIn after ≡ got d → supplementIn d (take 0 input) ≡ got s
+        → Put out 0 (judgedBy (replaced s d) lines (stepsFrom (d .agents) [] (map decode (linesOf (take (length input - at) (drop at input)))))) q new)
+        → Put out 0 (output input) q new
+    output-read {out} {new} {q} n e judges =
+        let k = stores.kept (take at input) store n (sym (told .0) ∙ ap domains.readingOf e) in
+        let d = k .domain in
+        let is : output input ≡ judgedBy (replaced [] d) lines (stepsFrom (d .agents) [] (map decode (linesOf (take (length input - at) (drop at input))))) =
+        output-is ∙ ap (answeredBy parts) (k .reads)
+        ∙ ap (λ (m : ℕ). judgedBy d m (stepsFrom (d .agents) [] (map decode (parts .from)))) (sym (cut .count))
+        ∙ ap (λ (ls : List Line). judgedBy d lines (stepsFrom (d .agents) [] (map decode ls))) (sym (rest-lines cut))
+        ∙ ap (λ (x : Domain). judgedBy x lines (stepsFrom (d .agents) [] (map decode (linesOf (take (length input - at) (drop at input)))))) (sym (empty-changes-nothing .laws d)) in
+        subst (λ (t : List ℕ). Put out 0 t q new) (sym is) (judges d [] (ap domainIn (told .1) ∙ k .holds) (empty-changes-nothing .accepted d 0))
+
 -- ---- for callers: what is counted stands in the buffer
 
-pub count-within : (input out : List ℕ) {n : ℕ} {new : List ℕ} → _≡_ {A = Answered} (record { count = n; buffer = new }) (answered input out) → n ≤ length new
+pub count-within : (output out : List ℕ) {n : ℕ} {new : List ℕ} → _≡_ {A = Answered} (record { count = n; buffer = new }) (answered output out) → n ≤ length new
 unfolding answered
-count-within input out {n} {new} e = go (leb outputSize (length out)) refl
+count-within output out {n} {new} e = go (leb outputSize (length out)) refl
   where
     go : (b : Bool) → leb outputSize (length out) ≡ b → n ≤ length new
     go true q =
-        let x : _≡_ {A = Answered} (record { count = n; buffer = new }) (record { count = length (output input); buffer = over (output input) out }) = e ∙ simp q in
-        omega (arith, ap (λ (a : Answered). a .count) x, ap (λ (a : Answered). length (a .buffer)) x, length-append (output input) (drop (length (output input)) out))
+        let x : _≡_ {A = Answered} (record { count = n; buffer = new }) (record { count = length output; buffer = over output out }) = e ∙ simp q in
+        omega (arith, ap (λ (a : Answered). a .count) x, ap (λ (a : Answered). length (a .buffer)) x, length-append output (drop (length output) out))
     go false q =
         let x : _≡_ {A = Answered} (record { count = n; buffer = new }) (record { count = 0; buffer = out }) = e ∙ simp q in
         omega (arith, ap (λ (a : Answered). a .count) x)

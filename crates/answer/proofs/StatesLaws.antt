@@ -15,9 +15,10 @@ use Rattle.bmap.specs.Domain.{Domain, Fluent, Names, State, static, concurrency
 use Rattle.bmap.specs.Store.{domainIn}
 use Rattle.bmap.specs.Sheet.{rows, sheetOf}
 use Rattle.bmap.specs.Judge.{Checked, fine, fault, Pass, next, each, placed, mayOccur, allHold, settled, Setting, levelAfter, stateAfter, inRange, history, step, Verdict, accepted, broken, Judged, judgedAt, passed, carried, startOf, ran, goalsAfter, judge, landed}
+use Rattle.bmap.specs.Supplement.{Replacement, replaced, supplementIn}
 use Rattle.line.proofs.Answers.{need-got}
 use Rattle.sheet.proofs.RoundTrip.{Rows, none, more, length-rows}
-use Rattle.judge.specs.Answer.{statesIn, statesWritten}
+use Rattle.judge.specs.Answer.{statesIn, statesWrittenUnder}
 use Rattle.bmap.proofs.NumbersLaws.{numbers-length}
 
 -- ---- one step
@@ -109,18 +110,29 @@ steps-few agents sheet steps e =
     let same : rows agents n sheet ≡ steps = cc (b .1) in
     omega (arith, leb-true n mostSteps (b .0), ap length (sym same) ∙ length-rows agents n sheet)
 
-pub states-few : (store sheet : List ℕ) (levels : List ℤ) → statesWritten store sheet levels ≤ suc mostSteps
-unfolding statesWritten
-states-few store sheet levels = room (leb levelsSize (length levels))
-  where
-    stepped : (d : Domain) (a : Answer (List Names)) → sheetOf (d .agents) sheet ≡ a → statesIn (then a (λ steps. got (judge d steps))) ≤ suc mostSteps
-    stepped d (got steps) e = omega (arith, judge-reached d steps .few, steps-few (d .agents) sheet steps e)
-    stepped d (refused n) e = omega arith
+module _ (supplement sheet : List ℕ) where
+  abbrev judged-under : Domain → Answer Judged
+  judged-under d = then (supplementIn d supplement) (λ s. then (sheetOf (d .agents) sheet) (λ steps. got (judge (replaced s d) steps)))
 
-    by : (a : Answer Domain) → statesIn (then a (λ d. then (sheetOf (d .agents) sheet) (λ steps. got (judge d steps)))) ≤ suc mostSteps
-    by (got d) = stepped d (sheetOf (d .agents) sheet) refl
-    by (refused n) = omega arith
+  under-few : (d : Domain) → statesIn (judged-under d) ≤ suc mostSteps
+  under-few d = by (supplementIn d supplement)
+    where
+      stepped : (e : Domain) (a : Answer (List Names)) → sheetOf (d .agents) sheet ≡ a → statesIn (then a (λ steps. got (judge e steps))) ≤ suc mostSteps
+      stepped e (got steps) q = omega (arith, judge-reached e steps .few, steps-few (d .agents) sheet steps q)
+      stepped e (refused n) q = omega arith
 
-    room : (b : Bool) → statesIn (need b 10 (then (domainIn store) (λ d. then (sheetOf (d .agents) sheet) (λ steps. got (judge d steps))))) ≤ suc mostSteps
-    room true = by (domainIn store)
-    room false = omega arith
+      by : (a : Answer (List Replacement)) → statesIn (then a (λ s. then (sheetOf (d .agents) sheet) (λ steps. got (judge (replaced s d) steps)))) ≤ suc mostSteps
+      by (got s) = stepped (replaced s d) (sheetOf (d .agents) sheet) refl
+      by (refused n) = omega arith
+
+  pub states-few : (store : List ℕ) (levels : List ℤ) → statesWrittenUnder store supplement sheet levels ≤ suc mostSteps
+  unfolding statesWrittenUnder
+  states-few store levels = room (leb levelsSize (length levels))
+    where
+      by : (a : Answer Domain) → statesIn (then a judged-under) ≤ suc mostSteps
+      by (got d) = under-few d
+      by (refused n) = omega arith
+
+      room : (b : Bool) → statesIn (need b 10 (then (domainIn store) judged-under)) ≤ suc mostSteps
+      room true = by (domainIn store)
+      room false = omega arith

@@ -1,12 +1,11 @@
-// Where the sheet begins: at the first line that starts "B1".
+// Where a part of the input begins: at the first line that starts with two characters.
 ghost use mathlib.Core.Path.{_≡_};
-ghost use Prim.Native.Nat.{_+_, _≤_};
-ghost use lib.Dec.{eqb};
-ghost use lib.ListN.{length, getD, drop};
-ghost use Rattle.bmap.specs.Plain.{both};
-ghost use Rattle.answer.specs.Cut.{CutIn, feedIn};
+ghost use Prim.Native.Nat.{_+_, _≤_, _<_};
+ghost use lib.ListN.{length, drop};
+ghost use Rattle.bmap.specs.Line.{lineFeed};
+ghost use Rattle.answer.specs.Cut.{CutIn, startsAt, feedIn};
 
-// The place of the sheet, and the number of lines before it.
+// The place of that line, or the input's end, and the number of lines before it.
 pub struct Cut {
     pub at: usize,
     pub lines: usize,
@@ -14,15 +13,15 @@ pub struct Cut {
 
 pub(crate) const LINE_FEED: u8 = 10;
 
-fn starts_sheet(input: &[u8], at: usize) -> bool
-    requires { ⌜ at ≤ length (now input) ⌝ }
-    ensures { λ r. ⌜ r ≡ both (eqb (getD (now (input .entry)) at 0) 66) (eqb (getD (now (input .entry)) (at + 1) 0) 49) ⌝ }
+fn starts(input: &[u8], at: usize, first: u8, second: u8) -> bool
+    requires { ⌜ (at ≤ length (now input)) × (lineFeed < second) ⌝ }
+    ensures { λ r. ⌜ r ≡ startsAt (record { first = first; second = second }) (now (input .entry)) at ⌝ }
 {
     if input.len() - at < 2 {
         return false;
     }
-    if input[at] == 66 {
-        return input[at + 1] == 49;
+    if input[at] == first {
+        return input[at + 1] == second;
     }
     false
 }
@@ -42,13 +41,15 @@ fn feed_from(input: &[u8], at: usize) -> usize
     i
 }
 
-pub(crate) fn sheet_place(input: &[u8]) -> Cut
-    ensures { λ r. ⌜ CutIn (now (input .entry)) (r .at) (r .lines) ⌝ }
+// The two characters are hex digits, which come after LF.
+pub(crate) fn line_starting(input: &[u8], first: u8, second: u8) -> Cut
+    requires { ⌜ (lineFeed < first) × (lineFeed < second) ⌝ }
+    ensures { λ r. ⌜ CutIn (record { first = first; second = second }) (now (input .entry)) (r .at) (r .lines) ⌝ }
 {
     let mut at: usize = 0;
     let mut lines: usize = 0;
     while at < input.len() {
-        if starts_sheet(input, at) {
+        if starts(input, at, first, second) {
             return Cut { at, lines };
         }
         let feed = feed_from(input, at);

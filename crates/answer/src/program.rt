@@ -1,5 +1,6 @@
-// The program's one function, from input bytes to output bytes.
-use crate::cut::sheet_place;
+// The programs' functions, each from input bytes to output bytes.
+use crate::cut::Cut;
+use crate::cut::line_starting;
 use crate::print::LAST_LINE;
 use crate::print::STATE_LINE;
 use crate::print::put_accepted;
@@ -10,6 +11,7 @@ use bmap::INPUT;
 use bmap::LEVELS;
 use bmap::Refusal;
 use bmap::STORE;
+use bmap::SUPPLEMENT;
 use bmap::Sheet;
 use domain::ReadStore;
 use judge::Judgement;
@@ -20,16 +22,18 @@ ghost use mathlib.Core.List.{List, [], map};
 ghost use Prim.Native.Nat.{_+_, _≤_};
 ghost use lib.ListN.{length};
 ghost use Rattle.bmap.specs.Limits.{mostFluents, mostInput};
-ghost use Rattle.bmap.specs.Refusal.{got};
+ghost use Rattle.bmap.specs.Refusal.{got, read};
 ghost use Rattle.bmap.specs.Line.{linesOf, decode};
 ghost use Rattle.bmap.specs.Domain.{Domain, Names};
 ghost use Rattle.bmap.specs.Store.{domainIn};
 ghost use Rattle.bmap.specs.Sheet.{stepsFrom, sheetOf};
+ghost use Rattle.bmap.specs.Supplement.{Replacement, replaced, supplementIn};
 ghost use Rattle.bmap.specs.Judge as paper;
-ghost use Rattle.bmap.specs.Program.{lastLine, judgedText, judgedBy};
+ghost use Rattle.bmap.specs.Program.{lastLine, judgedText, judgedBy, split, sheetMark, output, answeredUnder, lowWater};
 ghost use Rattle.judge.specs.Answer.{verdictOf};
 ghost use Rattle.answer.specs.Put.{Put};
 ghost use Rattle.answer.specs.Room.{lastRoom, outputSize};
+ghost use Rattle.answer.specs.Cut.{CutTwice};
 ghost use Rattle.answer.specs.Answer.{answered};
 
 // Room for every output: the states of the longest sheet, each in a line of the most fluents, and the last line.
@@ -51,29 +55,36 @@ fn put_verdict(out: &mut [u8], at: usize, verdict: Verdict) -> usize
     }
 }
 
-// A domain with so many fluents, and a sheet of its agents' names: the states written, then the verdict.
-fn put_judged(store: &[u8], fluents: usize, sheet: &[u8], out: &mut [u8]) -> usize
+// A domain with so many fluents, a supplement of it, and a sheet of its agents' names: the states written, then the verdict.
+fn put_judged(
+    store: &[u8],
+    supplement: &[u8],
+    fluents: usize,
+    sheet: &[u8],
+    out: &mut [u8],
+) -> usize
     requires { ⌜ (fluents ≤ mostFluents) × (outputSize ≤ length (now out)) ⌝ }
-    ensures { λ r. ⌜ ((d : Domain) (steps : List Names) → domainIn (now (store .entry)) ≡ got d → fluents ≡ length (d .fluents) → sheetOf (d .agents) (now (sheet .entry)) ≡ got steps
-        → Put (now (out .entry)) 0 (judgedText (paper.judge d steps)) r (now (out .exit))) ⌝ }
+    ensures { λ r. ⌜ ((d : Domain) (s : List Replacement) (steps : List Names)
+        → domainIn (now (store .entry)) ≡ got d → supplementIn d (now (supplement .entry)) ≡ got s → fluents ≡ length (d .fluents) → sheetOf (d .agents) (now (sheet .entry)) ≡ got steps
+        → Put (now (out .entry)) 0 (judgedText (paper.judge (replaced s d) steps)) r (now (out .exit))) ⌝ }
     ensures { λ r. ⌜ r ≤ outputSize ⌝ }
 {
     let mut levels = [0i16; LEVELS];
-    let counted = judge::judge_counted(store, sheet, &mut levels);
+    let counted = judge::judge_under_counted(store, supplement, sheet, &mut levels);
     let written = put_states(out, &levels, fluents, counted.states);
     let judgement = counted.judgement;
     match judgement {
         Judgement::Judged(verdict) => put_verdict(out, written, verdict),
-        // An accepted domain and whole steps are not refused.
+        // An accepted domain, a supplement of it and whole steps are not refused.
         Judgement::Refused(_) => written,
     }
 }
 
-// The sheet's lines after so many of an accepted domain.
-fn put_sheet(store: &[u8], before: usize, text: &[u8], out: &mut [u8]) -> usize
+// The sheet's lines after so many of an accepted domain and its supplement.
+fn put_sheet(store: &[u8], supplement: &[u8], before: usize, text: &[u8], out: &mut [u8]) -> usize
     requires { ⌜ (before ≤ mostInput) × (length (now text) ≤ mostInput) × (outputSize ≤ length (now out)) ⌝ }
-    ensures { λ r. ⌜ ((d : Domain) → domainIn (now (store .entry)) ≡ got d
-        → Put (now (out .entry)) 0 (judgedBy d before (stepsFrom (d .agents) [] (map decode (linesOf (now (text .entry)))))) r (now (out .exit))) ⌝ }
+    ensures { λ r. ⌜ ((d : Domain) (s : List Replacement) → domainIn (now (store .entry)) ≡ got d → supplementIn d (now (supplement .entry)) ≡ got s
+        → Put (now (out .entry)) 0 (judgedBy (replaced s d) before (stepsFrom (d .agents) [] (map decode (linesOf (now (text .entry)))))) r (now (out .exit))) ⌝ }
     ensures { λ r. ⌜ r ≤ outputSize ⌝ }
 {
     let found = domain::index_of(store);
@@ -85,14 +96,14 @@ fn put_sheet(store: &[u8], before: usize, text: &[u8], out: &mut [u8]) -> usize
         ReadSheet::Refused(refusal, line) => put_refused(out, refusal.number(), before + line),
         ReadSheet::Read(steps) => {
             let used = steps * counts.agents;
-            put_judged(store, counts.fluents, &names[..used], out)
+            put_judged(store, supplement, counts.fluents, &names[..used], out)
         }
     }
 }
 
 // "18 comes before all others, the domain's refusals before the sheet's." A buffer shorter than OUTPUT is not written.
 pub fn answer(input: &[u8], out: &mut [u8]) -> usize
-    ensures { λ r. ⌜ record { count = r; buffer = now (out .exit) } ≡ answered (now (input .entry)) (now (out .entry)) ⌝ }
+    ensures { λ r. ⌜ record { count = r; buffer = now (out .exit) } ≡ answered (output (now (input .entry))) (now (out .entry)) ⌝ }
 {
     if out.len() < OUTPUT {
         return 0;
@@ -100,12 +111,54 @@ pub fn answer(input: &[u8], out: &mut [u8]) -> usize
     if INPUT < input.len() {
         return put_refused(out, Refusal::LongInput.number(), 0);
     }
-    let cut = sheet_place(input);
+    let cut = line_starting(input, b'B', b'1');
     let at = cut.at;
     let mut store = [0u8; STORE];
     let answer = domain::read(&input[..at], &mut store);
     match answer {
         ReadStore::Refused { refusal, line } => put_refused(out, refusal.number(), line),
-        ReadStore::Read(_) => put_sheet(&store, cut.lines, &input[at..], out),
+        // An empty supplement changes nothing.
+        ReadStore::Read(_) => put_sheet(&store, &input[..0], cut.lines, &input[at..], out),
+    }
+}
+
+// What follows the lines of an accepted domain in an input that is cut twice: the supplement's, then the sheet's.
+fn put_under(store: &[u8], input: &[u8], supplement: Cut, sheet: Cut, out: &mut [u8]) -> usize
+    requires { ⌜ CutTwice (now input) supplement sheet × (outputSize ≤ length (now out)) ⌝ }
+    ensures { λ r. ⌜ ((d : Domain) → domainIn (now (store .entry)) ≡ got d
+        → Put (now (out .entry)) 0 (answeredUnder (split sheetMark (linesOf (now (input .entry)))) (read d)) r (now (out .exit))) ⌝ }
+    ensures { λ r. ⌜ r ≤ outputSize ⌝ }
+{
+    let from = supplement.at;
+    let to = sheet.at;
+    let mut laws = [0u8; SUPPLEMENT];
+    let answer = supplement::read(store, &input[from..to], &mut laws);
+    match answer {
+        ReadStore::Refused { refusal, line } => {
+            put_refused(out, refusal.number(), supplement.lines + line)
+        }
+        ReadStore::Read(_) => put_sheet(store, &laws, sheet.lines, &input[to..], out),
+    }
+}
+
+// The same of a domain's lines, a supplement's and a sheet's: 18, then the domain's refusals, the supplement's, the sheet's.
+pub fn low_water(input: &[u8], out: &mut [u8]) -> usize
+    ensures { λ r. ⌜ record { count = r; buffer = now (out .exit) } ≡ answered (lowWater (now (input .entry))) (now (out .entry)) ⌝ }
+{
+    if out.len() < OUTPUT {
+        return 0;
+    }
+    if INPUT < input.len() {
+        return put_refused(out, Refusal::LongInput.number(), 0);
+    }
+    let sheet = line_starting(input, b'B', b'1');
+    let end = sheet.at;
+    let supplement = line_starting(&input[..end], b'A', b'F');
+    let at = supplement.at;
+    let mut store = [0u8; STORE];
+    let answer = domain::read(&input[..at], &mut store);
+    match answer {
+        ReadStore::Refused { refusal, line } => put_refused(out, refusal.number(), line),
+        ReadStore::Read(_) => put_under(&store, input, supplement, sheet, out),
     }
 }

@@ -1,11 +1,12 @@
 // The program's output.
 ghost use mathlib.Core.Path.{_≡_};
+ghost use Rattle.bmap.specs.Program as program;
 ghost use Rattle.answer.specs.Answer.{answered};
 
 // The bytes that the program writes for an input go to the front of the output; answers how many.
 #[no_mangle]
 pub extern "C" fn waroth_answer(input: &[u8], output: &mut [u8]) -> u64
-    ensures { λ r. ⌜ record { count = r; buffer = now (output .exit) } ≡ answered (now (input .entry)) (now (output .entry)) ⌝ }
+    ensures { λ r. ⌜ record { count = r; buffer = now (output .exit) } ≡ answered (program.output (now (input .entry))) (now (output .entry)) ⌝ }
 {
     answer::answer(input, output) as u64
 }

@@ -1,10 +1,17 @@
 use mathlib.Core.Path.{refl, sym}
 use native.Mathlib.Omega.{arith}
 use lib.Seq.{length-take-le}
-use Rattle.answer.proofs.ProgramLaws.{no-room, input-long, input-refused, input-read, lines-small, rest-small}
+use Rattle.answer.proofs.ProgramLaws.{no-room, long-output, answered-refusal, answered-by, output-refused, output-read, lines-small, rest-small}
 use borrow.Author.Needs.{needs}
 use Rattle.answer.proofs.program.answer.Statement.{statement}
 use Rattle.answer.proofs.program.answer.Tie as tie
+
+-- the cut, after the two tests
+abbrev room : tie.After-line-starting → tie.Else1
+room c = c .before .before
+
+abbrev short : tie.After-line-starting → tie.Else2
+short c = c .before
 
 returns : tie.Need-returns
 returns c = no-room _ _ (c .if1 .taken)
@@ -19,13 +26,14 @@ same-length : tie.Need-same-length
 same-length c = search needs
 
 returns-2 : tie.Need-returns-2
-returns-2 c = input-long _ _ (c .before .before .before .before .before .before .if1 .left) (omega (arith, c .before .before .put-refused .ensures .1)) (c .before .before .before .before .before .if2 .taken) (c .before .before .before .number .ensures) (c .before .before .put-refused .ensures .0)
+returns-2 c = let p = c .before .before in
+    answered-refusal (c .before .before .before .before .before .before .if1 .left) (omega (arith, p .put-refused .ensures .1)) 0 (long-output _ (c .before .before .before .before .before .if2 .taken)) (c .before .before .before .number .ensures) (p .put-refused .ensures .0)
 
-sheet-place-requires : tie.Need-sheet-place-requires
-sheet-place-requires c κs = search needs
+line-starting-requires : tie.Need-line-starting-requires
+line-starting-requires c κs = search needs
 
 slice-aggregate-read : tie.Need-slice-aggregate-read
-slice-aggregate-read c = sym (length-take-le _ _ (c .before .sheet-place .ensures .within))
+slice-aggregate-read c = sym (length-take-le _ _ (c .before .line-starting .ensures .within))
 
 slice-aggregate-read-2 : tie.Need-slice-aggregate-read-2
 slice-aggregate-read-2 c = search needs
@@ -48,6 +56,9 @@ enum-told c = search needs
 slice-aggregate-put-sheet : tie.Need-slice-aggregate-put-sheet
 slice-aggregate-put-sheet c = search needs
 
+slice-aggregate-put-sheet-2 : tie.Need-slice-aggregate-put-sheet-2
+slice-aggregate-put-sheet-2 c = search needs
+
 sub-put-sheet : tie.Need-sub-put-sheet
 sub-put-sheet c = search needs
 
@@ -58,19 +69,22 @@ part-put-sheet-end : tie.Need-part-put-sheet-end
 part-put-sheet-end c = search needs
 
 put-sheet-requires : tie.Need-put-sheet-requires
-put-sheet-requires c κs = (omega (arith, lines-small (c .before .before .before .before .before .before .before .before .before .sheet-place .ensures), c .before .before .before .before .before .before .before .before .before .before .if2 .left), rest-small (c .before .before .before .before .before .before .before .before .before .before .before .before .before .before .args .input .now) (c .before .before .before .before .before .before .before .before .before .sheet-place .result .at) (c .before .before .before .before .before .before .before .before .before .before .if2 .left), c .before .before .before .before .before .before .before .before .before .before .before .if1 .left)
+put-sheet-requires c κs = let l = c .before .before .before .before .before .before .before .before .before .before in
+    (omega (arith, lines-small (l .line-starting .ensures), short l .if2 .left), rest-small (c .before .before .before .before .before .before .before .before .before .before .before .before .before .before .before .args .input .now) (l .line-starting .result .at) (short l .if2 .left), room l .if1 .left)
 
 same-length-2 : tie.Need-same-length-2
 same-length-2 c = search needs
 
 returns-3 : tie.Need-returns-3
-returns-3 c = input-refused _ _ (c .before .before .before .before .before .before .before .before .before .before .before .before .before .before .if1 .left) (omega (arith, c .before .before .put-refused2 .ensures .1)) (c .before .before .before .before .before .before .before .before .before .before .before .before .before .if2 .left) (c .before .before .before .before .before .before .before .before .before .before .before .before .sheet-place .ensures) _ _ (c .before .before .before .before .before .before .before .before .before .read .ensures) _ refl (c .before .before .before .before .before .before .answer .given .1) (c .before .before .before .number2 .ensures) (c .before .before .put-refused2 .ensures .0)
+returns-3 c = let l = c .before .before .before .before .before .before .before .before .before .before .before .before in let p = c .before .before in
+    answered-refusal (room l .if1 .left) (omega (arith, p .put-refused2 .ensures .1)) _ (output-refused _ (short l .if2 .left) (l .line-starting .ensures) _ _ (c .before .before .before .before .before .before .before .before .before .read .ensures) _ refl (c .before .before .before .before .before .before .answer .given .1)) (c .before .before .before .number2 .ensures) (p .put-refused2 .ensures .0)
 
 same-length-3 : tie.Need-same-length-3
 same-length-3 c = search needs
 
 returns-4 : tie.Need-returns-4
-returns-4 c = input-read _ _ (c .before .before .before .before .before .before .before .before .before .before .before .before .before .before .if1 .left) (c .before .before .put-sheet .ensures .1) (c .before .before .before .before .before .before .before .before .before .before .before .before .before .if2 .left) (c .before .before .before .before .before .before .before .before .before .before .before .before .sheet-place .ensures) _ _ (c .before .before .before .before .before .before .before .before .before .read .ensures) _ (c .before .before .before .before .before .before .enum-told .given .1) (c .before .before .put-sheet .ensures .0)
+returns-4 c = let l = c .before .before .before .before .before .before .before .before .before .before .before .before .before in let p = c .before .before in
+    answered-by (room l .if1 .left) (p .put-sheet .ensures .1) refl (output-read _ (short l .if2 .left) (l .line-starting .ensures) _ _ (c .before .before .before .before .before .before .before .before .before .before .read .ensures) _ (c .before .before .before .before .before .before .before .enum-told .given .1) (p .put-sheet .ensures .0))
 
 pub answer-spec : {M : Type 1} → statement M
 answer-spec =
@@ -81,7 +95,7 @@ answer-spec =
     put-refused-requires
     same-length
     returns-2
-    sheet-place-requires
+    line-starting-requires
     slice-aggregate-read
     slice-aggregate-read-2
     read-requires
@@ -90,6 +104,7 @@ answer-spec =
     put-refused-requires-2
     enum-told
     slice-aggregate-put-sheet
+    slice-aggregate-put-sheet-2
     sub-put-sheet
     part-put-sheet-start
     part-put-sheet-end

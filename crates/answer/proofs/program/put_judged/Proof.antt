@@ -8,23 +8,31 @@ use borrow.Author.Needs.{needs}
 use Rattle.answer.proofs.program.put_judged.Statement.{statement}
 use Rattle.answer.proofs.program.put_judged.Tie as tie
 
-slice-aggregate-judge-counted : tie.Need-slice-aggregate-judge-counted
-slice-aggregate-judge-counted c = search needs
+abbrev start : tie.After-judge-under-counted → tie.Start
+start c = c .before .before .before .before .before .before
 
-judge-counted-requires : tie.Need-judge-counted-requires
-judge-counted-requires c κs = search needs
+few : (c : tie.After-judge-under-counted) → c .judge-under-counted .result .states ≤ 65
+few c = subst (λ m. m ≤ 65) (sym (c .judge-under-counted .ensures .1)) (states-few _ _ _ _)
+
+slice-aggregate-judge-under-counted : tie.Need-slice-aggregate-judge-under-counted
+slice-aggregate-judge-under-counted c = search needs
+
+judge-under-counted-requires : tie.Need-judge-under-counted-requires
+judge-under-counted-requires c κs = search needs
 
 slice-aggregate-put-states : tie.Need-slice-aggregate-put-states
 slice-aggregate-put-states c = search needs
 
 put-states-requires : tie.Need-put-states-requires
-put-states-requires c κs = (c .before .before .before .before .before .before .before .before .pre .0, subst (λ m. m ≤ 65) (sym (c .before .before .before .judge-counted .ensures .1)) (states-few _ _ _), subst (λ m. c .before .before .before .judge-counted .result .states * c .before .before .before .before .before .before .before .before .args .fluents ≤ m) (slice-aggregate-put-states c) (product-most _ _ (subst (λ m. m ≤ 65) (sym (c .before .before .before .judge-counted .ensures .1)) (states-few _ _ _)) (c .before .before .before .before .before .before .before .before .pre .0) refl), omega (arith, subst (λ m. m ≤ 65) (sym (c .before .before .before .judge-counted .ensures .1)) (states-few _ _ _), c .before .before .before .before .before .before .before .before .pre .1))
+put-states-requires c κs = let j = c .before .before .before in
+    (start j .pre .0, few j, subst (λ m. j .judge-under-counted .result .states * start j .args .fluents ≤ m) (slice-aggregate-put-states c) (product-most _ _ (few j) (start j .pre .0) refl), omega (arith, few j, start j .pre .1))
 
 enum-known-judgement : tie.Need-enum-known-judgement
 enum-known-judgement c = search needs
 
 put-verdict-requires : tie.Need-put-verdict-requires
-put-verdict-requires c κs = omega (arith, subst (λ m. m ≤ 65) (sym (c .before .before .before .before .before .before .before .before .before .before .judge-counted .ensures .1)) (states-few _ _ _), c .before .before .before .before .before .before .put-states .ensures .1, put-length (c .before .before .before .before .before .before .put-states .ensures .0), c .before .before .before .before .before .before .before .before .before .before .before .before .before .before .before .pre .1)
+put-verdict-requires c κs = let j = c .before .before .before .before .before .before .before .before .before .before in let p = c .before .before .before .before .before .before in
+    omega (arith, few j, p .put-states .ensures .1, put-length (p .put-states .ensures .0), start j .pre .1)
 
 enum-told : tie.Need-enum-told
 enum-told c = search needs
@@ -33,20 +41,22 @@ same-length : tie.Need-same-length
 same-length c = search needs
 
 returns : tie.Need-returns
-returns c = (λ d steps domain fluents sheet. judged-text _ _ _ _ (c .before .before .before .before .before .before .before .before .before .before .before .before .before .judge-counted .ensures) refl d steps domain fluents sheet _ (c .before .before .before .before .before .judgement .given .1) (c .before .before .before .before .before .before .before .before .before .put-states .ensures .0) (c .before .before .put-verdict .ensures .0), omega (arith, subst (λ m. m ≤ 65) (sym (c .before .before .before .before .before .before .before .before .before .before .before .before .before .judge-counted .ensures .1)) (states-few _ _ _), c .before .before .before .before .before .before .before .before .before .put-states .ensures .1, c .before .before .put-verdict .ensures .1))
+returns c = let j = c .before .before .before .before .before .before .before .before .before .before .before .before .before in let p = c .before .before .before .before .before .before .before .before .before in let v = c .before .before in
+    (λ d s steps domain accepted fluents sheet. judged-text _ _ _ _ _ (j .judge-under-counted .ensures) refl d s steps domain accepted fluents sheet _ (c .before .before .before .before .before .judgement .given .1) (p .put-states .ensures .0) (v .put-verdict .ensures .0), omega (arith, few j, p .put-states .ensures .1, v .put-verdict .ensures .1))
 
 same-length-2 : tie.Need-same-length-2
 same-length-2 c = search needs
 
 returns-2 : tie.Need-returns-2
-returns-2 c = (λ d steps domain fluents sheet. absurd (refused-not _ _ _ _ (c .before .before .before .before .before .before .before .before .judge-counted .ensures) refl d steps domain sheet _ (c .enum-told .given .1)), omega (arith, subst (λ m. m ≤ 65) (sym (c .before .before .before .before .before .before .before .before .judge-counted .ensures .1)) (states-few _ _ _), c .before .before .before .before .put-states .ensures .1))
+returns-2 c = let j = c .before .before .before .before .before .before .before .before in
+    (λ d s steps domain accepted fluents sheet. absurd (refused-not _ _ _ _ _ (j .judge-under-counted .ensures) refl d s steps domain accepted sheet _ (c .enum-told .given .1)), omega (arith, few j, c .before .before .before .before .put-states .ensures .1))
 
 pub put-judged-spec : {M : Type 1} → statement M
 put-judged-spec =
     tie.close
     (tie.spec
-    slice-aggregate-judge-counted
-    judge-counted-requires
+    slice-aggregate-judge-under-counted
+    judge-under-counted-requires
     slice-aggregate-put-states
     put-states-requires
     enum-known-judgement

@@ -6,6 +6,12 @@ use borrow.Author.Needs.{needs}
 use Rattle.answer.proofs.program.put_sheet.Statement.{statement}
 use Rattle.answer.proofs.program.put_sheet.Tie as tie
 
+abbrev found : tie.After-read → tie.After-index-of
+found c = c .before .before .before .before
+
+abbrev start : tie.After-read → tie.Start
+start c = c .before .before .before .before .before .before .before .before .before
+
 index-of-requires : tie.Need-index-of-requires
 index-of-requires c κs = search needs
 
@@ -22,7 +28,8 @@ number-requires : tie.Need-number-requires
 number-requires c κs = search needs
 
 add-put-refused : tie.Need-add-put-refused
-add-put-refused c = omega (arith, line-small _ (c .before .before .before .before .before .before .before .before .before .before .index-of .ensures) _ _ _ (c .before .before .before .before .before .before .read .ensures) refl _ _ (c .before .before .before .answer .given .1), c .before .before .before .before .before .before .before .before .before .before .before .before .before .before .pre .0, c .before .before .before .before .before .before .before .before .before .before .before .before .before .before .pre .1)
+add-put-refused c = let r = c .before .before .before .before .before .before in
+    omega (arith, line-small _ (found r .index-of .ensures) _ _ _ (r .read .ensures) refl _ _ (c .before .before .before .answer .given .1), start r .pre .0, start r .pre .1)
 
 put-refused-requires : tie.Need-put-refused-requires
 put-refused-requires c κs = search needs
@@ -31,28 +38,33 @@ enum-known-answer-2 : tie.Need-enum-known-answer-2
 enum-known-answer-2 c = search needs
 
 mul-used : tie.Need-mul-used
-mul-used c = omega (arith, used-most _ (c .before .before .before .before .before .before .before .before .before .index-of .ensures) _ _ _ (c .before .before .before .before .before .read .ensures) refl _ (c .before .before .answer2 .given .1))
+mul-used c = let r = c .before .before .before .before .before in
+    omega (arith, used-most _ (found r .index-of .ensures) _ _ _ (r .read .ensures) refl _ (c .before .before .answer2 .given .1))
 
 array-share-prefix-names : tie.Need-array-share-prefix-names
-array-share-prefix-names c = omega (arith, used-most _ (c .before .before .before .before .before .before .before .before .before .index-of .ensures) _ _ _ (c .before .before .before .before .before .read .ensures) refl _ (c .before .before .answer2 .given .1))
+array-share-prefix-names c = let r = c .before .before .before .before .before in
+    omega (arith, used-most _ (found r .index-of .ensures) _ _ _ (r .read .ensures) refl _ (c .before .before .answer2 .given .1))
 
 slice-aggregate-put-judged : tie.Need-slice-aggregate-put-judged
 slice-aggregate-put-judged c = sym (length-take-le _ _ (array-share-prefix-names (c .before)))
 
 put-judged-requires : tie.Need-put-judged-requires
-put-judged-requires c κs = (fluents-small _ (c .before .before .before .before .before .before .before .before .before .before .before .index-of .ensures), c .before .before .before .before .before .before .before .before .before .before .before .before .before .before .before .pre .2)
+put-judged-requires c κs = let r = c .before .before .before .before .before .before .before in
+    (fluents-small _ (found r .index-of .ensures), start r .pre .2)
 
 same-length : tie.Need-same-length
 same-length c = search needs
 
 returns : tie.Need-returns
-returns c = (λ d domain. sheet-refused _ (c .before .before .before .before .before .before .before .before .before .before .before .before .before .index-of .ensures) _ _ _ (c .before .before .before .before .before .before .before .before .before .read .ensures) refl _ d domain _ (c .before .before .before .before .before .before .answer .given .1) (c .before .before .before .number .ensures) (c .before .before .put-refused .ensures .0), omega (arith, c .before .before .put-refused .ensures .1))
+returns c = let r = c .before .before .before .before .before .before .before .before .before in let p = c .before .before in
+    (λ d s domain accepted. sheet-refused _ (found r .index-of .ensures) _ _ _ (r .read .ensures) refl _ d s domain _ (c .before .before .before .before .before .before .answer .given .1) (c .before .before .before .number .ensures) (p .put-refused .ensures .0), omega (arith, p .put-refused .ensures .1))
 
 same-length-2 : tie.Need-same-length-2
 same-length-2 c = search needs
 
 returns-2 : tie.Need-returns-2
-returns-2 c = (λ d domain. sheet-judged _ (c .before .before .before .before .before .before .before .before .before .before .before .before .before .before .index-of .ensures) _ _ _ (c .before .before .before .before .before .before .before .before .before .before .read .ensures) refl _ d domain _ (c .before .before .before .before .before .before .before .answer2 .given .1) (c .before .before .put-judged .ensures .0), c .before .before .put-judged .ensures .1)
+returns-2 c = let r = c .before .before .before .before .before .before .before .before .before .before in let p = c .before .before in
+    (λ d s domain accepted. sheet-judged _ (found r .index-of .ensures) _ _ _ (r .read .ensures) refl _ d s domain _ _ accepted (c .before .before .before .before .before .before .before .answer2 .given .1) (p .put-judged .ensures .0), p .put-judged .ensures .1)
 
 pub put-sheet-spec : {M : Type 1} → statement M
 put-sheet-spec =

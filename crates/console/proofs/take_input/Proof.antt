@@ -2,8 +2,8 @@ use Prim.Native.Nat.{_-_, _≤_}
 use mathlib.Core.Path.{_≡_, refl}
 use native.Mathlib.Omega.{arith}
 use lib.ListN.{length}
-use Rattle.waroth.proofs.take_input.Statement.{statement}
-use Rattle.waroth.proofs.take_input.Tie as tie
+use Rattle.console.proofs.take_input.Statement.{statement}
+use Rattle.console.proofs.take_input.Tie as tie
 
 abbrev Inv-loop : tie.InvT-loop
 Inv-loop buffer₀ size₀ buffer size = (length buffer ≡ length buffer₀) × (size ≤ length buffer₀)

@@ -56,9 +56,9 @@ fn put_verdict(out: &mut [u8], at: usize, verdict: Verdict) -> usize
 }
 
 // A domain with so many fluents, a supplement of it, and a sheet of its agents' names: the states written, then the verdict.
-fn put_judged(
-    store: &[u8],
-    supplement: &[u8],
+fn put_judged<'a>(
+    store: &'a [u8],
+    supplement: &'a [u8],
     fluents: usize,
     sheet: &[u8],
     out: &mut [u8],
@@ -81,7 +81,13 @@ fn put_judged(
 }
 
 // The sheet's lines after so many of an accepted domain and its supplement.
-fn put_sheet(store: &[u8], supplement: &[u8], before: usize, text: &[u8], out: &mut [u8]) -> usize
+fn put_sheet<'a>(
+    store: &'a [u8],
+    supplement: &'a [u8],
+    before: usize,
+    text: &[u8],
+    out: &mut [u8],
+) -> usize
     requires { ⌜ (before ≤ mostInput) × (length (now text) ≤ mostInput) × (outputSize ≤ length (now out)) ⌝ }
     ensures { λ r. ⌜ ((d : Domain) (s : List Replacement) → domainIn (now (store .entry)) ≡ got d → supplementIn d (now (supplement .entry)) ≡ got s
         → Put (now (out .entry)) 0 (judgedBy (replaced s d) before (stepsFrom (d .agents) [] (map decode (linesOf (now (text .entry)))))) r (now (out .exit))) ⌝ }

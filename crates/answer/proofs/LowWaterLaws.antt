@@ -91,20 +91,24 @@ module _ {input : List ℕ} {supplement sheet : Cut} (cut : CutTwice input suppl
   abbrev parts : Parts
   parts = split sheetMark (linesOf input)
 
+  -- the supplement's, as it is lent
+  abbrev text : List ℕ
+  text = take (sheet .at - supplement .at) (drop (supplement .at) input)
+
   pub in-order : supplement .at ≤ sheet .at
   in-order = omega (arith, cut .inner .within, length-take (sheet .at) input)
 
   domain-lines : linesOf (take (supplement .at) input) ≡ supplemented parts .before
   domain-lines = ap linesOf (sym (take-take (supplement .at) (sheet .at) input in-order)) ∙ cut .inner .before ∙ ap (λ (ls : List Line). split supplementMark ls .before) (cut .outer .before)
 
-  supplement-lines : linesOf (take (sheet .at - supplement .at) (drop (supplement .at) input)) ≡ supplemented parts .from
+  supplement-lines : linesOf text ≡ supplemented parts .from
   supplement-lines =
       ap linesOf
       (sym (part-take (supplement .at) (sheet .at - supplement .at) (sheet .at) input (omega (arith, in-order)))
       ∙ take-all (sheet .at - supplement .at) (drop (supplement .at) (take (sheet .at) input)) (omega (arith, length-drop (supplement .at) (take (sheet .at) input), length-take (sheet .at) input)))
       ∙ cut .inner .from ∙ ap (λ (ls : List Line). split supplementMark ls .from) (cut .outer .before)
 
-  pub supplement-small : length (take (sheet .at - supplement .at) (drop (supplement .at) input)) ≤ mostInput
+  pub supplement-small : length text ≤ mostInput
   supplement-small = simp length-take (omega (arith, cut .short))
 
   before-supplement : supplement .lines ≡ length (supplemented parts .before)
@@ -115,11 +119,8 @@ module _ {input : List ℕ} {supplement sheet : Cut} (cut : CutTwice input suppl
   lines-few = (omega (arith, lines-small (cut .inner), length-take (sheet .at) input, cut .short), omega (arith, lines-small (cut .outer), cut .short))
 
   module _ (store buffer : List ℕ) {after : List ℕ} (answer : ReadStore)
-      (told : (domains.readingOf answer ≡ readSupplement store (take (sheet .at - supplement .at) (drop (supplement .at) input)) buffer .answer) × (after ≡ readSupplement store (take (sheet .at - supplement .at) (drop (supplement .at) input)) buffer .buffer))
+      (told : (domains.readingOf answer ≡ readSupplement store text buffer .answer) × (after ≡ readSupplement store text buffer .buffer))
       (size : length buffer ≡ supplementSize) (d : Domain) (domain : domainIn store ≡ got d) where
-    abbrev text : List ℕ
-    text = take (sheet .at - supplement .at) (drop (supplement .at) input)
-
     -- what is printed, by what the text is
     prints : {a : Reading (List Replacement)} → supplementFrom d [] (framesOf text) ≡ a → answeredUnder parts (read d) ≡ sheetUnder parts d a
     prints e = ap (λ (ls : List Line). sheetUnder parts d (supplementFrom d [] (map decode ls))) (sym supplement-lines) ∙ ap (sheetUnder parts d) e

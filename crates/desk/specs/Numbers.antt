@@ -7,9 +7,11 @@ use Rattle.bmap.specs.Buffer.{bytesWritten}
 use Rattle.bmap.specs.Domain.{Domain}
 use Rattle.bmap.specs.Accept.{countsOf}
 use Rattle.bmap.specs.Judge.{Verdict, accepted, broken}
+use Rattle.bmap.specs.Supplement.{Where, inDomain, inSupplement}
 use Rattle.bmap.specs.Session.{Changed}
 use Rattle.bmap.specs.declared.limits.Counts.{Counts}
 use Rattle.bmap.specs.declared.session.Session.{Session}
+use Rattle.supplement.specs.Force.{Stretch}
 
 -- ---- an answer, 64 bits
 
@@ -59,6 +61,15 @@ abbrev pub countsNumber : Answer Domain → ℕ
 countsNumber (got d) = fourBytes (countsOf d)
 countsNumber (refused number) = refusedNumber number number
 
+-- where a law's payload stands: a bit for the supplement, 16 for the place, 8 for the size
+abbrev pub standsNumber : Where → ℕ
+standsNumber (inDomain at) = at % 2 ^ 16 * 2 ^ 8
+standsNumber (inSupplement at) = 2 ^ 24 + at % 2 ^ 16 * 2 ^ 8
+
+abbrev pub lawNumber : Answer Stretch → ℕ
+lawNumber (got x) = standsNumber (x .stands) + x .size % 2 ^ 8
+lawNumber (refused number) = refusedNumber number number
+
 -- a frame's size, 0 where there is none
 abbrev pub sizeNumber : Option ℕ → ℕ
 sizeNumber none = 0
@@ -106,6 +117,13 @@ stepIn answer = answer / 2 ^ 8 % 2 ^ 8
 
 abbrev pub numberIn : ℕ → ℕ
 numberIn answer = answer % 2 ^ 8
+
+-- of a law in force: whether it stands in the supplement, its place and its size
+
+pub record StretchIn (answer which at bytes : ℕ) : Type 0 where
+  pub supplement : answer / 2 ^ 24 % 2 ≡ which
+  pub place : answer / 2 ^ 8 % 2 ^ 16 ≡ at
+  pub size : answer % 2 ^ 8 ≡ bytes
 
 -- of a store's counts
 pub record CountsIn (answer : ℕ) (n : Counts) : Type 0 where

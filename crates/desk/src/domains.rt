@@ -2,28 +2,16 @@
 use crate::number::FOURTH;
 use crate::number::SECOND;
 use crate::number::THIRD;
-use crate::number::counted;
-use crate::number::refused;
+use crate::number::read;
 use crate::number::refused_alone;
 use crate::number::written;
 use bmap::Refusal;
-use domain::ReadStore;
 use line::FrameAt;
 use line::frame_at;
 ghost use mathlib.Core.Path.{_≡_};
 ghost use Rattle.bmap.specs.Store.{readDomain, writeDomain, domainIn};
-ghost use Rattle.domain.specs.Read.{readingOf};
 ghost use Rattle.line.specs.Frame.{sizeOf, frameSizeAt};
 ghost use Rattle.desk.specs.Numbers.{readNumber, writtenNumber, countsNumber, sizeNumber};
-
-fn read(answer: ReadStore) -> u64
-    ensures { λ r. ⌜ r ≡ readNumber (readingOf answer) ⌝ }
-{
-    match answer {
-        ReadStore::Read(used) => counted(used),
-        ReadStore::Refused { refusal, line } => refused(refusal, line as u64),
-    }
-}
 
 #[no_mangle]
 pub extern "C" fn waroth_read_domain(text: &[u8], store: &mut [u8]) -> u64

@@ -9,6 +9,7 @@ use judge::Judgement;
 use judge::Verdict;
 ghost use mathlib.Core.Path.{_≡_};
 ghost use Rattle.bmap.specs.Session.{verdictOf};
+ghost use Rattle.bmap.specs.Supplement.{judgeUnder};
 ghost use Rattle.bmap.specs.Verdict.{judgeSheet};
 ghost use Rattle.judge.specs.Answer as answer;
 ghost use Rattle.session.specs.Verdict as session;
@@ -50,6 +51,19 @@ pub extern "C" fn waroth_judge(store: &[u8], sheet: &[u8], levels: &mut [i16]) -
     ensures { λ _. ⌜ now (levels .exit) ≡ judgeSheet (now (store .entry)) (now (sheet .entry)) (now (levels .entry)) .levels ⌝ }
 {
     judged(judge::judge_counted(store, sheet, levels))
+}
+
+#[no_mangle]
+pub extern "C" fn waroth_judge_under<'a>(
+    store: &'a [u8],
+    supplement: &'a [u8],
+    sheet: &[u8],
+    levels: &mut [i16],
+) -> u64
+    ensures { λ r. ⌜ r ≡ judgedNumber (answer.statesWrittenUnder (now (store .entry)) (now (supplement .entry)) (now (sheet .entry)) (now (levels .entry))) (judgeUnder (now (store .entry)) (now (supplement .entry)) (now (sheet .entry)) (now (levels .entry)) .answer) ⌝ }
+    ensures { λ _. ⌜ now (levels .exit) ≡ judgeUnder (now (store .entry)) (now (supplement .entry)) (now (sheet .entry)) (now (levels .entry)) .levels ⌝ }
+{
+    judged(judge::judge_under_counted(store, supplement, sheet, levels))
 }
 
 // The session is passed itself, and stays as it is.

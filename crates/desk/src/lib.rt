@@ -1,6 +1,6 @@
 // The library's calls for C and Rust, by numbers and slices: include/waroth.h says what each takes and leaves.
 // Each answers by one number of 64 bits, whose meaning is a definition in specs/; the calls themselves stand in the crates below,
-// `line`, `domain`, `sheet`, `judge`, `session` and `answer`, and `index` has a store's counts. No crate stands on it.
+// `line`, `domain`, `supplement`, `sheet`, `judge`, `session` and `answer`, and `index` has a store's counts. No crate stands on it.
 mod domains;
 mod edits;
 mod judgements;
@@ -8,6 +8,7 @@ mod number;
 mod numbered;
 mod program;
 mod sheets;
+mod supplements;
 
 pub use domains::waroth_counts;
 pub use domains::waroth_frame;
@@ -20,7 +21,11 @@ pub use edits::waroth_redo;
 pub use edits::waroth_strike;
 pub use edits::waroth_undo;
 pub use judgements::waroth_judge;
+pub use judgements::waroth_judge_under;
 pub use judgements::waroth_verdict;
 pub use program::waroth_answer;
+pub use program::waroth_low_water;
 pub use sheets::waroth_read_sheet;
 pub use sheets::waroth_write_sheet;
+pub use supplements::waroth_law;
+pub use supplements::waroth_read_supplement;

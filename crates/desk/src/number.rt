@@ -1,12 +1,14 @@
 // The numbers by which the calls answer.
 use bmap::Refusal;
+use domain::ReadStore;
 use line::Written;
 use session::Outcome;
 ghost use mathlib.Core.Path.{_≡_};
 ghost use Rattle.bmap.specs.Refusal.{numberOf};
 ghost use Rattle.line.specs.Write as write;
+ghost use Rattle.domain.specs.Read.{readingOf};
 ghost use Rattle.session.specs.Calls.{answerOf};
-ghost use Rattle.desk.specs.Numbers.{foundNumber, refusedNumber, writtenNumber, doneNumber};
+ghost use Rattle.desk.specs.Numbers.{foundNumber, refusedNumber, readNumber, writtenNumber, doneNumber};
 
 // A refusal's number stands in the upper half of an answer.
 const HALF: u64 = 1 << 32;
@@ -40,6 +42,16 @@ pub(crate) fn refused(why: Refusal, with: u64) -> u64
     ensures { λ r. ⌜ r ≡ refusedNumber (numberOf why) with ⌝ }
 {
     why.number() as u64 * HALF + (MARK + with % MARK)
+}
+
+// What a reader of lines into a store answers.
+pub(crate) fn read(answer: ReadStore) -> u64
+    ensures { λ r. ⌜ r ≡ readNumber (readingOf answer) ⌝ }
+{
+    match answer {
+        ReadStore::Read(used) => counted(used),
+        ReadStore::Refused { refusal, line } => refused(refusal, line as u64),
+    }
 }
 
 pub(crate) fn written(answer: Written) -> u64

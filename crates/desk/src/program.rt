@@ -1,4 +1,4 @@
-// The program's output.
+// The programs' outputs.
 ghost use mathlib.Core.Path.{_≡_};
 ghost use Rattle.bmap.specs.Program as program;
 ghost use Rattle.answer.specs.Answer.{answered};
@@ -9,4 +9,12 @@ pub extern "C" fn waroth_answer(input: &[u8], output: &mut [u8]) -> u64
     ensures { λ r. ⌜ record { count = r; buffer = now (output .exit) } ≡ answered (program.output (now (input .entry))) (now (output .entry)) ⌝ }
 {
     answer::answer(input, output) as u64
+}
+
+// The same of the program that takes a supplement.
+#[no_mangle]
+pub extern "C" fn waroth_low_water(input: &[u8], output: &mut [u8]) -> u64
+    ensures { λ r. ⌜ record { count = r; buffer = now (output .exit) } ≡ answered (program.lowWater (now (input .entry))) (now (output .entry)) ⌝ }
+{
+    answer::low_water(input, output) as u64
 }

@@ -3,8 +3,8 @@ use Rattle.domain.specs.Read.{readingOf}
 use Rattle.domain.specs.declared.reader.ReadStore.{ReadStore}
 use Rattle.desk.specs.Numbers.{readNumber}
 use borrow.Author.Needs.{needs}
-use Rattle.desk.proofs.domains.read.Statement.{statement}
-use Rattle.desk.proofs.domains.read.Tie as tie
+use Rattle.desk.proofs.number.read.Statement.{statement}
+use Rattle.desk.proofs.number.read.Tie as tie
 
 enum-known-answer : tie.Need-enum-known-answer
 enum-known-answer c = search needs

@@ -18,6 +18,11 @@ pub const GOAL: u8 = 0xA9;
 
 const LAW_KINDS: usize = (GOAL - EXECUTABILITY + 1) as usize;
 
+/// Whether laws of the kind begin with an entry.
+pub fn has_entry(kind: u8) -> bool {
+    kind == EXECUTABILITY || kind == EFFECT
+}
+
 #[derive(Clone, Copy, Default, Debug)]
 pub struct Fluent {
     pub lowest: i16,
@@ -33,10 +38,11 @@ pub struct Entry {
     pub crew: u16,
 }
 
-/// A law's place in the code. Only A5 and A6 have an entry; only A6 has a
-/// fluent and an expression, which then follows its constraint.
+/// A law's kind and its place in the code. Only A5 and A6 have an entry; only
+/// A6 has a fluent and an expression, which then follows its constraint.
 #[derive(Clone, Copy, Default, Debug)]
 pub struct Law {
+    pub kind: u8,
     pub entry: u8,
     pub fluent: u8,
     start: u16,
@@ -145,8 +151,8 @@ impl<T: Target> Domain<T> {
         }
     }
 
-    pub fn law(&self, number: usize) -> &Law {
-        &self.laws[number]
+    pub fn laws(&self) -> &[Law] {
+        &self.laws[..self.law_count]
     }
 
     /// The A5 laws of an entry that its crew can read, as a mask.
@@ -260,6 +266,14 @@ impl<T: Target> Domain<T> {
     }
 
     fn add_law(&mut self, kind: u8, payload: &[u8]) -> Option<()> {
+        self.set_law(self.law_count, kind, payload)?;
+        self.law_count += 1;
+        self.laws_by_kind[(kind - EXECUTABILITY) as usize] += 1;
+        Some(())
+    }
+
+    /// Gives the law of this number a payload, whether it had one or not.
+    pub(crate) fn set_law(&mut self, number: usize, kind: u8, payload: &[u8]) -> Option<()> {
         let scope = Scope {
             fluents: self.fluent_count,
             entries: self.entry_count,
@@ -267,10 +281,11 @@ impl<T: Target> Domain<T> {
         };
         let mut parser = Parser::of(payload, scope);
         let mut law = Law {
+            kind,
             start: self.code.place(),
             ..Law::default()
         };
-        if kind == EXECUTABILITY || kind == EFFECT {
+        if has_entry(kind) {
             law.entry = parser.index(scope.entries)?;
         }
         parser.constraint(&mut self.code)?;
@@ -286,13 +301,11 @@ impl<T: Target> Domain<T> {
         if kind == EXECUTABILITY {
             let crew = self.entries[law.entry as usize].crew;
             self.with_law |= 1 << law.entry;
-            if self.all_known(parser.named(), crew) {
-                self.readable[law.entry as usize] |= 1 << self.law_count;
-            }
+            let known = self.all_known(parser.named(), crew);
+            let readable = &mut self.readable[law.entry as usize];
+            *readable = *readable & !(1 << number) | u128::from(known) << number;
         }
-        self.laws[self.law_count] = law;
-        self.law_count += 1;
-        self.laws_by_kind[(kind - EXECUTABILITY) as usize] += 1;
+        self.laws[number] = law;
         Some(())
     }
 

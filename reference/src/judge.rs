@@ -4,7 +4,7 @@ use crate::domain::{bits, Domain, CONCURRENCY, EFFECT, GOAL, STATIC};
 use crate::law::{evaluate, Moment, Op};
 use crate::refusal;
 use crate::sheet::{steps_of, MAX_STEPS};
-use crate::store;
+use crate::supplement;
 
 /// Numbers that the judge asks of its levels buffer: every state of the
 /// longest sheet.
@@ -40,10 +40,21 @@ struct Fault(u8, usize);
 /// Judges a sheet, writes the states reached into `levels` and touches none of
 /// the numbers after them. Refusals 10, 15, 8 and 9, in this order.
 pub fn judge(store: &[u8], sheet: &[u8], levels: &mut [i16]) -> Result<Judged, u8> {
+    judge_under(store, &[], sheet, levels)
+}
+
+/// Judges as [`judge`] does, the domain's laws being replaced as the supplement
+/// says. Refusal 15 is also for a supplement that the domain does not accept.
+pub fn judge_under(
+    store: &[u8],
+    supplement: &[u8],
+    sheet: &[u8],
+    levels: &mut [i16],
+) -> Result<Judged, u8> {
     if levels.len() < LEVELS {
         return Err(refusal::BUFFER);
     }
-    let domain = store::parse(store).ok_or(refusal::STORE)?;
+    let domain = supplement::parse(store, supplement).ok_or(refusal::STORE)?;
     steps_of(sheet, domain.agents())?;
     Ok(run(&domain, sheet, levels))
 }
@@ -201,7 +212,7 @@ impl<'a> Trial<'a> {
         let mut settings = [0i64; Domain::MAX_FLUENTS];
         let mut set = 0u32;
         for number in self.domain.laws_of(EFFECT) {
-            let law = self.domain.law(number);
+            let law = &self.domain.laws()[number];
             if (occurring >> law.entry) & 1 == 0 || !self.holds(number, position)? {
                 continue;
             }

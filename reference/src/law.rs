@@ -54,7 +54,8 @@ impl Target for Vec<Op> {
         self.push(op);
     }
 
-    // At most 128 laws of 120 bytes, and no op comes from less than a byte.
+    // At most 128 laws of 120 bytes, as many that stand in for them, and no op
+    // comes from less than a byte.
     #[inline]
     fn place(&self) -> u16 {
         self.len() as u16

@@ -1,5 +1,5 @@
-//! A reader and writer of domains and sheets, a judge, an editing session and
-//! one program, in plain Rust. See README.md for what it is for.
+//! A reader and writer of domains and sheets, a reader of supplements, a judge,
+//! an editing session and two programs, in plain Rust. See README.md for what it is for.
 
 pub mod domain;
 pub mod generate;
@@ -13,9 +13,11 @@ pub mod refusal;
 pub mod session;
 pub mod sheet;
 pub mod store;
+pub mod supplement;
 
 pub use domain::{Counts, Domain};
-pub use judge::{judge, Judged, Verdict};
+pub use judge::{judge, judge_under, Judged, Verdict};
 pub use session::Session;
 pub use sheet::{read_sheet, write_sheet};
 pub use store::{accepted, counts, read_domain, write_domain, FrameReader};
+pub use supplement::{law_in_force, read_supplement, LawInForce};

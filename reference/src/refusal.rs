@@ -18,6 +18,4 @@ pub const STORE: u8 = 15;
 pub const AGENTS_DIFFER: u8 = 16;
 pub const SESSION: u8 = 17;
 pub const INPUT: u8 = 18;
-
-/// The highest number in use.
-pub const LAST: u8 = INPUT;
+pub const OTHER_LAW: u8 = 20;

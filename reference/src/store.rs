@@ -1,7 +1,7 @@
 //! The store: a domain's frames end to end, then zeros.
 
 use crate::domain::{Counts, Domain};
-use crate::law::Target;
+use crate::law::{Nowhere, Target};
 use crate::line::{line_length, write_line, Lines, MAX_PAYLOAD};
 use crate::refusal;
 
@@ -23,33 +23,34 @@ pub fn read_domain(text: &[u8], store: &mut [u8]) -> Result<usize, (u8, usize)> 
     if store.len() < STORE_BYTES {
         return Err((refusal::BUFFER, 0));
     }
-    match fill(text, store) {
-        Ok(used) => {
-            store[used..].fill(0);
-            Ok(used)
-        }
-        Err(refused) => {
-            store.fill(0);
-            Err(refused)
-        }
-    }
+    let mut domain = Domain::checking();
+    let read = fill(text, store, |frame| domain.add(frame)).and_then(|(used, lines)| {
+        domain.finish().map_err(|number| (number, lines))?;
+        Ok(used)
+    });
+    store[read.unwrap_or(0)..].fill(0);
+    read
 }
 
-fn fill(text: &[u8], store: &mut [u8]) -> Result<usize, (u8, usize)> {
+/// Puts the frames of a text end to end as long as they are taken, and returns
+/// the bytes used and the number of lines.
+pub(crate) fn fill(
+    text: &[u8],
+    store: &mut [u8],
+    mut take: impl FnMut(&[u8]) -> Result<(), u8>,
+) -> Result<(usize, usize), (u8, usize)> {
     let mut lines = Lines::of(text);
-    let mut domain = Domain::checking();
     let mut used = 0;
     while let Some(frame) = lines.next_frame() {
-        let added = frame.and_then(|frame| {
-            domain.add(frame)?;
+        let taken = frame.and_then(|frame| {
+            take(frame)?;
             store[used..used + frame.len()].copy_from_slice(frame);
             used += frame.len();
             Ok(())
         });
-        added.map_err(|number| (number, lines.number()))?;
+        taken.map_err(|number| (number, lines.number()))?;
     }
-    domain.finish().map_err(|number| (number, lines.number()))?;
-    Ok(used)
+    Ok((used, lines.number()))
 }
 
 /// The frame at a place of any store: a kind other than 00, a count up to 120
@@ -69,13 +70,17 @@ pub fn frame_at(store: &[u8], place: usize) -> Option<&[u8]> {
 /// Adds the store's frames to an empty domain; `None` unless the store is an
 /// accepted domain followed by zeros.
 fn gather<T: Target>(store: &[u8], mut domain: Domain<T>) -> Option<Domain<T>> {
-    let mut place = 0;
-    while let Some(frame) = frame_at(store, place) {
-        domain.add(frame).ok()?;
-        place += frame.len();
-    }
+    take_all(store, |frame| domain.add(frame))?;
     domain.finish().ok()?;
-    all_zero(&store[place..]).then_some(domain)
+    Some(domain)
+}
+
+/// Has every frame of a store taken; `None` where one is not, or where other
+/// bytes than zeros follow the last.
+pub(crate) fn take_all(store: &[u8], take: impl FnMut(&[u8]) -> Result<(), u8>) -> Option<()> {
+    let mut frames = FrameReader::over(store);
+    frames.by_ref().try_for_each(take).ok()?;
+    all_zero(&store[frames.place..]).then_some(())
 }
 
 /// Whether all bytes are 0. Most of a store is, so this goes block by block,
@@ -94,8 +99,13 @@ pub fn accepted(store: &[u8]) -> bool {
 /// How many agents, fluents, entries and laws an accepted domain has; refusal
 /// 15.
 pub fn counts(store: &[u8]) -> Result<Counts, u8> {
-    let domain = gather(store, Domain::checking()).ok_or(refusal::STORE)?;
+    let domain = check(store).ok_or(refusal::STORE)?;
     Ok(domain.counts())
+}
+
+/// The domain of an accepted store, its laws only checked.
+pub(crate) fn check(store: &[u8]) -> Option<Domain<Nowhere>> {
+    gather(store, Domain::checking())
 }
 
 /// The domain of an accepted store, its laws compiled.
@@ -129,7 +139,7 @@ impl<'a> FrameReader<'a> {
     /// Stands at the first frame of an accepted domain; refusal 15 otherwise.
     pub fn start(store: &'a [u8]) -> Result<Self, u8> {
         if accepted(store) {
-            Ok(FrameReader { store, place: 0 })
+            Ok(FrameReader::over(store))
         } else {
             Err(refusal::STORE)
         }
@@ -137,10 +147,12 @@ impl<'a> FrameReader<'a> {
 
     /// What a refused start leaves: a reader over no bytes.
     pub fn over_nothing() -> Self {
-        FrameReader {
-            store: &[],
-            place: 0,
-        }
+        FrameReader::over(&[])
+    }
+
+    /// Stands at the first frame of any bytes.
+    pub(crate) fn over(store: &'a [u8]) -> Self {
+        FrameReader { store, place: 0 }
     }
 
     pub fn place(&self) -> usize {

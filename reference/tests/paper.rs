@@ -5,8 +5,9 @@ use waroth_reference::generate::draft::{mask_frame, Draft};
 use waroth_reference::generate::laws::{constant, node};
 use waroth_reference::judge::{judge, Judged, Verdict, LEVELS};
 use waroth_reference::law::{evaluate, Moment, Op, Parser, Scope};
+use waroth_reference::program::Program;
 use waroth_reference::store::STORE_BYTES;
-use waroth_reference::{number, program, read_domain, read_sheet};
+use waroth_reference::{number, read_domain, read_sheet};
 
 const P: &str = "\
 A10102
@@ -130,7 +131,7 @@ fn unstarred_texts() {
 }
 
 fn printed(input: &str) -> String {
-    String::from_utf8(program::run(input.as_bytes())).expect("text")
+    String::from_utf8(Program::Waroth.run(input.as_bytes())).expect("text")
 }
 
 #[test]

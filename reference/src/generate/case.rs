@@ -5,7 +5,7 @@ use crate::domain::Counts;
 use crate::judge::{self, Judged};
 use crate::session::Session;
 use crate::store::{self, FrameReader};
-use crate::{program, sheet};
+use crate::{program::Program, sheet};
 
 /// A call of a session.
 #[derive(Clone, PartialEq, Eq, Debug)]
@@ -186,7 +186,7 @@ pub fn run_reference(case: &Case) -> Outcome {
         }
         Case::Program { input, output } => {
             outcome.bytes = output.clone();
-            let written = program::answer(input, &mut outcome.bytes);
+            let written = Program::Waroth.answer(input, &mut outcome.bytes);
             let answer = Answer::Printed(outcome.bytes[..written].to_vec());
             outcome.answers.push(("program", answer));
         }

@@ -267,10 +267,13 @@ impl Coverage {
 impl fmt::Display for Coverage {
     fn fmt(&self, f: &mut fmt::Formatter) -> fmt::Result {
         writeln!(f, "{} cases", self.cases)?;
-        let counts: Vec<_> = (1..=crate::refusal::LAST)
-            .map(|n| self.refusals(n))
+        let numbers: BTreeSet<u8> = ORDERS
+            .iter()
+            .flat_map(|(_, order)| *order)
+            .copied()
             .collect();
-        for (number, count) in (1..).zip(counts) {
+        for number in numbers {
+            let count = self.refusals(number);
             let by_call = self.refused.iter().filter(|((_, met), _)| *met == number);
             let by_call: Vec<_> = by_call
                 .map(|((call, _), n)| format!("{call} {n}"))

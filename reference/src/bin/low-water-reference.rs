@@ -1,0 +1,8 @@
+//! Reads a domain, a supplement and a sheet from standard input and prints the
+//! verdict.
+
+use waroth_reference::program::Program;
+
+fn main() -> std::io::Result<()> {
+    Program::LowWater.main()
+}

@@ -1,0 +1,115 @@
+//! Supplements: laws that stand in for a domain's own, as frames of kind AF.
+//! The payload is a law's number, then kind byte and payload of the new law.
+
+use crate::domain::{has_entry, Domain, EXECUTABILITY};
+use crate::law::Target;
+use crate::refusal;
+use crate::store::{self, FrameReader};
+
+pub const REPLACEMENT: u8 = 0xAF;
+
+/// Bytes that the supplement reader asks of its buffer. Each law is replaced
+/// once at most, so the frames always fit.
+pub const SUPPLEMENT_BYTES: usize = 16_000;
+
+/// A domain while laws of it are replaced.
+struct Replacing<T> {
+    domain: Domain<T>,
+    /// The numbers of the laws replaced so far.
+    replaced: u128,
+}
+
+impl<T: Target> Replacing<T> {
+    fn start(domain: Domain<T>) -> Self {
+        Replacing {
+            domain,
+            replaced: 0,
+        }
+    }
+
+    /// Replaces a law as a frame says. Refusals 3, 4 for a payload under 3
+    /// bytes, 20, and 4 for everything else, in this order.
+    fn add(&mut self, frame: &[u8]) -> Result<(), u8> {
+        if frame[0] != REPLACEMENT {
+            return Err(refusal::KIND);
+        }
+        let &[_, _, number, kind, first, ..] = frame else {
+            return Err(refusal::PAYLOAD);
+        };
+        let number = usize::from(number);
+        let law = self.domain.laws().get(number).ok_or(refusal::OTHER_LAW)?;
+        let other_entry = has_entry(kind) && first != law.entry;
+        if kind != law.kind || other_entry || self.replaced >> number & 1 == 1 {
+            return Err(refusal::OTHER_LAW);
+        }
+        self.replaced |= 1 << number;
+        let set = self.domain.set_law(number, kind, &frame[4..]);
+        set.ok_or(refusal::PAYLOAD)
+    }
+}
+
+/// Reads a supplement's text against the domain of a store and returns the
+/// bytes used, or the refusal and its line. Refusals 10, 15, both with line 0,
+/// then line by line.
+pub fn read_supplement(store: &[u8], text: &[u8], buffer: &mut [u8]) -> Result<usize, (u8, usize)> {
+    if buffer.len() < SUPPLEMENT_BYTES {
+        return Err((refusal::BUFFER, 0));
+    }
+    let domain = store::check(store).ok_or((refusal::STORE, 0));
+    let read = domain.and_then(|domain| {
+        let mut replacing = Replacing::start(domain);
+        let (used, _) = store::fill(text, buffer, |frame| replacing.add(frame))?;
+        Ok(used)
+    });
+    buffer[read.unwrap_or(0)..].fill(0);
+    read
+}
+
+/// The domain with its laws replaced; `None` unless the supplement is one that
+/// it accepts, followed by zeros.
+fn replaced<T: Target>(domain: Domain<T>, supplement: &[u8]) -> Option<Domain<T>> {
+    let mut replacing = Replacing::start(domain);
+    store::take_all(supplement, |frame| replacing.add(frame))?;
+    Some(replacing.domain)
+}
+
+/// The domain of an accepted store, compiled, with the laws of an accepted
+/// supplement in place of its own.
+pub fn parse(store: &[u8], supplement: &[u8]) -> Option<Domain> {
+    replaced(store::parse(store)?, supplement)
+}
+
+/// Where the payload of a law in force stands.
+#[derive(Clone, Copy, PartialEq, Eq, Debug)]
+pub struct LawInForce {
+    /// In the supplement's store, else in the domain's.
+    pub replaced: bool,
+    pub place: usize,
+    pub size: usize,
+}
+
+/// The law in force of this number. Refusals 15, for either store, and 20.
+pub fn law_in_force(store: &[u8], supplement: &[u8], number: usize) -> Result<LawInForce, u8> {
+    let domain = store::check(store).ok_or(refusal::STORE)?;
+    replaced(domain, supplement).ok_or(refusal::STORE)?;
+    let mut frames = FrameReader::over(store);
+    let mut laws = frames.by_ref().filter(|frame| frame[0] >= EXECUTABILITY);
+    let own = laws.nth(number).ok_or(refusal::OTHER_LAW)?;
+    let mut others = FrameReader::over(supplement);
+    let other = others.find(|frame| usize::from(frame[2]) == number);
+    // Each reader stands behind the frame that it found.
+    Ok(match other {
+        Some(frame) => LawInForce::ending(others.place(), &frame[4..], true),
+        None => LawInForce::ending(frames.place(), &own[2..], false),
+    })
+}
+
+impl LawInForce {
+    fn ending(end: usize, payload: &[u8], replaced: bool) -> Self {
+        LawInForce {
+            replaced,
+            place: end - payload.len(),
+            size: payload.len(),
+        }
+    }
+}

@@ -30,6 +30,12 @@ pub fn mask_frame(kind: u8, first: u8, mask: u16) -> Vec<u8> {
     frame(kind, &[first, high, low])
 }
 
+/// Frame of a supplement: a law, given as its own frame, stands in for the one
+/// with this number.
+pub fn replacement(number: usize, law: &[u8]) -> Vec<u8> {
+    frame(0xAF, &[&[number as u8, law[0]], &law[2..]].concat())
+}
+
 /// Lines of bytes as digits, whatever the bytes are.
 pub fn text_of(lines: &[Vec<u8>]) -> Vec<u8> {
     let mut text = Vec::new();
@@ -120,6 +126,18 @@ impl Draft {
 
     pub fn laws(&self) -> usize {
         (0xA5..=0xA9).map(|kind| self.count(kind)).sum()
+    }
+
+    /// The frame of a law. Laws stand behind all else.
+    pub fn law(&self, number: usize) -> &Vec<u8> {
+        &self.frames[self.frames.len() - self.laws() + number]
+    }
+
+    /// The domain with the law of this number replaced.
+    pub fn with_law(mut self, number: usize, law: &[u8]) -> Self {
+        let place = self.frames.len() - self.laws() + number;
+        self.frames[place] = law.to_vec();
+        self
     }
 
     /// Every entry may always be taken up.
@@ -222,22 +240,44 @@ impl Draft {
 
     fn add_laws(&mut self, r: &mut Random, big: bool) {
         let calm = !r.one_in(3);
-        let likely = |r: &mut Random, ground: &Ground| match calm && !r.one_in(12) {
-            true => ground.likely(r),
-            false => ground.wild(r, MAX_PAYLOAD - 1, Ground::constraint),
-        };
         let entries = self.entries.len();
         let mut laws = Vec::new();
         for entry in 0..entries as u8 {
             for _ in 0..if r.one_in(4) && entries < 40 { 2 } else { 1 } {
-                let condition = likely(r, &self.ground(entries));
-                laws.push(law(0xA5, &[&[entry], &condition]));
+                laws.push(self.random_law(r, 0xA5, entry, calm, MAX_PAYLOAD));
             }
         }
-        let effects = r.from_to(0, if big { 40 } else { 6 });
-        for _ in 0..effects {
-            let ground = self.ground(entries);
+        for _ in 0..r.from_to(0, if big { 40 } else { 6 }) {
             let entry = r.below(entries) as u8;
+            laws.push(self.random_law(r, 0xA6, entry, calm, MAX_PAYLOAD));
+        }
+        for kind in 0xA7..=0xA9 {
+            for _ in 0..r.below(if big { 8 } else { 3 }) {
+                laws.push(self.random_law(r, kind, 0, calm, MAX_PAYLOAD));
+            }
+        }
+        laws.truncate(128);
+        laws.into_iter().for_each(|law| {
+            self.insert(law);
+        });
+    }
+
+    /// A law of the kind, and of the entry where it has one, with a payload of
+    /// at most so many bytes; mostly true if it is to be calm.
+    pub fn random_law(
+        &self,
+        r: &mut Random,
+        kind: u8,
+        entry: u8,
+        calm: bool,
+        most: usize,
+    ) -> Vec<u8> {
+        let entries = match kind {
+            0xA7 | 0xA9 => 0,
+            _ => self.entries.len(),
+        };
+        let ground = self.ground(entries);
+        if kind == 0xA6 {
             let fluent = r.below(self.fluents.len());
             let condition = match r.below(3) {
                 0 => ground.wild(r, 50, Ground::constraint),
@@ -249,17 +289,16 @@ impl Draft {
                 false => ground.wild(r, 50, Ground::expression),
             };
             let parts: [&[u8]; 4] = [&[entry], &condition, &[fluent as u8], &value];
-            laws.push(law(0xA6, &parts));
+            return law(kind, &parts);
         }
-        for (kind, usable) in [(0xA7, 0), (0xA8, entries), (0xA9, 0)] {
-            for _ in 0..r.below(if big { 8 } else { 3 }) {
-                laws.push(law(kind, &[&likely(r, &self.ground(usable))]));
-            }
+        let constraint = match calm && !r.one_in(12) {
+            true => ground.likely(r),
+            false => ground.wild(r, most - 1, Ground::constraint),
+        };
+        match kind {
+            0xA5 => law(kind, &[&[entry], &constraint]),
+            _ => law(kind, &[&constraint]),
         }
-        laws.truncate(128);
-        laws.into_iter().for_each(|law| {
-            self.insert(law);
-        });
     }
 }
 

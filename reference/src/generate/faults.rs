@@ -4,7 +4,8 @@
 
 use super::draft::{agents_frame, fluent_frame, frame, law, mask_frame, Draft};
 use super::random::Random;
-use super::shapes::{deep, filling, law_around, law_with, occurrence_under_reified};
+use super::shapes::{deep, law_around, law_with, occurrence_under_reified, sized};
+use crate::line::MAX_PAYLOAD;
 use crate::refusal::*;
 
 pub type Lines = Vec<Vec<u8>>;
@@ -333,7 +334,7 @@ pub const LINE_FAULTS: &[LineFault] = &[
     ("edge: count 120", 0, |r| {
         plus(r, |r, draft| {
             let kind = r.from_to(0xA5, 0xA9) as u8;
-            filling(r, draft, kind, 0)
+            sized(r, draft, kind, 0, MAX_PAYLOAD)
         })
     }),
     ("edge: names 1 and 255, start at both bounds", 0, |_| {

@@ -90,18 +90,24 @@ fn joined(r: &mut Random, draft: &Draft, comparisons: usize) -> Vec<u8> {
     node(code, &[&left, &joined(r, draft, comparisons - half)])
 }
 
-/// A law of the kind whose payload is as long as any.
-pub fn filling(r: &mut Random, draft: &Draft, kind: u8, entry: u8) -> Vec<u8> {
-    let most = joined(r, draft, 14);
+/// A constraint of exactly so many bytes: comparisons, and "not" around them as
+/// often as is needed.
+fn sized_constraint(r: &mut Random, draft: &Draft, size: usize) -> Vec<u8> {
+    let part = joined(r, draft, (size + 1) / 8);
+    wrapped(0x28, size - part.len(), &part)
+}
+
+/// A law of the kind whose payload has exactly so many bytes, 16 or more.
+pub fn sized(r: &mut Random, draft: &Draft, kind: u8, entry: u8, size: usize) -> Vec<u8> {
     let bytes = match kind {
-        0xA5 => law(kind, &[&[entry], &joined(r, draft, 15)]),
-        0xA6 => law(kind, &[&[entry], &most, &[0], &pair(r, draft, 0x12)]),
-        _ => {
-            let last = node(0x28, &[&joined(r, draft, 1)]);
-            law(kind, &[&node(0x26, &[&most, &last])])
+        0xA5 => law(kind, &[&[entry], &sized_constraint(r, draft, size - 1)]),
+        0xA6 => {
+            let condition = sized_constraint(r, draft, size - 9);
+            law(kind, &[&[entry], &condition, &[0], &pair(r, draft, 0x12)])
         }
+        _ => law(kind, &[&sized_constraint(r, draft, size)]),
     };
-    assert_eq!(bytes.len(), 2 + MAX_PAYLOAD);
+    assert_eq!(bytes.len(), 2 + size);
     bytes
 }
 
@@ -110,10 +116,10 @@ pub fn filling(r: &mut Random, draft: &Draft, kind: u8, entry: u8) -> Vec<u8> {
 pub fn longest(r: &mut Random) -> Draft {
     let mut draft = Draft::crowded();
     for entry in 0..draft.entries.len() as u8 {
-        let law = filling(r, &draft, 0xA5, entry);
+        let law = sized(r, &draft, 0xA5, entry, MAX_PAYLOAD);
         draft.insert(law);
         let kind = r.from_to(0xA5, 0xA9) as u8;
-        let law = filling(r, &draft, kind, entry);
+        let law = sized(r, &draft, kind, entry, MAX_PAYLOAD);
         draft.insert(law);
     }
     draft

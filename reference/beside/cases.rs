@@ -2,7 +2,7 @@
 
 use crate::desk;
 use crate::lent::Lent;
-use waroth_reference::generate::{Answer, Call, Case, Outcome};
+use waroth_reference::generate::{program_name, Answer, Call, Case, Outcome};
 use waroth_reference::Session;
 
 /// The answers and every buffer after the call; what was lent only to be read has to be as it was.
@@ -65,6 +65,37 @@ pub fn run_library(case: &Case) -> Result<Outcome, String> {
             outcome.answers.push(("judge", answer));
             outcome.levels.push(levels.back()?);
         }
+        Case::ReadSupplement {
+            store,
+            text,
+            buffer,
+        } => {
+            let mut buffer = Lent::of(buffer);
+            let answer = desk::read_supplement(store, text, buffer.part());
+            outcome.answers.push(("read_supplement", answer));
+            outcome.bytes = buffer.back()?;
+        }
+        Case::JudgeUnder {
+            store,
+            supplement,
+            sheet,
+            levels,
+        } => {
+            let mut levels = Lent::of(levels);
+            let answer = desk::judge_under(store, supplement, sheet, levels.part());
+            outcome.answers.push(("judge_under", answer));
+            outcome.levels.push(levels.back()?);
+        }
+        Case::Laws {
+            store,
+            supplement,
+            numbers,
+        } => {
+            for &number in numbers {
+                let answer = desk::law(store, supplement, number);
+                outcome.answers.push(("law", answer));
+            }
+        }
         Case::Session { session, calls } => {
             let mut session = session.clone();
             for call in calls {
@@ -72,12 +103,16 @@ pub fn run_library(case: &Case) -> Result<Outcome, String> {
                 outcome.sessions.push((*session).clone());
             }
         }
-        Case::Program { input, output } => {
+        Case::Program {
+            program,
+            input,
+            output,
+        } => {
             let mut output = Lent::of(output);
-            let written = desk::answer(input, output.part());
+            let written = desk::answer(*program, input, output.part());
             outcome.bytes = output.back()?;
             let answer = Answer::Printed(outcome.bytes[..written].to_vec());
-            outcome.answers.push(("program", answer));
+            outcome.answers.push((program_name(*program), answer));
         }
     }
     match given == *case {

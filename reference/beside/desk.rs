@@ -2,7 +2,8 @@
 
 use waroth_reference::generate::Answer;
 use waroth_reference::judge::{Judged, Verdict};
-use waroth_reference::{Counts, Session};
+use waroth_reference::program::Program;
+use waroth_reference::{Counts, LawInForce, Session};
 
 // The header's size_t has 64 bits, as the numbers of a session have here, and nothing stands between a session's parts.
 const _: () = assert!(size_of::<usize>() == 8 && size_of::<Session>() == Session::BYTES);
@@ -35,6 +36,31 @@ extern "C" {
         levels: *mut i16,
         room: usize,
     ) -> u64;
+    fn waroth_read_supplement(
+        store: *const u8,
+        length: usize,
+        text: *const u8,
+        characters: usize,
+        supplement: *mut u8,
+        room: usize,
+    ) -> u64;
+    fn waroth_judge_under(
+        store: *const u8,
+        length: usize,
+        supplement: *const u8,
+        replacing: usize,
+        sheet: *const u8,
+        names: usize,
+        levels: *mut i16,
+        room: usize,
+    ) -> u64;
+    fn waroth_law(
+        store: *const u8,
+        length: usize,
+        supplement: *const u8,
+        replacing: usize,
+        law: usize,
+    ) -> u64;
     fn waroth_open(session: *mut Session, store: *const u8, length: usize) -> u64;
     fn waroth_enter(session: *mut Session, names: *const u8, length: usize) -> u64;
     fn waroth_strike(session: *mut Session) -> u64;
@@ -49,6 +75,7 @@ extern "C" {
         room: usize,
     ) -> u64;
     fn waroth_answer(input: *const u8, length: usize, output: *mut u8, room: usize) -> u64;
+    fn waroth_low_water(input: *const u8, length: usize, output: *mut u8, room: usize) -> u64;
 }
 
 /// What include/waroth.h calls WAROTH_ACCEPTED and WAROTH_REFUSED.
@@ -135,6 +162,19 @@ fn numbered(answer: u64) -> Answer {
     }
 }
 
+/// Which store, above two bytes of the place and one of the size.
+fn found(answer: u64) -> Answer {
+    let law = LawInForce {
+        replaced: answer >> 24 & 1 == 1,
+        place: (answer >> 8 & 0xFFFF) as usize,
+        size: byte(answer, 0).into(),
+    };
+    match answer >> 32 {
+        0 => whole(answer, answer & 0x1FF_FFFF, Answer::Law(law)),
+        _ => alone(answer, 0),
+    }
+}
+
 /// 0, or a refusal.
 fn done(answer: u64) -> Answer {
     match answer {
@@ -187,6 +227,39 @@ pub fn judge(store: &[u8], sheet: &[u8], levels: &mut [i16]) -> Answer {
     })
 }
 
+pub fn read_supplement(store: &[u8], text: &[u8], supplement: &mut [u8]) -> Answer {
+    counted(unsafe {
+        waroth_read_supplement(
+            store.as_ptr(),
+            store.len(),
+            text.as_ptr(),
+            text.len(),
+            supplement.as_mut_ptr(),
+            supplement.len(),
+        )
+    })
+}
+
+pub fn judge_under(store: &[u8], supplement: &[u8], sheet: &[u8], levels: &mut [i16]) -> Answer {
+    judged(unsafe {
+        waroth_judge_under(
+            store.as_ptr(),
+            store.len(),
+            supplement.as_ptr(),
+            supplement.len(),
+            sheet.as_ptr(),
+            sheet.len(),
+            levels.as_mut_ptr(),
+            levels.len(),
+        )
+    })
+}
+
+pub fn law(store: &[u8], supplement: &[u8], law: usize) -> Answer {
+    let (replacing, from) = (supplement.len(), supplement.as_ptr());
+    found(unsafe { waroth_law(store.as_ptr(), store.len(), from, replacing, law) })
+}
+
 pub fn open(session: &mut Session, store: &[u8]) -> Answer {
     done(unsafe { waroth_open(session, store.as_ptr(), store.len()) })
 }
@@ -217,8 +290,12 @@ pub fn verdict_of(session: &Session, store: &[u8], levels: &mut [i16]) -> Answer
     judged(unsafe { waroth_verdict(session, store.as_ptr(), store.len(), to, room) })
 }
 
-/// What the program prints for an input: the bytes written to the front of the output.
-pub fn answer(input: &[u8], output: &mut [u8]) -> usize {
+/// What a program prints for an input: the bytes written to the front of the output.
+pub fn answer(program: Program, input: &[u8], output: &mut [u8]) -> usize {
+    let call = match program {
+        Program::Waroth => waroth_answer,
+        Program::LowWater => waroth_low_water,
+    };
     let (room, to) = (output.len(), output.as_mut_ptr());
-    unsafe { waroth_answer(input.as_ptr(), input.len(), to, room) as usize }
+    unsafe { call(input.as_ptr(), input.len(), to, room) as usize }
 }

@@ -3,17 +3,15 @@
 use waroth_reference::generate::draft::{frame, law, replacement, sheet_text, text_of, Draft};
 use waroth_reference::generate::laws::{constant, node, wrapped};
 use waroth_reference::generate::random::Random;
-use waroth_reference::generate::shapes::{longest, sized};
+use waroth_reference::generate::shapes::sized;
 use waroth_reference::generate::sheets;
+use waroth_reference::generate::supplements::{longest_of_both, stand_in, LONGEST_LAW};
 use waroth_reference::judge::{judge, judge_under, Judged, Verdict, LEVELS};
-use waroth_reference::line::{write_line, MAX_PAYLOAD};
+use waroth_reference::line::write_line;
 use waroth_reference::program::{Program, OUTPUT_BYTES};
 use waroth_reference::store::frame_at;
 use waroth_reference::supplement::SUPPLEMENT_BYTES;
 use waroth_reference::{law_in_force, plain, read_supplement, LawInForce};
-
-/// The longest law that may stand in for another.
-const MOST: usize = MAX_PAYLOAD - 2;
 
 /// The reader's answer over the pool, whose laws are A5 of entry 0, A5 of entry
 /// 1, A6 of entry 0, A6 of entry 1 and A9.
@@ -58,18 +56,6 @@ fn verdict(draft: &Draft, supplement: &[Vec<u8>], sheet: &[u8]) -> (Verdict, usi
 
 fn broken(kind: u8, step: u8, number: u8) -> Verdict {
     Verdict::Broken { kind, step, number }
-}
-
-/// One fluent, one action; laws 0 to 4 of kinds A5 to A9, all of them true, and
-/// the effect adds one.
-fn of_each_kind() -> Draft {
-    let mut draft = Draft::new(1, &[[0, 9, 5]], &[(1, 1)]).free();
-    let raised = node(0x12, &[&[0x11, 0, 0], &constant(1)]);
-    draft.insert(law(0xA6, &[&[0, 0x2A, 0], &raised]));
-    for kind in 0xA7..=0xA9 {
-        draft.insert(frame(kind, &[0x2A]));
-    }
-    draft
 }
 
 #[test]
@@ -244,7 +230,7 @@ fn the_rest_of_the_law_is_4_after_20() {
 
 #[test]
 fn occurrences_only_where_the_kind_allows_them() {
-    let draft = of_each_kind();
+    let draft = Draft::of_each_kind();
     let lines = [(0, vec![0, 0x29, 0, 0]), (3, vec![0x29, 0, 0])];
     for (number, payload) in lines {
         let law = frame(draft.law(number)[0], &payload);
@@ -264,7 +250,7 @@ fn occurrences_only_where_the_kind_allows_them() {
 
 #[test]
 fn each_kind_replaced() {
-    let draft = of_each_kind();
+    let draft = Draft::of_each_kind();
     assert_eq!(verdict(&draft, &[], &[1]), (Verdict::Accepted, 2));
     let never = [0x28, 0x2A];
     let cases = [
@@ -301,12 +287,12 @@ fn what_a_crew_knows_is_asked_of_the_law_in_force() {
     assert_eq!(verdict(&unknown, &free, &[1]), (Verdict::Accepted, 2));
 }
 
-/// A random law that may stand in for the one with this number.
+/// A random law that may stand in for the one with this number, or a long one.
 fn another(r: &mut Random, draft: &Draft, number: usize) -> Vec<u8> {
-    let (kind, entry) = (draft.law(number)[0], draft.law(number)[2]);
+    let own = draft.law(number);
     match r.one_in(4) {
-        true => sized(r, draft, kind, entry, MOST),
-        false => draft.random_law(r, kind, entry, true, MOST),
+        true => sized(r, draft, own[0], own[2], LONGEST_LAW),
+        false => stand_in(r, draft, number),
     }
 }
 
@@ -339,7 +325,7 @@ fn a_long_law_is_replaced_by_one_of_118_bytes() {
     let mut r = Random::seeded(33);
     for kind in 0xA5..=0xA9 {
         for size in [118, 119, 120] {
-            let mut draft = of_each_kind();
+            let mut draft = Draft::of_each_kind();
             let number = usize::from(kind - 0xA5);
             let long = sized(&mut r, &draft, kind, 0, size);
             draft = draft.with_law(number, &long);
@@ -359,30 +345,16 @@ fn a_long_law_is_replaced_by_one_of_118_bytes() {
     }
 }
 
-/// A domain with 128 laws, and all of them replaced by laws of 118 bytes.
-fn full(r: &mut Random) -> (Draft, Vec<Vec<u8>>) {
-    let draft = longest(r);
-    let frames = (0..128).map(|number| {
-        let (kind, entry) = (draft.law(number)[0], draft.law(number)[2]);
-        replacement(number, &sized(r, &draft, kind, entry, MOST))
-    });
-    let frames = frames.collect();
-    (draft, frames)
-}
-
 #[test]
 fn the_longest_supplement() {
     let mut r = Random::seeded(34);
-    let (draft, mut frames) = full(&mut r);
-    frames.reverse();
+    let (draft, mut frames) = longest_of_both(&mut r);
     let bytes = read_frames(&draft, &frames).expect("a supplement");
     assert_eq!(bytes.len(), 128 * 122);
     assert!(bytes.len() <= SUPPLEMENT_BYTES);
     let mut replaced = draft.clone();
-    for number in 0..128 {
-        let frame = &frames[127 - number];
-        let payload = frame[4..].to_vec();
-        replaced = replaced.with_law(number, &law(frame[3], &[&payload]));
+    for line in &frames {
+        replaced = replaced.with_law(line[2].into(), &frame(line[3], &line[4..]));
     }
     let sheet = vec![0; 16 * 64];
     assert!(judged(&draft, &bytes, &sheet) == judged_alone(&replaced, &sheet));
@@ -393,7 +365,7 @@ fn the_longest_supplement() {
 #[test]
 fn refusals_by_their_lines() {
     let mut r = Random::seeded(35);
-    let (draft, frames) = full(&mut r);
+    let (draft, frames) = longest_of_both(&mut r);
     let faulty: [(u8, &[u8]); 6] = [
         (1, b"AF0\n"),
         (2, b"AF0100A5\n"),
@@ -460,10 +432,13 @@ fn supplement_stores_of_any_length() {
     // Zeros before it, a domain's frames, a supplement of another domain.
     assert!(!accepted(&draft, &[&[0], &free[..]].concat()));
     assert!(!accepted(&draft, &draft.bytes()));
-    assert!(!accepted(&of_each_kind(), &frame(0xAF, &[4, 0xA8, 0x2A])));
-    assert!(accepted(&of_each_kind(), &free));
+    assert!(!accepted(
+        &Draft::of_each_kind(),
+        &frame(0xAF, &[4, 0xA8, 0x2A])
+    ));
+    assert!(accepted(&Draft::of_each_kind(), &free));
     let other = replacement(1, draft.law(1));
-    assert!(accepted(&draft, &other) && !accepted(&of_each_kind(), &other));
+    assert!(accepted(&draft, &other) && !accepted(&Draft::of_each_kind(), &other));
 }
 
 #[test]
@@ -690,7 +665,7 @@ fn the_programs_longest_input() {
     }
     // Each part as long as it may be.
     let mut r = Random::seeded(40);
-    let (draft, frames) = full(&mut r);
+    let (draft, frames) = longest_of_both(&mut r);
     let sheet = sheet_text(&[0; 1024], 16);
     let input = [draft.text(), text_of(&frames), sheet].concat();
     assert!(input.len() > 60_000);

@@ -4,18 +4,21 @@
 use super::calls::CALLS;
 use super::case::{Call, Case};
 use super::draft::{sheet_text, text_of, Draft};
-use super::faults::LINE_FAULTS;
+use super::faults::{Lines, LINE_FAULTS};
+use super::low_water::LOW_WATER;
 use super::random::Random;
 use super::sheets::{self, SESSION_FAULTS};
+use super::supplements::{self, Place, PLACES};
 use super::texts::{damaged_line, CHARACTER_FAULTS, ORDER_FAULTS, SHEET_FAULTS};
 use super::verdicts::{trials, Trial};
 use crate::domain::Counts;
 use crate::judge::LEVELS;
-use crate::program::OUTPUT_BYTES;
+use crate::program::{Program, OUTPUT_BYTES};
 use crate::refusal::*;
 use crate::session::Session;
 use crate::sheet::SHEET_BYTES;
 use crate::store::STORE_BYTES;
+use crate::supplement::{LawInForce, SUPPLEMENT_BYTES};
 use std::rc::Rc;
 
 #[derive(Clone, Copy, PartialEq, Eq, Debug)]
@@ -31,6 +34,11 @@ pub enum Expect {
     Accepted,
     /// So many agents, fluents, entries and laws.
     Counts(Counts),
+    /// Of all the laws asked for, so many stand in the domain and so many in the
+    /// supplement.
+    Laws { own: usize, replaced: usize },
+    /// The law in force stands here.
+    Law(LawInForce),
     /// So many bytes or steps.
     Count(usize),
     /// The program's call prints nothing.
@@ -51,10 +59,17 @@ pub fn enough(r: &mut Random, named: usize) -> Vec<u8> {
     r.bytes(named + more)
 }
 
-/// The program's call on an input, with room for what it prints.
+/// A program's call on an input, with room for what it prints.
+pub fn printing_by(program: Program, r: &mut Random, input: Vec<u8>) -> Case {
+    Case::Program {
+        program,
+        input,
+        output: enough(r, OUTPUT_BYTES),
+    }
+}
+
 pub fn printing(r: &mut Random, input: Vec<u8>) -> Case {
-    let output = enough(r, OUTPUT_BYTES);
-    Case::Program { input, output }
+    printing_by(Program::Waroth, r, input)
 }
 
 pub fn too_short(r: &mut Random, named: usize) -> Vec<u8> {
@@ -76,15 +91,25 @@ pub fn too_few_levels(r: &mut Random) -> Vec<i16> {
     r.values(length)
 }
 
-/// Bytes with some zeros after them, or none.
-pub fn stored(r: &mut Random, mut bytes: Vec<u8>) -> Vec<u8> {
+/// Bytes with some zeros after them, or none; mostly so many in all.
+fn padded(r: &mut Random, mut bytes: Vec<u8>, mostly: usize) -> Vec<u8> {
     let length = match r.below(4) {
         0 => bytes.len(),
         1 => bytes.len() + r.below(200),
-        _ => STORE_BYTES.max(bytes.len()),
+        _ => mostly.max(bytes.len()),
     };
     bytes.resize(length, 0);
     bytes
+}
+
+/// A domain's frames in a store.
+pub fn stored(r: &mut Random, bytes: Vec<u8>) -> Vec<u8> {
+    padded(r, bytes, STORE_BYTES)
+}
+
+/// A supplement's frames in a store.
+pub fn stored_supplement(r: &mut Random, bytes: Vec<u8>) -> Vec<u8> {
+    padded(r, bytes, SUPPLEMENT_BYTES)
 }
 
 /// A session and one call on it.
@@ -119,6 +144,33 @@ pub fn over_store(r: &mut Random, store: Vec<u8>) -> Case {
             let levels = enough_levels(r);
             on(sheets::opened(agents), Call::Verdict { store, levels })
         }
+    }
+}
+
+/// The supplement reader's call on a text, with room for what it reads.
+pub fn reading(r: &mut Random, draft: &Draft, text: Vec<u8>) -> Case {
+    Case::ReadSupplement {
+        store: stored(r, draft.bytes()),
+        text,
+        buffer: enough(r, SUPPLEMENT_BYTES),
+    }
+}
+
+/// Some call that reads both stores.
+pub fn over_both(r: &mut Random, store: Vec<u8>, supplement: Vec<u8>) -> Case {
+    match r.one_in(2) {
+        true => Case::JudgeUnder {
+            store,
+            supplement,
+            sheet: vec![],
+            levels: enough_levels(r),
+        },
+        // Every domain has a law 0.
+        false => Case::Laws {
+            store,
+            supplement,
+            numbers: vec![0],
+        },
     }
 }
 
@@ -175,11 +227,23 @@ impl Aims {
                 store: enough(r, STORE_BYTES),
             }
         });
-        // For the program a B1 line ends the domain.
+        // For the programs a B1 line ends the domain.
         if label != "B1 in a domain" {
             self.add(format!("program: {label}"), expect, move |r| {
                 let input = text(r);
                 printing(r, input)
+            });
+            self.add(format!("low_water: {label}"), expect, move |r| {
+                let mut input = text(r);
+                // A spoilt line that starts so would end the domain.
+                while input.split(|&c| c == b'\n').any(|l| l.starts_with(b"AF")) {
+                    input = text(r);
+                }
+                // The domain's refusals go before the supplement's and the sheet's.
+                if number != 0 && input.ends_with(b"\n") {
+                    input.extend(b"AF00\nB100\n");
+                }
+                printing_by(Program::LowWater, r, input)
             });
         }
     }
@@ -207,9 +271,47 @@ impl Aims {
             input.extend(text(r, agents));
             printing(r, input)
         });
+        self.add(format!("low_water: sheet with {label}"), expect, move |r| {
+            let agents = r.from_to(1, 16);
+            let draft = Draft::new(agents, &[[0, 9, 5]], &[(1, 1)]).free();
+            let lines = supplements::supplement(r, &draft);
+            let input = [draft.text(), text_of(&lines), text(r, agents)].concat();
+            printing_by(Program::LowWater, r, input)
+        });
     }
 
-    /// A trial, before the judge, as a session and as a program's input.
+    /// A supplement for a domain: its text before the reader, its bytes before
+    /// the calls that take them.
+    fn supplement(&mut self, label: &str, number: u8, make: impl MakesSupplement) {
+        let expect = refused_or_fine(number);
+        self.add(format!("read_supplement: {label}"), expect, move |r| {
+            let (draft, lines) = make(r);
+            reading(r, &draft, text_of(&lines))
+        });
+        let expect = refused_or_fine(if number == 0 { 0 } else { STORE });
+        self.add(format!("supplement: {label}"), expect, move |r| {
+            let (draft, lines) = make(r);
+            let store = stored(r, draft.bytes());
+            let supplement = stored_supplement(r, lines.concat());
+            over_both(r, store, supplement)
+        });
+    }
+
+    /// The same as a part of the second program's input.
+    fn low_water(&mut self, label: &str, number: u8, make: impl MakesSupplement) {
+        let expect = refused_or_fine(number);
+        self.add(format!("low_water: AF, {label}"), expect, move |r| {
+            let (draft, lines) = make(r);
+            let steps = r.below(3);
+            let names: Vec<_> = (0..steps).flat_map(|_| sheets::step(r, &draft)).collect();
+            let sheet = sheet_text(&names, draft.agents);
+            let input = [draft.text(), text_of(&lines), sheet].concat();
+            printing_by(Program::LowWater, r, input)
+        });
+    }
+
+    /// A trial, before the judge, as a session and as a program's input; and
+    /// with laws that only the supplement has.
     fn trial(&mut self, (label, expect, make): Trial) {
         let make = Rc::new(make);
         let again = make.clone();
@@ -230,14 +332,38 @@ impl Aims {
             let session = sheets::session_of(&sheet, draft.agents);
             on(session, Call::Verdict { store, levels })
         });
+        let again = make.clone();
         self.add(format!("program: {label}"), expect, move |r| {
-            let (draft, sheet) = make(r);
+            let (draft, sheet) = again(r);
             let mut input = draft.text();
             input.extend(sheet_text(&sheet, draft.agents));
             printing(r, input)
         });
+        let again = make.clone();
+        self.add(format!("judge_under: {label}"), expect, move |r| {
+            let (draft, sheet) = again(r);
+            let (other, lines) = supplements::behind(r, &draft);
+            Case::JudgeUnder {
+                store: stored(r, other.bytes()),
+                supplement: stored_supplement(r, lines.concat()),
+                sheet,
+                levels: enough_levels(r),
+            }
+        });
+        self.add(format!("low_water: {label}"), expect, move |r| {
+            let (draft, sheet) = make(r);
+            let (other, lines) = supplements::behind(r, &draft);
+            let sheet = sheet_text(&sheet, draft.agents);
+            let input = [other.text(), text_of(&lines), sheet].concat();
+            printing_by(Program::LowWater, r, input)
+        });
     }
 }
+
+/// Makes a domain and a supplement's lines for it.
+trait MakesSupplement: Fn(&mut Random) -> (Draft, Lines) + Copy + 'static {}
+
+impl<F: Fn(&mut Random) -> (Draft, Lines) + Copy + 'static> MakesSupplement for F {}
 
 /// All aims, in a fixed order.
 pub fn aims() -> Vec<Aim> {
@@ -270,6 +396,37 @@ pub fn aims() -> Vec<Aim> {
             text_of(&damaged_line(r, agents, steps, spoil))
         });
     }
+    for &(label, number, kind, line) in supplements::LINE_FAULTS {
+        for &(at, place) in PLACES {
+            let label = format!("{label}, {at}");
+            let make = move |r: &mut Random| supplements::with_line(r, place, kind, line);
+            aims.supplement(&label, number, make);
+            // A first line of another kind belongs to the domain.
+            if number != KIND || place != Place::First {
+                aims.low_water(&label, number, make);
+            }
+        }
+    }
+    for &(label, number, make) in supplements::WHOLE {
+        aims.supplement(label, number, make);
+        aims.low_water(label, number, make);
+    }
+    for &(label, spoil) in CHARACTER_FAULTS {
+        aims.add(
+            format!("read_supplement: {label}"),
+            Refused(LINE),
+            move |r| {
+                let (draft, lines) = supplements::some_lines(r);
+                let text = spoil(r, text_of(&lines));
+                reading(r, &draft, text)
+            },
+        );
+        aims.add(format!("low_water: AF, {label}"), Refused(LINE), move |r| {
+            let (draft, lines) = supplements::some_lines(r);
+            let text = spoil(r, text_of(&lines));
+            printing_by(Program::LowWater, r, [draft.text(), text].concat())
+        });
+    }
     for &(label, session) in SESSION_FAULTS {
         aims.add(format!("session: {label}"), Refused(SESSION), move |r| {
             let session = session(r);
@@ -277,7 +434,7 @@ pub fn aims() -> Vec<Aim> {
             on(session, call)
         });
     }
-    for &(label, expect, make) in CALLS {
+    for &(label, expect, make) in CALLS.iter().chain(LOW_WATER) {
         aims.add(label.to_string(), expect, make);
     }
     trials().into_iter().for_each(|trial| aims.trial(trial));

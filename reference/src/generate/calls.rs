@@ -12,7 +12,7 @@ use super::shapes::longest;
 use super::sheets;
 use crate::domain::Counts;
 use crate::line::line_length;
-use crate::program::OUTPUT_BYTES;
+use crate::program::{Program, OUTPUT_BYTES};
 use crate::refusal::*;
 use crate::sheet::{self, SHEET_BYTES};
 use crate::store::{self, STORE_BYTES};
@@ -455,7 +455,11 @@ pub const CALLS: &[CallAim] = &[
     ("program: output too short", Silent, |r| {
         let input = Draft::pool().text();
         let output = too_short(r, OUTPUT_BYTES);
-        Case::Program { input, output }
+        Case::Program {
+            program: Program::Waroth,
+            input,
+            output,
+        }
     }),
     (
         "program: A line after the first B1 line",

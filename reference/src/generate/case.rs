@@ -3,9 +3,11 @@
 
 use crate::domain::Counts;
 use crate::judge::{self, Judged};
+use crate::program::Program;
 use crate::session::Session;
+use crate::sheet;
 use crate::store::{self, FrameReader};
-use crate::{program::Program, sheet};
+use crate::supplement::{self, LawInForce};
 
 /// A call of a session.
 #[derive(Clone, PartialEq, Eq, Debug)]
@@ -60,12 +62,30 @@ pub enum Case {
         sheet: Vec<u8>,
         levels: Vec<i16>,
     },
+    ReadSupplement {
+        store: Vec<u8>,
+        text: Vec<u8>,
+        buffer: Vec<u8>,
+    },
+    JudgeUnder {
+        store: Vec<u8>,
+        supplement: Vec<u8>,
+        sheet: Vec<u8>,
+        levels: Vec<i16>,
+    },
+    /// Asks for the laws in force of these numbers, one after another.
+    Laws {
+        store: Vec<u8>,
+        supplement: Vec<u8>,
+        numbers: Vec<usize>,
+    },
     /// Calls one after another on the session given.
     Session {
         session: Box<Session>,
         calls: Vec<Call>,
     },
     Program {
+        program: Program,
         input: Vec<u8>,
         output: Vec<u8>,
     },
@@ -84,6 +104,7 @@ pub enum Answer {
     },
     Judged(Judged),
     Counts(Counts),
+    Law(LawInForce),
     Printed(Vec<u8>),
     /// Line 0 also where the call reports no line.
     Refused {
@@ -177,6 +198,37 @@ pub fn run_reference(case: &Case) -> Outcome {
             outcome.answers.push(("judge", answer));
             outcome.levels.push(levels);
         }
+        Case::ReadSupplement {
+            store,
+            text,
+            buffer,
+        } => {
+            outcome.bytes = buffer.clone();
+            let read = supplement::read_supplement(store, text, &mut outcome.bytes);
+            outcome.answers.push(("read_supplement", lined(read)));
+        }
+        Case::JudgeUnder {
+            store,
+            supplement,
+            sheet,
+            levels,
+        } => {
+            let mut levels = levels.clone();
+            let judged = judge::judge_under(store, supplement, sheet, &mut levels);
+            let answer = plain(judged, Answer::Judged);
+            outcome.answers.push(("judge_under", answer));
+            outcome.levels.push(levels);
+        }
+        Case::Laws {
+            store,
+            supplement,
+            numbers,
+        } => {
+            for &number in numbers {
+                let law = supplement::law_in_force(store, supplement, number);
+                outcome.answers.push(("law", plain(law, Answer::Law)));
+            }
+        }
         Case::Session { session, calls } => {
             let mut session = session.clone();
             for call in calls {
@@ -184,14 +236,26 @@ pub fn run_reference(case: &Case) -> Outcome {
                 outcome.sessions.push((*session).clone());
             }
         }
-        Case::Program { input, output } => {
+        Case::Program {
+            program,
+            input,
+            output,
+        } => {
             outcome.bytes = output.clone();
-            let written = Program::Waroth.answer(input, &mut outcome.bytes);
+            let written = program.answer(input, &mut outcome.bytes);
             let answer = Answer::Printed(outcome.bytes[..written].to_vec());
-            outcome.answers.push(("program", answer));
+            outcome.answers.push((program_name(*program), answer));
         }
     }
     outcome
+}
+
+/// What a program's call is counted under.
+pub fn program_name(program: Program) -> &'static str {
+    match program {
+        Program::Waroth => "program",
+        Program::LowWater => "low_water",
+    }
 }
 
 fn frames(store: &[u8], outcome: &mut Outcome) {

@@ -5,6 +5,7 @@ use super::case::{Answer, Outcome};
 use crate::domain::Counts;
 use crate::judge::{Judged, Verdict};
 use crate::sheet::MAX_STEPS;
+use crate::supplement::LawInForce;
 use std::collections::{BTreeMap, BTreeSet};
 use std::fmt;
 
@@ -14,6 +15,9 @@ pub const ORDERS: &[(&str, &[u8])] = &[
     ("read_sheet", &[10, 4, 1, 2, 3, 9, 8]),
     ("counts", &[15]),
     ("judge", &[10, 15, 8, 9]),
+    ("read_supplement", &[10, 15, 1, 2, 3, 20, 4]),
+    ("judge_under", &[10, 15, 8, 9]),
+    ("law", &[15, 20]),
     ("open", &[15]),
     ("enter", &[17, 14, 8, 9]),
     ("strike", &[17, 14, 11]),
@@ -25,13 +29,14 @@ pub const ORDERS: &[(&str, &[u8])] = &[
     ("write_domain", &[15, 10]),
     ("write_sheet", &[4, 8, 9, 10]),
     ("program", &[18, 1, 2, 3, 5, 4, 6, 7, 9, 8]),
+    ("low_water", &[18, 1, 2, 3, 5, 4, 6, 7, 20, 9, 8]),
 ];
 
 /// Calls that are never refused.
 const NEVER_REFUSED: &[&str] = &["accepted", "frame_at"];
 
 /// Calls that give a verdict.
-const JUDGES: &[&str] = &["judge", "verdict", "program"];
+const JUDGES: &[&str] = &["judge", "judge_under", "verdict", "program", "low_water"];
 
 /// Kind of a fault, and whether it leaves the state that its step led to: a
 /// goal law's fault does.
@@ -69,6 +74,7 @@ enum Sense {
         states: usize,
     },
     Counts(Counts),
+    Law(LawInForce),
     Count(usize),
     /// The program's call had no room and printed nothing.
     Silent,
@@ -88,6 +94,7 @@ fn sense(answer: &Answer) -> Sense {
             },
         },
         Answer::Counts(counts) => Sense::Counts(*counts),
+        Answer::Law(law) => Sense::Law(*law),
         Answer::Count(count) => Sense::Count(*count),
         // An unaccepted store is refusal 15 in all calls but this question.
         Answer::Truth(false) => Sense::Refused(15),
@@ -109,6 +116,18 @@ fn sense(answer: &Answer) -> Sense {
         }
         _ => Sense::Other,
     }
+}
+
+/// How many laws were found in the domain and in the supplement.
+fn found(answers: &[(&str, Answer)]) -> [usize; 2] {
+    let count = |wanted: bool| {
+        let replaced = |answer| matches!(sense(answer), Sense::Law(l) if l.replaced == wanted);
+        answers
+            .iter()
+            .filter(|(_, answer)| replaced(answer))
+            .count()
+    };
+    [count(false), count(true)]
 }
 
 #[derive(Default)]
@@ -159,7 +178,11 @@ impl Coverage {
                     *self.accepted.entry(call).or_default() += 1;
                     self.accepted_states.insert((call, states));
                 }
-                Sense::Counts(_) | Sense::Count(_) | Sense::Silent | Sense::Other => {}
+                Sense::Counts(_)
+                | Sense::Law(_)
+                | Sense::Count(_)
+                | Sense::Silent
+                | Sense::Other => {}
             }
         }
         let Some((aim, expect)) = aim else { return };
@@ -169,6 +192,7 @@ impl Coverage {
             _ => outcome.answers.last().map(|(_, last)| last),
         };
         let met = answer.is_some_and(|answer| match (expect, sense(answer)) {
+            (Expect::Laws { own, replaced }, _) => [own, replaced] == found(&outcome.answers),
             (Expect::Refused(wanted), Sense::Refused(number)) => wanted == number,
             (Expect::Broken(wanted), Sense::Broken { kind, step, states }) => {
                 (wanted, step) == (kind, states)
@@ -178,6 +202,7 @@ impl Coverage {
             }
             (Expect::Accepted, Sense::Accepted { .. }) => true,
             (Expect::Counts(wanted), Sense::Counts(counts)) => wanted == counts,
+            (Expect::Law(wanted), Sense::Law(law)) => wanted == law,
             (Expect::Count(wanted), Sense::Count(count)) => wanted == count,
             (Expect::Silent, Sense::Silent) => true,
             (Expect::Fine, Sense::Refused(_)) => false,

@@ -100,6 +100,17 @@ impl Draft {
         draft
     }
 
+    /// One fluent and one action; laws 0 to 4 are one of each kind, all of them
+    /// true, and the effect adds one.
+    pub fn of_each_kind() -> Self {
+        let mut draft = Draft::new(1, &[[0, 9, 5]], &[(1, 1)]).free();
+        draft.insert(frame(0xA6, &[0, 0x2A, 0, 0x12, 0x11, 0, 0, 0x10, 0, 1]));
+        for kind in 0xA7..=0xA9 {
+            draft.insert(frame(kind, &[0x2A]));
+        }
+        draft
+    }
+
     /// As many agents, fluents, frames of knowledge and entries as is allowed;
     /// it lacks its laws.
     pub fn crowded() -> Self {

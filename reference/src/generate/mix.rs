@@ -1,15 +1,20 @@
 //! Cases without aim: random ones of every call, arguments good and bad mixed.
 
-use super::aims::{enough, enough_levels, on, over_store, printing, stored, too_short, Aim};
+use super::aims::{
+    enough, enough_levels, on, over_store, printing, printing_by, stored, stored_supplement,
+    too_short, Aim,
+};
 use super::case::{Call, Case};
 use super::draft::{sheet_text, text_of, Draft};
 use super::random::Random;
-use super::sheets;
+use super::{sheets, supplements};
 use crate::judge::LEVELS;
 use crate::line::line_length;
+use crate::program::Program;
 use crate::session::Session;
 use crate::sheet::SHEET_BYTES;
 use crate::store::STORE_BYTES;
+use crate::supplement::SUPPLEMENT_BYTES;
 
 /// Mostly long enough.
 fn buffer(r: &mut Random, named: usize) -> Vec<u8> {
@@ -108,15 +113,8 @@ fn judged(r: &mut Random) -> Case {
         let length = r.below(70 * draft.agents);
         sheet.resize(length, 0);
     }
-    let store = match r.one_in(20) {
-        true => any_store(r),
-        false => {
-            let bytes = draft.bytes();
-            stored(r, bytes)
-        }
-    };
     Case::Judge {
-        store,
+        store: mostly_own(r, &draft),
         sheet,
         levels: levels(r),
     }
@@ -249,6 +247,77 @@ fn program(r: &mut Random, aims: &[Aim]) -> Case {
     printing(r, input)
 }
 
+/// A supplement's bytes, good or bad, for a domain.
+fn any_supplement(r: &mut Random, draft: &Draft) -> Vec<u8> {
+    let lines = supplements::supplement(r, draft);
+    let likely = [0, 1, 2, 3, 0x10, 0x11, 0x29, 0x2A, 0xA5, 0xA9, 0xAF];
+    let bytes = match r.below(10) {
+        0..=6 => lines.concat(),
+        7 if !lines.is_empty() => shuffled(r, lines).concat(),
+        // Of another domain.
+        8 => supplements::some_lines(r).1.concat(),
+        _ => damaged(r, lines.concat(), &likely),
+    };
+    stored_supplement(r, bytes)
+}
+
+fn supplement_text(r: &mut Random, draft: &Draft) -> Vec<u8> {
+    let lines = supplements::supplement(r, draft);
+    match r.below(10) {
+        0..=5 => text_of(&lines),
+        6 | 7 if !lines.is_empty() => text_of(&shuffled(r, lines)),
+        _ => damaged(r, text_of(&lines), b"0123456789ABCDEF\n\r ag"),
+    }
+}
+
+/// The domain's store; now and then another.
+fn mostly_own(r: &mut Random, draft: &Draft) -> Vec<u8> {
+    match r.one_in(16) {
+        true => any_store(r),
+        false => stored(r, draft.bytes()),
+    }
+}
+
+/// A call that takes a supplement's text or store, or the program that does.
+fn under(r: &mut Random) -> Case {
+    let draft = Draft::random(r);
+    match r.below(8) {
+        0 | 1 => Case::ReadSupplement {
+            store: mostly_own(r, &draft),
+            text: supplement_text(r, &draft),
+            buffer: buffer(r, SUPPLEMENT_BYTES),
+        },
+        2..=4 => {
+            let mut sheet = sheets::sheet(r, &draft);
+            if r.one_in(20) {
+                sheet.resize(r.below(70 * draft.agents), 0);
+            }
+            Case::JudgeUnder {
+                store: mostly_own(r, &draft),
+                supplement: any_supplement(r, &draft),
+                sheet,
+                levels: levels(r),
+            }
+        }
+        5 => {
+            let laws = draft.laws();
+            Case::Laws {
+                store: mostly_own(r, &draft),
+                supplement: any_supplement(r, &draft),
+                numbers: (0..4).map(|_| r.below(laws + 2)).collect(),
+            }
+        }
+        _ => {
+            let sheet = sheet_text(&sheets::sheet(r, &draft), draft.agents);
+            let mut input = [draft.text(), supplement_text(r, &draft), sheet].concat();
+            if r.one_in(8) {
+                input = damaged(r, input, b"0123456789ABCDEF\n\r ag");
+            }
+            printing_by(Program::LowWater, r, input)
+        }
+    }
+}
+
 /// A session whose sheet some aim gave to the judge.
 fn verdict(r: &mut Random, aims: &[Aim]) -> Case {
     for _ in 0..8 {
@@ -269,7 +338,7 @@ fn verdict(r: &mut Random, aims: &[Aim]) -> Case {
 
 /// A random case of any call.
 pub fn any(r: &mut Random, aims: &[Aim]) -> Case {
-    match r.below(20) {
+    match r.below(25) {
         0 | 1 => Case::ReadDomain {
             text: domain_text(r),
             store: buffer(r, STORE_BYTES),
@@ -297,6 +366,7 @@ pub fn any(r: &mut Random, aims: &[Aim]) -> Case {
         13 => series(r),
         14 | 15 => single(r),
         16 | 17 => verdict(r, aims),
-        _ => program(r, aims),
+        18 | 19 => program(r, aims),
+        _ => under(r),
     }
 }

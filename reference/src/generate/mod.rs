@@ -7,15 +7,17 @@ pub mod coverage;
 pub mod draft;
 pub mod faults;
 pub mod laws;
+pub mod low_water;
 mod mix;
 pub mod random;
 pub mod shapes;
 pub mod sheets;
+pub mod supplements;
 pub mod texts;
 pub mod verdicts;
 
 pub use aims::{Aim, Expect};
-pub use case::{run_reference, Answer, Call, Case, Outcome};
+pub use case::{program_name, run_reference, Answer, Call, Case, Outcome};
 pub use coverage::Coverage;
 
 use random::Random;

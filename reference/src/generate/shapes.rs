@@ -44,22 +44,32 @@ pub fn alternating(depth: usize) -> Vec<u8> {
     }
 }
 
-/// A law that is exactly so deep.
-pub fn deep(r: &mut Random, draft: &Draft, depth: usize) -> Vec<u8> {
-    match r.below(5) {
-        0 => law_with(r, draft, false, &wrapped(0x28, depth - 1, &[0x2A])),
-        1 => {
-            let code = r.from_to(0x17, 0x18) as u8;
-            let value = wrapped(code, depth - 1, &constant(3));
-            law(0xA6, &[&[0, 0x2A, 0], &value])
-        }
-        2 => law_with(r, draft, false, &alternating(depth)),
-        3 => {
+/// A constraint that is exactly so deep.
+pub fn deep_constraint(r: &mut Random, depth: usize) -> Vec<u8> {
+    match r.below(3) {
+        0 => wrapped(0x28, depth - 1, &[0x2A]),
+        1 => alternating(depth),
+        _ => {
             let mut either = vec![0x2A];
             for _ in 1..depth {
                 either = node(r.from_to(0x26, 0x27) as u8, &[&either, &[0x2A]]);
             }
-            law_with(r, draft, false, &either)
+            either
+        }
+    }
+}
+
+/// A law that is exactly so deep.
+pub fn deep(r: &mut Random, draft: &Draft, depth: usize) -> Vec<u8> {
+    match r.below(5) {
+        0..=2 => {
+            let constraint = deep_constraint(r, depth);
+            law_with(r, draft, false, &constraint)
+        }
+        3 => {
+            let code = r.from_to(0x17, 0x18) as u8;
+            let value = wrapped(code, depth - 1, &constant(3));
+            law(0xA6, &[&[0, 0x2A, 0], &value])
         }
         _ => {
             let mut value = vec![0x11, 0, 0];

@@ -39,7 +39,7 @@ enum {
     WAROTH_EDITS = 200
 };
 
-/* The characters of a line of the program's output, at most: "S", a number, a level for each fluent, LF; then "BROKEN", three
+/* The characters of a line of a program's output, at most: "S", a number, a level for each fluent, LF; then "BROKEN", three
  * numbers, LF. A number takes 21 with the space before it, a level 7. */
 #define WAROTH_STATE_LINE (1 + 21 + 7 * WAROTH_FLUENTS + 1)
 #define WAROTH_LAST_LINE (6 + 3 * 21 + 1)
@@ -47,12 +47,13 @@ enum {
 /* The least size of each buffer that is lent to be written. */
 enum {
     WAROTH_STORE = 36000,                                /* bytes: a domain is read into it */
+    WAROTH_SUPPLEMENT = 16000,                           /* bytes: a supplement is read into it */
     WAROTH_SHEET = WAROTH_STEPS * WAROTH_AGENTS,         /* bytes: a sheet is read into it */
     WAROTH_LEVELS = (WAROTH_STEPS + 1) * WAROTH_FLUENTS, /* numbers: levels */
-    WAROTH_OUTPUT = (WAROTH_STEPS + 1) * WAROTH_STATE_LINE + WAROTH_LAST_LINE /* bytes: the program's output */
+    WAROTH_OUTPUT = (WAROTH_STEPS + 1) * WAROTH_STATE_LINE + WAROTH_LAST_LINE /* bytes: a program's output */
 };
 
-/* The most bytes of the program's input. */
+/* The most bytes of a program's input. */
 enum { WAROTH_INPUT = 60000 };
 
 /* The most stack of a call, in bytes: what was measured, with room to spare. Measured by reference/beside/stack.c:
@@ -62,9 +63,9 @@ enum { WAROTH_INPUT = 60000 };
  *   waroth_counts        5,392   waroth_judge       28,208   waroth_strike 16,352   waroth_verdict 40,528
  *   waroth_frame             8   waroth_answer      70,464   waroth_amend  16,352 */
 enum {
-    WAROTH_STACK_TEXTS = 8192,     /* domains and sheets */
-    WAROTH_STACK_VERDICTS = 65536, /* waroth_judge, waroth_verdict */
-    WAROTH_STACK_ANSWER = 131072,  /* waroth_answer */
+    WAROTH_STACK_TEXTS = 8192,     /* domains, supplements and sheets */
+    WAROTH_STACK_VERDICTS = 65536, /* waroth_judge, waroth_judge_under, waroth_verdict */
+    WAROTH_STACK_ANSWER = 131072,  /* waroth_answer, waroth_low_water */
     WAROTH_STACK_SESSIONS = 32768  /* sessions, but for the verdict */
 };
 
@@ -96,10 +97,13 @@ enum waroth_refusal_number {
     WAROTH_NOTHING_STANDS = 12, /* undo with no standing edit */
     WAROTH_NOTHING_UNDONE = 13, /* redo with no undone edit */
     WAROTH_LOG_FULL = 14,       /* 200 edits stand */
-    WAROTH_NOT_DOMAIN = 15,     /* store is not an accepted domain followed by zeros */
+    WAROTH_NOT_DOMAIN = 15,     /* store is not an accepted domain followed by zeros; supplement's store is not one accepted
+                                 * for this domain, zeros after */
     WAROTH_OTHER_AGENTS = 16,   /* the domain's number of agents differs from the session's */
     WAROTH_NOT_SESSION = 17,    /* session closed, or not one that an accepted opening and calls after it could leave */
-    WAROTH_LONG_INPUT = 18      /* the program's input is over 60,000 bytes */
+    WAROTH_LONG_INPUT = 18,     /* a program's input is over 60,000 bytes */
+    WAROTH_OTHER_LAW = 20       /* a supplement's law number is not in the domain or was given before, or its law's kind or
+                                 * entry differs; a law is asked for that the domain lacks */
 };
 
 /* What a judgement says: accepted, refused, or what is at fault. None of them is 0. */
@@ -123,14 +127,14 @@ static inline unsigned waroth_refusal(uint64_t answer)
     return (unsigned)(answer >> 32);
 }
 
-/* Of a reader's refusal: the line at fault, counted from 1; of 7 the count of lines; 0 of 10 and of the sheet reader's 4,
- * and where nothing is refused. */
+/* Of a reader's refusal: the line at fault, counted from 1; of 7 the count of lines; 0 of 10, of the sheet reader's 4 and of
+ * the supplement reader's 15, and where nothing is refused. */
 static inline uint32_t waroth_line(uint64_t answer)
 {
     return waroth_refusal(answer) == 0 ? 0 : (uint32_t)answer & 0x7FFFFFFF;
 }
 
-/* Of the answer of a domain's reader or of a writer: the bytes used or written, 0 where it refuses. */
+/* Of the answer of a domain's or a supplement's reader or of a writer: the bytes used or written, 0 where it refuses. */
 static inline uint32_t waroth_count(uint64_t answer)
 {
     return waroth_refusal(answer) == 0 ? (uint32_t)answer : 0;
@@ -187,6 +191,23 @@ static inline unsigned waroth_laws(uint64_t answer)
     return waroth_refusal(answer) == 0 ? (unsigned)(answer & 0xFF) : 0;
 }
 
+/* Of the answer of waroth_law: whether the law's payload stands in the supplement (1) or in the domain's store (0), the place
+ * of its first byte there, and its size. Each is 0 where it refuses, and no law stands at place 0 or has size 0. */
+static inline unsigned waroth_replaced(uint64_t answer)
+{
+    return waroth_refusal(answer) == 0 ? (unsigned)(answer >> 24 & 1) : 0;
+}
+
+static inline size_t waroth_place(uint64_t answer)
+{
+    return waroth_refusal(answer) == 0 ? (size_t)(answer >> 8 & 0xFFFF) : 0;
+}
+
+static inline size_t waroth_size(uint64_t answer)
+{
+    return waroth_refusal(answer) == 0 ? (size_t)(answer & 0xFF) : 0;
+}
+
 /* ---- Domains */
 
 /* Reads a domain's hex lines into a store of at least WAROTH_STORE bytes. Count: the bytes used.
@@ -208,6 +229,21 @@ uint64_t waroth_counts(const uint8_t *store, size_t store_size);
  * stands. The next frame of a store stands behind it. Refuses nothing: whether the bytes are an accepted domain, the call
  * before says. */
 uint64_t waroth_frame(const uint8_t *store, size_t store_size, size_t place);
+
+/* ---- Supplements: lines of kind AF, each a law's number, then kind and payload of the law that stands in for it */
+
+/* Reads a supplement's hex lines against an accepted domain, whose store may have any size, into a buffer of at least
+ * WAROTH_SUPPLEMENT bytes. Count: the bytes used; 0 of no lines, which are a supplement too.
+ * Refusals: 10, 15 for the domain (both with line 0), then line by line 1, 2, 3 (any kind but AF), 4 for a payload under 3
+ * bytes, 20, 4 for all else of the law.
+ * The supplement: the frames end to end, zeros after. After 10 it is as it was; after any other refusal it is all zero. */
+uint64_t waroth_read_supplement(const uint8_t *store, size_t store_size, const uint8_t *text, size_t text_size,
+                                uint8_t *supplement, size_t supplement_size);
+
+/* Where the payload of the law in force stands, by the law's number from 0 (waroth_replaced, waroth_place and waroth_size);
+ * both stores may have any size, and no bytes at all are a supplement that replaces nothing.
+ * Refusals: 15 for either store, 20. */
+uint64_t waroth_law(const uint8_t *store, size_t store_size, const uint8_t *supplement, size_t supplement_size, size_t law);
 
 /* ---- Sheets */
 
@@ -232,12 +268,22 @@ uint64_t waroth_write_sheet(const uint8_t *sheet, size_t sheet_size, size_t agen
 uint64_t waroth_judge(const uint8_t *store, size_t store_size, const uint8_t *sheet, size_t sheet_size, int16_t *levels,
                       size_t levels_size);
 
-/* ---- The program */
+/* The same under a supplement, whose store may have any size: as if the domain had its laws replaced. Answers as
+ * waroth_judge, and so where the supplement is empty.
+ * Refusals: 10, 15 for either store, 8, 9. The levels: as waroth_judge. */
+uint64_t waroth_judge_under(const uint8_t *store, size_t store_size, const uint8_t *supplement, size_t supplement_size,
+                            const uint8_t *sheet, size_t sheet_size, int16_t *levels, size_t levels_size);
 
-/* What the program writes for an input of any size: the states and the verdict, or REFUSED with number and line, as text.
- * Answers the bytes written to the front of the output, at least one, and nothing after them is touched. Where the output
- * has less than WAROTH_OUTPUT bytes, it is as it was and the answer is 0. Refuses nothing: a refusal is text. */
+/* ---- The programs */
+
+/* What the program `waroth` writes for an input of any size: the states and the verdict, or REFUSED with number and line, as
+ * text. Answers the bytes written to the front of the output, at least one, and nothing after them is touched. Where the
+ * output has less than WAROTH_OUTPUT bytes, it is as it was and the answer is 0. Refuses nothing: a refusal is text. */
 uint64_t waroth_answer(const uint8_t *input, size_t input_size, uint8_t *output, size_t output_size);
+
+/* The same of the program `low_water`, whose input has a supplement's lines between the domain's and the sheet's: from the
+ * first line before the sheet that starts "AF". */
+uint64_t waroth_low_water(const uint8_t *input, size_t input_size, uint8_t *output, size_t output_size);
 
 /* ---- Sessions. All of it is plain bytes that may be kept and copied; unused ones are zero. */
 struct waroth_session {

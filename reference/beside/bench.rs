@@ -1,5 +1,6 @@
 //! Both programs on the same inputs in one run: calls a second, and the ratio of the proved library to the second judge;
-//! for verdicts also to the judge that was written without regard to speed.
+//! for verdicts also to the judge that was written without regard to speed, and for verdicts under a supplement to the
+//! library's own without it.
 //! Each figure is the best of several short runs, which other work on the machine disturbs least; the runs of the two
 //! take turns.
 
@@ -15,7 +16,8 @@ use waroth_reference::generate::{random::Random, sheets, Answer};
 use waroth_reference::judge::{Judged, Verdict, LEVELS};
 use waroth_reference::sheet::SHEET_BYTES;
 use waroth_reference::store::STORE_BYTES;
-use waroth_reference::{judge, plain, read_domain, read_sheet};
+use waroth_reference::supplement::SUPPLEMENT_BYTES;
+use waroth_reference::{judge, judge_under, plain, read_domain, read_sheet};
 
 const RUNS: usize = 9;
 const RUN: Duration = Duration::from_millis(60);
@@ -77,6 +79,38 @@ fn verdicts(input: &Input) {
     let name = format!("verdicts: {}", input.name);
     let (tuned, straight) = (library / second, library / plain);
     println!("{name:42} {library:12.0} {second:12.0} {tuned:8.2} {plain:12.0} {straight:8.2}");
+}
+
+/// Verdicts under a supplement that gives so many laws again: the judgement is the one without it.
+fn verdicts_under(input: &Input, laws: usize) {
+    let (store, sheet) = (input.draft.store(), &input.sheet);
+    let lines = inputs::repeated(&input.draft, laws);
+    let mut supplement = lines.concat();
+    supplement.resize(SUPPLEMENT_BYTES, 0);
+    let mut levels = [(); 3].map(|()| vec![0; LEVELS]);
+    let [ours, theirs, without] = &mut levels;
+    let judged = judge_under(&store, &supplement, sheet, theirs).expect("a sheet that is judged");
+    assert_eq!(judge(&store, sheet, theirs), Ok(judged));
+    let answer = desk::judge_under(&store, &supplement, sheet, ours);
+    assert_eq!(answer, Answer::Judged(judged));
+    let [library, second, alone] = best([
+        &mut || {
+            let under = black_box(&supplement);
+            black_box(desk::judge_under(black_box(&store), under, sheet, ours));
+        },
+        &mut || {
+            let under = black_box(&supplement);
+            let _ = black_box(judge_under(black_box(&store), under, sheet, theirs));
+        },
+        &mut || {
+            black_box(desk::judge(black_box(&store), sheet, without));
+        },
+    ]);
+    let same = levels.iter().all(|numbers| *numbers == levels[0]);
+    assert!(same, "the levels differ");
+    let name = format!("under {} laws: {}", lines.len(), input.name);
+    let (tuned, kept) = (library / second, library / alone);
+    println!("{name:42} {library:12.0} {second:12.0} {tuned:8.2} {alone:12.0} {kept:8.2}");
 }
 
 fn domain_texts(input: &Input) {
@@ -152,4 +186,14 @@ fn main() {
     domain_texts(&inputs::long_text());
     sheet_texts(&full);
     edits();
+    println!(
+        "{:42} {:>12} {:>12} {:>8} {:>12} {:>8}",
+        "verdicts under a supplement, a second", "library", "second", "ratio", "without", "ratio"
+    );
+    for input in [inputs::pool(), inputs::deep(), full] {
+        verdicts_under(&input, 5);
+        if input.draft.laws() > 5 {
+            verdicts_under(&input, usize::MAX);
+        }
+    }
 }

@@ -22,15 +22,21 @@ static const char domain[] =
 
 static const char sheet[] = "B1020100\nB1020002\n";
 
-enum { LINES = 10, DOMAIN_SIZE = sizeof domain - 1, NAMES = 2, SHEET_SIZE = sizeof sheet - 1 };
+/* The first crew lets out less, and the goal asks for less. */
+static const char low_water[] = "AF0C02A6002A001311000010000A\nAF0904A92511000010010E\n";
 
-static uint8_t store[WAROTH_STORE], names[WAROTH_SHEET], text[WAROTH_DOMAIN_TEXT], output[WAROTH_OUTPUT];
+enum { LINES = 10, DOMAIN_SIZE = sizeof domain - 1, NAMES = 2, SHEET_SIZE = sizeof sheet - 1 };
+enum { LOW_WATER_SIZE = sizeof low_water - 1, LOW_WATER_BYTES = (LOW_WATER_SIZE - 2) / 2, LAWS = 5 };
+
+static uint8_t store[WAROTH_STORE], supplement[WAROTH_SUPPLEMENT], names[WAROTH_SHEET];
+static uint8_t text[WAROTH_DOMAIN_TEXT], output[WAROTH_OUTPUT];
 static int16_t levels[WAROTH_LEVELS];
 static struct waroth_session session;
 
 static const uint8_t idle[] = {0, 0}, first[] = {1, 0}, both[] = {1, 2}, astray[] = {0, 1}, twice[] = {1, 0, 1, 0};
 static const uint8_t seven[] = {1, 0, 1, 0, 1, 0, 1, 0, 1, 0, 1, 0, 1, 0};
 
+static_assert(WAROTH_SUPPLEMENT == 16000 && WAROTH_LAWS * (2 + WAROTH_PAYLOAD) <= WAROTH_SUPPLEMENT, "every law replaced");
 static_assert(WAROTH_SHEET == 1024 && WAROTH_LEVELS == 2080, "the paper's buffers");
 static_assert(WAROTH_DOMAIN_TEXT == 33319 && WAROTH_SHEET_TEXT == 2368, "the longest texts");
 static_assert(sizeof(struct waroth_session) == 4 * sizeof(size_t) + WAROTH_SHEET + sizeof session.log, "no gaps");
@@ -49,13 +55,14 @@ static const uint8_t *bytes(const char *characters)
     } while (0)
 
 /* What every refused answer is: not 0, by its lower half alone no count, no 0 and nothing that was done, no sheet of any
- * number of steps, and a domain of no agents. */
+ * number of steps, a domain of no agents, and a law of no bytes. */
 static int refuses(uint64_t answer, unsigned number)
 {
     uint32_t kept = (uint32_t)answer;
     return waroth_refusal(answer) == number && waroth_count(answer) == 0 && waroth_steps(answer) == -1 &&
            waroth_agents(answer) == 0 && waroth_fluents(answer) == 0 && waroth_entries(answer) == 0 &&
-           waroth_laws(answer) == 0 && answer != 0 && kept >> 31 == 1;
+           waroth_laws(answer) == 0 && waroth_replaced(answer) == 0 && waroth_place(answer) == 0 &&
+           waroth_size(answer) == 0 && answer != 0 && kept >> 31 == 1;
 }
 
 /* Where a call knows no lines, its lowest byte says it too. */
@@ -128,6 +135,72 @@ static int sheets(void)
     return 0;
 }
 
+static uint64_t supplement_read(const char *lines, size_t size)
+{
+    return waroth_read_supplement(store, WAROTH_STORE, bytes(lines), size, supplement, WAROTH_SUPPLEMENT);
+}
+
+static uint64_t law(size_t number)
+{
+    return waroth_law(store, WAROTH_STORE, supplement, WAROTH_SUPPLEMENT, number);
+}
+
+static int stands(uint64_t answer, unsigned replaced, size_t place, size_t size)
+{
+    return waroth_refusal(answer) == 0 && answer != 0 && answer >> 25 == 0 && waroth_replaced(answer) == replaced &&
+           waroth_place(answer) == place && waroth_size(answer) == size;
+}
+
+/* Lines for the river that are refused, each after one that is in order. */
+static int refused_supplements(void)
+{
+    static const struct {
+        const char *line;
+        unsigned number;
+    } cases[] = {
+        {"AF0304A92a\n", WAROTH_BAD_LINE},
+        {"AF0404A92A\n", WAROTH_BAD_COUNT},
+        {"A9012A\n", WAROTH_BAD_KIND},
+        {"AF02FFFF\n", WAROTH_BAD_PAYLOAD},
+        {"AF0305A92A\n", WAROTH_OTHER_LAW},
+        {"AF0304A82A\n", WAROTH_OTHER_LAW},
+        {"AF0401A5002A\n", WAROTH_OTHER_LAW},
+        {"AF0400A5002A\n", WAROTH_OTHER_LAW},
+        {"AF0301A501\n", WAROTH_BAD_PAYLOAD},
+    };
+    char lines[64];
+    size_t i;
+    for (i = 0; i < sizeof cases / sizeof cases[0]; i++) {
+        int length = snprintf(lines, sizeof lines, "AF0400A5002A\n%s", cases[i].line);
+        supplement[0] = supplement[WAROTH_SUPPLEMENT - 1] = 1;
+        EXPECT(refuses_at(supplement_read(lines, (size_t)length), cases[i].number, 2));
+        EXPECT(supplement[0] == 0 && supplement[WAROTH_SUPPLEMENT - 1] == 0);
+    }
+    return 0;
+}
+
+static int supplements(void)
+{
+    supplement[0] = 1;
+    EXPECT(refuses_at(waroth_read_supplement(store, 0, bytes("x"), 1, supplement, WAROTH_SUPPLEMENT - 1), WAROTH_NO_ROOM, 0));
+    EXPECT(supplement[0] == 1);
+    EXPECT(refuses_at(waroth_read_supplement(store, 0, bytes("x"), 1, supplement, WAROTH_SUPPLEMENT), WAROTH_NOT_DOMAIN, 0));
+    EXPECT(supplement[0] == 0);
+    EXPECT(counts(supplement_read("", 0), 0));
+    EXPECT(stands(law(LAWS - 1), 0, 72, 7));
+    EXPECT(counts(supplement_read(low_water, LOW_WATER_SIZE), LOW_WATER_BYTES));
+    EXPECT(supplement[LOW_WATER_BYTES] == 0);
+    EXPECT(stands(law(0), 0, 28, 8) && store[28] == 0);
+    EXPECT(stands(law(2), 1, 4, 10) && supplement[4] == 0 && supplement[13] == 10);
+    EXPECT(stands(law(LAWS - 1), 1, 18, 7) && supplement[18] == 0x25);
+    EXPECT(refuses_alone(law(LAWS), WAROTH_OTHER_LAW));
+    EXPECT(refuses_alone(law(SIZE_MAX), WAROTH_OTHER_LAW));
+    EXPECT(refuses_alone(waroth_law(store, 0, supplement, WAROTH_SUPPLEMENT, LAWS), WAROTH_NOT_DOMAIN));
+    EXPECT(refuses_alone(waroth_law(store, WAROTH_STORE, supplement, 3, LAWS), WAROTH_NOT_DOMAIN));
+    EXPECT(waroth_frame(supplement, WAROTH_SUPPLEMENT, 0) == 14);
+    return 0;
+}
+
 static uint64_t judged(const uint8_t *of, size_t size)
 {
     return waroth_judge(store, WAROTH_STORE, of, size, levels, WAROTH_LEVELS);
@@ -149,6 +222,28 @@ static int judgements(void)
     EXPECT(judges(judged(both, NAMES), WAROTH_CONFLICT, 1, 3, 1));
     EXPECT(judges(judged(twice, 2 * NAMES), WAROTH_GOAL, 2, 4, 3));
     EXPECT(judges(judged(seven, 7 * NAMES), WAROTH_BARRED, 7, 0, 7));
+    return 0;
+}
+
+static uint64_t judged_under(size_t supplement_size, const uint8_t *of, size_t size, size_t room)
+{
+    return waroth_judge_under(store, WAROTH_STORE, supplement, supplement_size, of, size, levels, room);
+}
+
+static int judgements_under(void)
+{
+    levels[0] = levels[3] = -1;
+    EXPECT(refuses_to_judge(judged_under(1, names, 1, TOO_FEW_LEVELS), WAROTH_NO_ROOM));
+    EXPECT(refuses_to_judge(judged_under(1, names, 1, WAROTH_LEVELS), WAROTH_NOT_DOMAIN));
+    EXPECT(refuses_to_judge(waroth_judge_under(store, 0, supplement, 0, names, 1, levels, WAROTH_LEVELS), WAROTH_NOT_DOMAIN));
+    EXPECT(refuses_to_judge(judged_under(0, names, 1, WAROTH_LEVELS), WAROTH_NOT_WHOLE));
+    EXPECT(refuses_to_judge(judged_under(0, names, NAMES * (WAROTH_STEPS + 1), WAROTH_LEVELS), WAROTH_TOO_LONG));
+    EXPECT(levels[0] == -1);
+    EXPECT(judges(judged_under(0, twice, 2 * NAMES, WAROTH_LEVELS), WAROTH_GOAL, 2, 4, 3));
+    EXPECT(levels[1] == 286 && levels[2] == 272 && levels[3] == -1);
+    EXPECT(judges(judged_under(LOW_WATER_BYTES, twice, 2 * NAMES, WAROTH_LEVELS), WAROTH_ACCEPTED, 0, 0, 3));
+    EXPECT(levels[0] == 300 && levels[1] == 290 && levels[2] == 280 && levels[3] == -1);
+    EXPECT(judges(judged_under(WAROTH_SUPPLEMENT, seven, 7 * NAMES, WAROTH_LEVELS), WAROTH_GOAL, 7, 4, 8));
     return 0;
 }
 
@@ -201,21 +296,41 @@ static int kinds(void)
     return 0;
 }
 
-/* The program's call writes exactly this line for so many bytes of an input. */
-static int prints(const uint8_t *of, size_t size, unsigned number, unsigned line)
+typedef uint64_t (*program_call)(const uint8_t *input, size_t input_size, uint8_t *output, size_t output_size);
+
+/* A program's call writes exactly this for so many bytes of an input. */
+static int writes(program_call call, const uint8_t *of, size_t size, const char *expected)
 {
-    char expected[40];
-    int length = snprintf(expected, sizeof expected, "REFUSED %u %u\n", number, line);
-    return waroth_answer(of, size, output, WAROTH_OUTPUT) == (unsigned)length && memcmp(output, expected, (size_t)length) == 0;
+    size_t length = strlen(expected);
+    return call(of, size, output, WAROTH_OUTPUT) == length && memcmp(output, expected, length) == 0;
 }
 
-static int program(void)
+static int prints(program_call call, const uint8_t *of, size_t size, unsigned number, unsigned line)
+{
+    char expected[40];
+    snprintf(expected, sizeof expected, "REFUSED %u %u\n", number, line);
+    return writes(call, of, size, expected);
+}
+
+static int programs(void)
 {
     static const uint8_t zeros[WAROTH_INPUT + 1] = {0};
-    EXPECT(waroth_answer(bytes(sheet), SHEET_SIZE, output, WAROTH_OUTPUT - 1) == 0);
-    EXPECT(prints(bytes(sheet), SHEET_SIZE, WAROTH_INCOMPLETE, 0));
-    EXPECT(prints(zeros, WAROTH_INPUT, WAROTH_BAD_LINE, 1));
-    EXPECT(prints(zeros, WAROTH_INPUT + 1, WAROTH_LONG_INPUT, 0));
+    static const program_call calls[] = {waroth_answer, waroth_low_water};
+    char lines[DOMAIN_SIZE + LOW_WATER_SIZE + SHEET_SIZE + 1];
+    size_t i;
+    for (i = 0; i < sizeof calls / sizeof calls[0]; i++) {
+        EXPECT(calls[i](bytes(sheet), SHEET_SIZE, output, WAROTH_OUTPUT - 1) == 0);
+        EXPECT(prints(calls[i], bytes(sheet), SHEET_SIZE, WAROTH_INCOMPLETE, 0));
+        EXPECT(prints(calls[i], zeros, WAROTH_INPUT, WAROTH_BAD_LINE, 1));
+        EXPECT(prints(calls[i], zeros, WAROTH_INPUT + 1, WAROTH_LONG_INPUT, 0));
+        snprintf(lines, sizeof lines, "%s%s", domain, sheet);
+        EXPECT(writes(calls[i], bytes(lines), strlen(lines), "S 0 300\nS 1 286\nS 2 280\nACCEPTED\n"));
+    }
+    snprintf(lines, sizeof lines, "%s%s%s", domain, low_water, sheet);
+    EXPECT(prints(waroth_answer, bytes(lines), strlen(lines), WAROTH_BAD_KIND, LINES + 1));
+    EXPECT(writes(waroth_low_water, bytes(lines), strlen(lines), "S 0 300\nS 1 290\nS 2 284\nACCEPTED\n"));
+    snprintf(lines, sizeof lines, "%s%s%s", domain, sheet, low_water);
+    EXPECT(prints(waroth_low_water, bytes(lines), strlen(lines), WAROTH_BAD_KIND, LINES + 3));
     return 0;
 }
 
@@ -266,7 +381,9 @@ static int session_verdicts(void)
 
 int main(void)
 {
-    static int (*const parts[])(void) = {refusals, kinds, domains, sheets, judgements, program, edits, session_verdicts};
+    static int (*const parts[])(void) = {refusals,    kinds,  domains,         refused_supplements,
+                                         supplements, sheets, judgements,      judgements_under,
+                                         programs,    edits,  session_verdicts};
     size_t part;
     for (part = 0; part < sizeof parts / sizeof parts[0]; part++) {
         int line = parts[part]();

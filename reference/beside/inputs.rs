@@ -1,9 +1,10 @@
 //! What the benchmark runs on: accepted domains, and sheets of 64 steps for them that are accepted.
 
-use waroth_reference::generate::draft::{law, Draft};
+use waroth_reference::generate::draft::{law, replacement, Draft};
 use waroth_reference::generate::laws::{constant, node};
 use waroth_reference::generate::random::Random;
 use waroth_reference::generate::shapes::longest;
+use waroth_reference::generate::supplements::LONGEST_LAW;
 
 const STEPS: usize = 64;
 
@@ -11,6 +12,16 @@ pub struct Input {
     pub name: &'static str,
     pub draft: Draft,
     pub sheet: Vec<u8>,
+}
+
+/// A supplement by which at most so many laws, spread over the domain, are replaced by themselves: all is judged as without
+/// it, from other bytes.
+pub fn repeated(draft: &Draft, most: usize) -> Vec<Vec<u8>> {
+    let fits = |number: &usize| draft.law(*number).len() <= 2 + LONGEST_LAW;
+    let laws: Vec<_> = (0..draft.laws()).filter(fits).collect();
+    let apart = laws.len().div_ceil(most).max(1);
+    let lines = laws.iter().step_by(apart);
+    lines.map(|&n| replacement(n, draft.law(n))).collect()
 }
 
 fn fluent(number: usize) -> Vec<u8> {

@@ -1,6 +1,6 @@
 /* The stack that each call of include/waroth.h takes, measured: a call runs on a stack of its own that was painted before,
- * and what is no longer paint was used. What an empty call takes there is subtracted. stack.rs hands in the inputs, a
- * domain's lines and then a sheet's, and asks in the end. */
+ * and what is no longer paint was used. What an empty call takes there is subtracted. stack.rs hands in the inputs, the
+ * lines of a domain, a supplement and a sheet, and asks in the end. */
 #define _XOPEN_SOURCE 700
 #include "waroth.h"
 
@@ -13,26 +13,39 @@ enum { STACK = 1 << 19, PAINT = 0xA5 };
 static unsigned char stack[STACK];
 static ucontext_t here, there;
 
-static uint8_t store[WAROTH_STORE], names[WAROTH_SHEET], text[WAROTH_DOMAIN_TEXT], output[WAROTH_OUTPUT];
+static uint8_t store[WAROTH_STORE], supplement[WAROTH_SUPPLEMENT], names[WAROTH_SHEET];
+static uint8_t text[WAROTH_DOMAIN_TEXT], output[WAROTH_OUTPUT];
 static int16_t levels[WAROTH_LEVELS];
 static struct waroth_session session;
 
 /* What the calls below work on, and what the last of them answered. */
-static const uint8_t *input;
-static size_t input_size, domain_size, agents, steps, step;
+static uint8_t input[2 * WAROTH_INPUT]; /* of a program */
+static struct part {
+    const uint8_t *text;
+    size_t size;
+} domain, replacing, sheet;
+static size_t input_size, agents, steps, step;
 static uint64_t answer;
 
 static void nothing(void) { answer = 0; }
-static void read_domain(void) { answer = waroth_read_domain(input, domain_size, store, sizeof store); }
+static void read_domain(void) { answer = waroth_read_domain(domain.text, domain.size, store, sizeof store); }
 static void write_domain(void) { answer = waroth_write_domain(store, sizeof store, text, sizeof text); }
 static void counts(void) { answer = waroth_counts(store, sizeof store); }
 static void frame(void) { answer = waroth_frame(store, sizeof store, 0); }
-static void read_sheet(void)
+static void read_supplement(void)
 {
-    answer = waroth_read_sheet(input + domain_size, input_size - domain_size, agents, names, sizeof names);
+    answer = waroth_read_supplement(store, sizeof store, replacing.text, replacing.size, supplement, sizeof supplement);
 }
+static void law(void) { answer = waroth_law(store, sizeof store, supplement, sizeof supplement, 0); }
+static void read_sheet(void) { answer = waroth_read_sheet(sheet.text, sheet.size, agents, names, sizeof names); }
 static void write_sheet(void) { answer = waroth_write_sheet(names, steps * agents, agents, text, sizeof text); }
 static void judge(void) { answer = waroth_judge(store, sizeof store, names, steps * agents, levels, WAROTH_LEVELS); }
+static void judge_under(void)
+{
+    answer = waroth_judge_under(store, sizeof store, supplement, sizeof supplement, names, steps * agents, levels,
+                                WAROTH_LEVELS);
+}
+static void low_water(void) { answer = waroth_low_water(input, input_size, output, sizeof output); }
 static void program(void) { answer = waroth_answer(input, input_size, output, sizeof output); }
 static void open_session(void) { answer = waroth_open(&session, store, sizeof store); }
 static void enter(void) { answer = waroth_enter(&session, names + step * agents, agents); }
@@ -52,10 +65,14 @@ static struct call {
     {write_domain, "waroth_write_domain", WAROTH_STACK_TEXTS, 0},
     {counts, "waroth_counts", WAROTH_STACK_TEXTS, 0},
     {frame, "waroth_frame", WAROTH_STACK_TEXTS, 0},
+    {read_supplement, "waroth_read_supplement", WAROTH_STACK_TEXTS, 0},
+    {law, "waroth_law", WAROTH_STACK_TEXTS, 0},
     {read_sheet, "waroth_read_sheet", WAROTH_STACK_TEXTS, 0},
     {write_sheet, "waroth_write_sheet", WAROTH_STACK_TEXTS, 0},
     {judge, "waroth_judge", WAROTH_STACK_VERDICTS, 0},
+    {judge_under, "waroth_judge_under", WAROTH_STACK_VERDICTS, 0},
     {program, "waroth_answer", WAROTH_STACK_ANSWER, 0},
+    {low_water, "waroth_low_water", WAROTH_STACK_ANSWER, 0},
     {open_session, "waroth_open", WAROTH_STACK_SESSIONS, 0},
     {enter, "waroth_enter", WAROTH_STACK_SESSIONS, 0},
     {strike, "waroth_strike", WAROTH_STACK_SESSIONS, 0},
@@ -93,26 +110,49 @@ static unsigned refused(void (*run)(void))
     return waroth_refusal(answer);
 }
 
-/* Every call over an input, whose sheet's lines start at a place; those of a session with a log that gets full. 0 where
- * something is refused that is not tried for that. */
-int stack_tried(const uint8_t *of, size_t size, size_t sheet_place);
-
-int stack_tried(const uint8_t *of, size_t size, size_t sheet_place)
+/* Puts a part behind what the input has; 0 where there is no room. */
+static int put(struct part part)
 {
-    input = of;
-    input_size = size;
-    domain_size = sheet_place;
+    if (part.size > sizeof input - input_size)
+        return 0;
+    memcpy(input + input_size, part.text, part.size);
+    input_size += part.size;
+    return 1;
+}
+
+/* Every call over the lines of a domain, a supplement and a sheet; those of a session with a log that gets full. 0 where
+ * something is refused that is not tried for that. */
+int stack_tried(struct part of_domain, struct part of_supplement, struct part of_sheet);
+
+int stack_tried(struct part of_domain, struct part of_supplement, struct part of_sheet)
+{
+    domain = of_domain;
+    replacing = of_supplement;
+    sheet = of_sheet;
+    input_size = 0;
+    if (!put(domain) || !put(sheet))
+        return 0;
     refused(program);
+    if (answer == 0)
+        return 0;
+    input_size = 0;
+    if (!put(domain) || !put(replacing) || !put(sheet))
+        return 0;
+    refused(low_water);
     if (answer == 0 || refused(read_domain) != 0 || refused(counts) != 0)
         return 0;
     agents = waroth_agents(answer);
     refused(frame);
     refused(write_domain);
+    if (refused(read_supplement) != 0 || refused(law) != 0)
+        return 0;
     if (refused(read_sheet) != 0)
         return 0;
     steps = (size_t)waroth_steps(answer);
     refused(write_sheet);
     refused(judge);
+    if (refused(judge_under) != 0)
+        return 0;
     refused(open_session);
     for (step = 0; step < steps; step++)
         enter();
@@ -133,7 +173,7 @@ int stack_fails(int table)
     for (call = 0; call < CALLS; call++) {
         int over = calls[call].taken > calls[call].most;
         if (over || table)
-            printf("%-19s %6zu bytes of stack, %6zu by the header\n", calls[call].name, calls[call].taken, calls[call].most);
+            printf("%-22s %6zu bytes of stack, %6zu by the header\n", calls[call].name, calls[call].taken, calls[call].most);
         fails += over;
     }
     return fails;

@@ -4,27 +4,38 @@
 #[allow(dead_code)]
 mod inputs;
 
-use inputs::Input;
-use waroth_reference::generate::draft::{sheet_text, Draft};
+use inputs::{repeated, Input};
+use waroth_reference::generate::draft::{sheet_text, text_of, Draft};
 use waroth_reference::generate::random::Random;
 use waroth_reference::generate::shapes::deep;
+use waroth_reference::generate::supplements::{full, longest_of_both};
 use waroth_reference::program::MAX_INPUT;
 
 /// Enough for every shape of such a law in every kind.
 const DEEPEST: usize = 100;
 
+/// Lines, as stack.c takes them.
+#[repr(C)]
+struct Part {
+    text: *const u8,
+    size: usize,
+}
+
 #[link(name = "stack", kind = "static")]
 extern "C" {
-    fn stack_tried(input: *const u8, size: usize, sheet_place: usize) -> i32;
+    fn stack_tried(domain: Part, supplement: Part, sheet: Part) -> i32;
     fn stack_fails(table: i32) -> i32;
 }
 
 #[link(name = "desk", kind = "static")]
 extern "C" {}
 
-fn tried(domain: &[u8], sheet: &[u8]) -> bool {
-    let input = [domain, sheet].concat();
-    unsafe { stack_tried(input.as_ptr(), input.len(), domain.len()) != 0 }
+fn tried(domain: &[u8], supplement: &[u8], sheet: &[u8]) -> bool {
+    let [domain, supplement, sheet] = [domain, supplement, sheet].map(|text| Part {
+        text: text.as_ptr(),
+        size: text.len(),
+    });
+    unsafe { stack_tried(domain, supplement, sheet) != 0 }
 }
 
 /// A domain whose one law besides is nested as deep as may be. No law that is read before it is at fault.
@@ -36,19 +47,30 @@ fn deepest(r: &mut Random) -> Draft {
 }
 
 fn main() {
-    let input = |Input { draft, sheet, .. }| (draft, sheet);
+    let input = |Input { draft, sheet, .. }| {
+        let lines = repeated(&draft, usize::MAX);
+        (draft, lines, sheet)
+    };
     let mut inputs = [inputs::pool(), inputs::full(), inputs::deep()]
         .map(input)
         .to_vec();
     inputs.push(input(inputs::long_text()));
     let mut r = Random::seeded(1);
-    inputs.extend((0..DEEPEST).map(|_| (deepest(&mut r), vec![1; 64])));
-    for (draft, sheet) in inputs {
+    for (draft, lines) in [full(&mut r), longest_of_both(&mut r)] {
+        inputs.push((draft, lines, vec![0; 16 * 64]));
+    }
+    inputs.extend((0..DEEPEST).map(|_| {
+        let draft = deepest(&mut r);
+        let lines = repeated(&draft, usize::MAX);
+        (draft, lines, vec![1; 64])
+    }));
+    for (draft, lines, sheet) in inputs {
         let sheet = sheet_text(&sheet, draft.agents);
-        assert!(tried(&draft.text(), &sheet), "an input is not taken");
+        let taken = tried(&draft.text(), &text_of(&lines), &sheet);
+        assert!(taken, "an input is not taken");
     }
     // No domain is so long.
-    assert!(!tried(&[b'A'; MAX_INPUT], &[]));
+    assert!(!tried(&[b'A'; MAX_INPUT], &[], &[]));
     let table = std::env::args().nth(1).is_some();
     if unsafe { stack_fails(table as i32) } > 0 {
         std::process::exit(1);

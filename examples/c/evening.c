@@ -1,13 +1,16 @@
 /* An evening at the desk, by the calls of include/waroth.h: the file named on the command line has a domain's hex lines
  * and then a sheet's, as the program takes them. It is read and judged; then the sheet is entered into a session and a
- * step amended, and that is undone and redone, with the verdict each time. Nothing is allocated: the header names the
- * size of every buffer.
+ * step amended, and that is undone and redone, with the verdict each time. If a second file is named, it has a
+ * supplement's lines: instead of the session, every law in force is asked for, and the sheet judged under the supplement.
+ * Nothing is allocated: the header names the size of every buffer.
  *
  *     rt staticlib desk
  *     cc -std=c11 -I include examples/c/evening.c target/staticlib/libdesk.a -o evening
  *     ./evening examples/pool/accepted.hex
+ *     ./evening examples/pool/accepted.hex examples/c/low_water.af
  *
- * The exit code is 0 if the file's sheet is accepted, 1 if it is broken, 2 if something is refused or cannot be read. */
+ * The exit code is 0 if the file's sheet is accepted, under the supplement where there is one, 1 if it is broken, 2 if
+ * something is refused or cannot be read. */
 #include "waroth.h"
 
 #include <stdio.h>
@@ -17,6 +20,7 @@ enum { IS_ACCEPTED, IS_BROKEN, IS_REFUSED };
 
 static uint8_t input[WAROTH_INPUT + 1]; /* a byte more, to see that there are too many */
 static uint8_t store[WAROTH_STORE];
+static uint8_t supplement[WAROTH_SUPPLEMENT];
 static uint8_t names[WAROTH_SHEET];
 static uint8_t text[WAROTH_SHEET_TEXT];
 static int16_t levels[WAROTH_LEVELS];
@@ -41,10 +45,11 @@ static const char *refusal_words(unsigned number)
     case WAROTH_NOTHING_STANDS: return "there is nothing to undo";
     case WAROTH_NOTHING_UNDONE: return "there is nothing to redo";
     case WAROTH_LOG_FULL: return "the log is full";
-    case WAROTH_NOT_DOMAIN: return "the store holds no domain";
+    case WAROTH_NOT_DOMAIN: return "the store holds no domain, or no supplement for it";
     case WAROTH_OTHER_AGENTS: return "the domain has another number of agents than the session";
     case WAROTH_NOT_SESSION: return "the session is closed or damaged";
     case WAROTH_LONG_INPUT: return "the input is too long";
+    case WAROTH_OTHER_LAW: return "no such law, another kind or entry, or replaced already";
     default: return "unknown";
     }
 }
@@ -108,7 +113,30 @@ static int print_judgement(const char *what, uint64_t answer, unsigned fluents)
     return IS_BROKEN;
 }
 
-/* ---- The file */
+/* ---- The files */
+
+/* Reads a file into the input; 0 where that is done. */
+static int read_file(const char *name, size_t *size)
+{
+    int failed;
+    FILE *file = fopen(name, "rb");
+    if (file == NULL) {
+        fprintf(stderr, "evening: %s cannot be opened\n", name);
+        return IS_REFUSED;
+    }
+    *size = fread(input, 1, sizeof input, file);
+    failed = ferror(file);
+    fclose(file);
+    if (failed) {
+        fprintf(stderr, "evening: %s cannot be read\n", name);
+        return IS_REFUSED;
+    }
+    if (*size > WAROTH_INPUT) {
+        printf("input: %s\n", refusal_words(WAROTH_LONG_INPUT));
+        return IS_REFUSED;
+    }
+    return 0;
+}
 
 /* Where the first line that starts "B1" begins, and how many lines stand before it. */
 static size_t sheet_place(size_t size, unsigned *lines_before)
@@ -126,6 +154,41 @@ static size_t sheet_place(size_t size, unsigned *lines_before)
         *lines_before += 1;
     }
     return size;
+}
+
+/* ---- The supplement */
+
+/* The law in force of this number: its payload, where it stands. */
+static void print_law(unsigned number)
+{
+    uint64_t answer = waroth_law(store, sizeof store, supplement, sizeof supplement, number);
+    const uint8_t *payload = (waroth_replaced(answer) ? supplement : store) + waroth_place(answer);
+    size_t byte;
+    if (refused("law", answer) != 0)
+        return;
+    printf("  law %u, %s:", number, waroth_replaced(answer) ? "replaced" : "the domain's");
+    for (byte = 0; byte < waroth_size(answer); byte++)
+        printf(" %02X", payload[byte]);
+    printf("\n");
+}
+
+/* The file's supplement read, every law in force, and one that is not there; the names of a sheet judged under it. */
+static int judge_under(const char *name, unsigned laws, unsigned fluents, size_t names_size)
+{
+    size_t size;
+    unsigned number;
+    uint64_t answer;
+    int end = read_file(name, &size);
+    if (end != 0)
+        return end;
+    answer = waroth_read_supplement(store, sizeof store, input, size, supplement, sizeof supplement);
+    if ((end = refused_line("supplement", answer, 0)) != 0)
+        return end;
+    printf("a supplement of %u bytes:\n", (unsigned)waroth_count(answer));
+    for (number = 0; number <= laws; number++)
+        print_law(number);
+    answer = waroth_judge_under(store, sizeof store, supplement, sizeof supplement, names, names_size, levels, WAROTH_LEVELS);
+    return print_judgement("the same sheet under it", answer, fluents);
 }
 
 /* ---- The session */
@@ -167,26 +230,15 @@ static void edit(unsigned agents, unsigned fluents, unsigned steps)
 int main(int argc, char **argv)
 {
     size_t size, place;
-    unsigned lines_before, agents, fluents, steps;
+    unsigned lines_before, agents, fluents, laws, steps;
     uint64_t answer;
-    int end, failed;
-    FILE *file = argc == 2 ? fopen(argv[1], "rb") : NULL;
-    if (file == NULL) {
-        fprintf(stderr, "usage: evening FILE, a file of hex lines\n");
+    int end;
+    if (argc != 2 && argc != 3) {
+        fprintf(stderr, "usage: evening FILE [SUPPLEMENT], files of hex lines\n");
         return IS_REFUSED;
     }
-    size = fread(input, 1, sizeof input, file);
-    failed = ferror(file);
-    fclose(file);
-    if (failed) {
-        fprintf(stderr, "evening: %s cannot be read\n", argv[1]);
-        return IS_REFUSED;
-    }
-    if (size > WAROTH_INPUT) {
-        printf("input: %s\n", refusal_words(WAROTH_LONG_INPUT));
-        return IS_REFUSED;
-    }
-
+    if ((end = read_file(argv[1], &size)) != 0)
+        return end;
     place = sheet_place(size, &lines_before);
     answer = waroth_read_domain(input, place, store, sizeof store);
     if ((end = refused_line("domain", answer, 0)) != 0)
@@ -196,7 +248,8 @@ int main(int argc, char **argv)
         return end;
     agents = waroth_agents(answer);
     fluents = waroth_fluents(answer);
-    printf("agents %u, fluents %u, entries %u, laws %u\n", agents, fluents, waroth_entries(answer), waroth_laws(answer));
+    laws = waroth_laws(answer);
+    printf("agents %u, fluents %u, entries %u, laws %u\n", agents, fluents, waroth_entries(answer), laws);
 
     answer = waroth_read_sheet(input + place, size - place, agents, names, sizeof names);
     if ((end = refused_line("sheet", answer, lines_before)) != 0)
@@ -205,6 +258,8 @@ int main(int argc, char **argv)
     /* Exactly the names of these steps, not the whole buffer. */
     answer = waroth_judge(store, sizeof store, names, (size_t)steps * agents, levels, WAROTH_LEVELS);
     end = print_judgement("the file's sheet", answer, fluents);
+    if (argc == 3)
+        return judge_under(argv[2], laws, fluents, (size_t)steps * agents);
     edit(agents, fluents, steps);
     return end;
 }

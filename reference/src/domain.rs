@@ -38,11 +38,10 @@ pub struct Entry {
     pub crew: u16,
 }
 
-/// A law's kind and its place in the code. Only A5 and A6 have an entry; only
-/// A6 has a fluent and an expression, which then follows its constraint.
+/// A law's place in the code. Only A5 and A6 have an entry; only A6 has a
+/// fluent and an expression, which then follows its constraint.
 #[derive(Clone, Copy, Default, Debug)]
 pub struct Law {
-    pub kind: u8,
     pub entry: u8,
     pub fluent: u8,
     start: u16,
@@ -151,8 +150,8 @@ impl<T: Target> Domain<T> {
         }
     }
 
-    pub fn laws(&self) -> &[Law] {
-        &self.laws[..self.law_count]
+    pub fn law(&self, number: usize) -> &Law {
+        &self.laws[number]
     }
 
     /// The A5 laws of an entry that its crew can read, as a mask.
@@ -166,6 +165,11 @@ impl<T: Target> Domain<T> {
         let kind = (kind - EXECUTABILITY) as usize;
         let start: usize = self.laws_by_kind[..kind].iter().sum();
         start..start + self.laws_by_kind[kind]
+    }
+
+    /// The kind of the law with this number, if there is one.
+    pub fn kind_of(&self, number: usize) -> Option<u8> {
+        (EXECUTABILITY..=GOAL).find(|&kind| self.laws_of(kind).contains(&number))
     }
 
     /// Adds a frame whose count is already known to be right. Refusals 3, 5,
@@ -281,7 +285,6 @@ impl<T: Target> Domain<T> {
         };
         let mut parser = Parser::of(payload, scope);
         let mut law = Law {
-            kind,
             start: self.code.place(),
             ..Law::default()
         };
@@ -301,9 +304,12 @@ impl<T: Target> Domain<T> {
         if kind == EXECUTABILITY {
             let crew = self.entries[law.entry as usize].crew;
             self.with_law |= 1 << law.entry;
-            let known = self.all_known(parser.named(), crew);
-            let readable = &mut self.readable[law.entry as usize];
-            *readable = *readable & !(1 << number) | u128::from(known) << number;
+            let bit = 1 << number;
+            if self.all_known(parser.named(), crew) {
+                self.readable[law.entry as usize] |= bit;
+            } else {
+                self.readable[law.entry as usize] &= !bit;
+            }
         }
         self.laws[number] = law;
         Some(())

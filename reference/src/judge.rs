@@ -4,7 +4,7 @@ use crate::domain::{bits, Domain, CONCURRENCY, EFFECT, GOAL, STATIC};
 use crate::law::{evaluate, Moment, Op};
 use crate::refusal;
 use crate::sheet::{steps_of, MAX_STEPS};
-use crate::supplement;
+use crate::{store, supplement};
 
 /// Numbers that the judge asks of its levels buffer: every state of the
 /// longest sheet.
@@ -54,7 +54,8 @@ pub fn judge_under(
     if levels.len() < LEVELS {
         return Err(refusal::BUFFER);
     }
-    let domain = supplement::parse(store, supplement).ok_or(refusal::STORE)?;
+    let mut domain = store::parse(store).ok_or(refusal::STORE)?;
+    supplement::replace(&mut domain, supplement).ok_or(refusal::STORE)?;
     steps_of(sheet, domain.agents())?;
     Ok(run(&domain, sheet, levels))
 }
@@ -212,7 +213,7 @@ impl<'a> Trial<'a> {
         let mut settings = [0i64; Domain::MAX_FLUENTS];
         let mut set = 0u32;
         for number in self.domain.laws_of(EFFECT) {
-            let law = &self.domain.laws()[number];
+            let law = self.domain.law(number);
             if (occurring >> law.entry) & 1 == 0 || !self.holds(number, position)? {
                 continue;
             }

@@ -68,7 +68,8 @@ impl Program {
         let mut supplement = vec![0; SUPPLEMENT_BYTES];
         supplement::read_supplement(&store, supplement_text, &mut supplement)
             .map_err(|refused| after(domain_text, refused))?;
-        let domain = supplement::parse(&store, &supplement).ok_or((refusal::STORE, 0))?;
+        let mut domain = store::parse(&store).ok_or((refusal::STORE, 0))?;
+        supplement::replace(&mut domain, &supplement).ok_or((refusal::STORE, 0))?;
         let mut sheet = [0; SHEET_BYTES];
         let steps = sheet::read_sheet(sheet_text, domain.agents(), &mut sheet)
             .map_err(|refused| after(laws, refused))?;

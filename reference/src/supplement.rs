@@ -13,14 +13,14 @@ pub const REPLACEMENT: u8 = 0xAF;
 pub const SUPPLEMENT_BYTES: usize = 16_000;
 
 /// A domain while laws of it are replaced.
-struct Replacing<T> {
-    domain: Domain<T>,
+struct Replacing<'a, T> {
+    domain: &'a mut Domain<T>,
     /// The numbers of the laws replaced so far.
     replaced: u128,
 }
 
-impl<T: Target> Replacing<T> {
-    fn start(domain: Domain<T>) -> Self {
+impl<'a, T: Target> Replacing<'a, T> {
+    fn start(domain: &'a mut Domain<T>) -> Self {
         Replacing {
             domain,
             replaced: 0,
@@ -37,9 +37,10 @@ impl<T: Target> Replacing<T> {
             return Err(refusal::PAYLOAD);
         };
         let number = usize::from(number);
-        let law = self.domain.laws().get(number).ok_or(refusal::OTHER_LAW)?;
-        let other_entry = has_entry(kind) && first != law.entry;
-        if kind != law.kind || other_entry || self.replaced >> number & 1 == 1 {
+        let stands_for = self.domain.kind_of(number) == Some(kind)
+            && (!has_entry(kind) || first == self.domain.law(number).entry)
+            && self.replaced >> number & 1 == 0;
+        if !stands_for {
             return Err(refusal::OTHER_LAW);
         }
         self.replaced |= 1 << number;
@@ -56,8 +57,8 @@ pub fn read_supplement(store: &[u8], text: &[u8], buffer: &mut [u8]) -> Result<u
         return Err((refusal::BUFFER, 0));
     }
     let domain = store::check(store).ok_or((refusal::STORE, 0));
-    let read = domain.and_then(|domain| {
-        let mut replacing = Replacing::start(domain);
+    let read = domain.and_then(|mut domain| {
+        let mut replacing = Replacing::start(&mut domain);
         let (used, _) = store::fill(text, buffer, |frame| replacing.add(frame))?;
         Ok(used)
     });
@@ -65,18 +66,11 @@ pub fn read_supplement(store: &[u8], text: &[u8], buffer: &mut [u8]) -> Result<u
     read
 }
 
-/// The domain with its laws replaced; `None` unless the supplement is one that
-/// it accepts, followed by zeros.
-fn replaced<T: Target>(domain: Domain<T>, supplement: &[u8]) -> Option<Domain<T>> {
+/// Replaces the domain's laws; `None` unless the supplement is one that it
+/// accepts, followed by zeros.
+pub fn replace<T: Target>(domain: &mut Domain<T>, supplement: &[u8]) -> Option<()> {
     let mut replacing = Replacing::start(domain);
-    store::take_all(supplement, |frame| replacing.add(frame))?;
-    Some(replacing.domain)
-}
-
-/// The domain of an accepted store, compiled, with the laws of an accepted
-/// supplement in place of its own.
-pub fn parse(store: &[u8], supplement: &[u8]) -> Option<Domain> {
-    replaced(store::parse(store)?, supplement)
+    store::take_all(supplement, |frame| replacing.add(frame))
 }
 
 /// Where the payload of a law in force stands.
@@ -90,8 +84,8 @@ pub struct LawInForce {
 
 /// The law in force of this number. Refusals 15, for either store, and 20.
 pub fn law_in_force(store: &[u8], supplement: &[u8], number: usize) -> Result<LawInForce, u8> {
-    let domain = store::check(store).ok_or(refusal::STORE)?;
-    replaced(domain, supplement).ok_or(refusal::STORE)?;
+    let mut domain = store::check(store).ok_or(refusal::STORE)?;
+    replace(&mut domain, supplement).ok_or(refusal::STORE)?;
     let mut frames = FrameReader::over(store);
     let mut laws = frames.by_ref().filter(|frame| frame[0] >= EXECUTABILITY);
     let own = laws.nth(number).ok_or(refusal::OTHER_LAW)?;

@@ -4,24 +4,23 @@ use mathlib.Core.Path.{_≡_, refl, ap}
 use mathlib.Core.List.{List, []}
 use native.Mathlib.Omega.{arith}
 use native.Mathlib.Nat.{div-add-mod'}
-use lib.Dec.{leb}
 use lib.IntN.{ℤ}
 use lib.ListN.{length}
 use borrow.Author.Tests.{eq-eqb, ne-eqb, le-leb, lt-leb}
 use Rattle.bmap.specs.Plain.{flat}
 use Rattle.bmap.specs.Limits.{mostSteps, levelsSize}
-use Rattle.bmap.specs.Refusal.{Answer, got, refused, need, then}
+use Rattle.bmap.specs.Refusal.{Answer, got, refused, then}
 use Rattle.bmap.specs.Domain.{Domain}
 use Rattle.bmap.specs.Buffer.{over}
 use Rattle.bmap.specs.Store.{domainIn}
 use Rattle.bmap.specs.Sheet.{rows, sheetOf}
 use Rattle.bmap.specs.Judge.{Judged, judge}
-use Rattle.bmap.specs.Verdict.{judgement, sheetJudged, judgeSheet}
-use Rattle.bmap.specs.Supplement.{Replacement, replaced, supplementIn, sheetJudgedUnder, judgeUnder}
+use Rattle.bmap.specs.Verdict.{judgement}
+use Rattle.bmap.specs.Supplement.{Replacement, replaced, supplementIn, judgeUnder}
 use Rattle.index.specs.Index.{domainOf}
 use Rattle.supplement.specs.declared.under.Under.{Under}
 use Rattle.supplement.proofs.Accepted.{UnderIs}
-use Rattle.supplement.proofs.Theorems.{empty-changes-nothing}
+use Rattle.supplement.proofs.EmptyLaws.{zeros-judged}
 use Rattle.judge.specs.Answer.{statesIn, statesWritten, statesWrittenUnder}
 use Rattle.judge.proofs.IndexLaws.{domainHere}
 
@@ -68,19 +67,7 @@ module _ (store supplement sheet : List ℕ) (levels : List ℤ) where
   unfolding judgeUnder statesWrittenUnder domainOf
   call-judged here h = rw (le-leb levelsSize (length levels) h, here .domain, here .accepted) (refl, refl)
 
--- "an empty supplement changes nothing"
-module _ (store sheet : List ℕ) (levels : List ℤ) where
-  none-over : (a : Answer Domain) → then a (λ d. then (supplementIn d []) (λ s. then (sheetOf (d .agents) sheet) (λ steps. got (judge (replaced s d) steps)))) ≡ then a (λ d. then (sheetOf (d .agents) sheet) (λ steps. got (judge d steps)))
-  none-over (refused n) = refl
-  none-over (got d) = rw (empty-changes-nothing .accepted d 0, empty-changes-nothing .laws d) refl
-
-  judged-alike : sheetJudgedUnder store [] sheet levels ≡ sheetJudged store sheet levels
-  judged-alike = ap (need (leb levelsSize (length levels)) 10) (none-over (domainIn store))
-
-  pub call-alike : judgeUnder store [] sheet levels ≡ judgeSheet store sheet levels
-  unfolding judgeUnder judgeSheet
-  call-alike = ap (judgement levels) judged-alike
-
-  pub states-alike : statesWrittenUnder store [] sheet levels ≡ statesWritten store sheet levels
-  unfolding statesWrittenUnder statesWritten
-  states-alike = ap statesIn judged-alike
+-- "an empty supplement changes nothing": what it answers is supplement's theorem
+pub states-alike : (store sheet : List ℕ) (levels : List ℤ) → statesWrittenUnder store [] sheet levels ≡ statesWritten store sheet levels
+unfolding statesWrittenUnder statesWritten
+states-alike store sheet levels = ap statesIn (zeros-judged store sheet levels 0)

@@ -1,6 +1,7 @@
 use mathlib.Core.Path.{_∙_}
 use borrow.Author.Needs.{needs}
-use Rattle.judge.proofs.CallLaws.{call-alike, states-alike}
+use Rattle.supplement.proofs.Theorems.{empty-changes-nothing}
+use Rattle.judge.proofs.CallLaws.{states-alike}
 use Rattle.judge.proofs.judgement.judge_counted.Statement.{statement}
 use Rattle.judge.proofs.judgement.judge_counted.Tie as tie
 
@@ -15,7 +16,7 @@ same-length c = search needs
 
 returns : tie.Need-returns
 returns c = let s = c .before .before .before .before .before .before .args in let judged = c .before .judge-under-counted .ensures in
-    (judged .0 ∙ call-alike (s .store .now) (s .sheet .now) (s .levels .now), judged .1 ∙ states-alike (s .store .now) (s .sheet .now) (s .levels .now))
+    (judged .0 ∙ empty-changes-nothing .judged (s .store .now) (s .sheet .now) (s .levels .now) 0, judged .1 ∙ states-alike (s .store .now) (s .sheet .now) (s .levels .now))
 
 pub judge-counted-spec : {M : Type 1} → statement M
 judge-counted-spec =

@@ -142,6 +142,7 @@ pub fn judge_counted(store: &[u8], sheet: &[u8], levels: &mut [i16]) -> Counted
 }
 
 // "Judging with a supplement equals judging the domain with those laws replaced": 15 also for a supplement that is not one for it.
+// The two stores have one lifetime, since a law in force is a part of either.
 pub fn judge_under<'a>(
     store: &'a [u8],
     supplement: &'a [u8],

@@ -1,5 +1,5 @@
 // What a judge reads of an accepted store, found once: the numbers of its fluents, knowledge and entries, and where each law
-// stands. `domain` makes an index and `judge` reads it; `session`, `answer` and `desk` ask it for its counts. What is handed out
+// stands. `domain` makes an index, `supplement` and `judge` read it; `session`, `answer` and `desk` ask it for its counts. What is handed out
 // of a store is cut here, so that its place is promised once.
 use bmap::Counts;
 ghost use mathlib.Core.Path.{_≡_};
@@ -24,7 +24,8 @@ pub struct Index {
     pub laws: [u16; Counts::LAWS],
 }
 
-// The frame of law i as it stands in the store: its kind, its count and its payload. Everything that reads a law asks here.
+// The frame of law i as it stands in the store: its kind, its count and its payload. Whoever reads the law in force asks
+// `supplement` for its payload.
 // For a law that is not there it is the frame at place 0.
 pub fn law_at<'a>(store: &'a [u8], laws: &[u16], i: usize) -> &'a [u8]
     ensures { λ r. ⌜ StandsAt (store .entry) (getD (now (laws .entry)) i 0) (frameBytes (now (store .entry)) (getD (now (laws .entry)) i 0)) r ⌝ }

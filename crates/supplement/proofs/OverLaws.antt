@@ -41,7 +41,7 @@ part-snoc at (q ∷ s) r n = go (gives n q) (part-snoc (at + length (stored (q .
 
     go : (t : Bool)
         → replacementPart (at + length (stored (q .frame))) (s ++ (r ∷ [])) n ≡ maybe (replacementPart (at + length (stored (q .frame))) s n) (if-else (gives n r) (some (partOf (at + length (stored (q .frame)) + length (bytesOf s)) r)) none) some
-        → if-else t (some (partOf at q)) (replacementPart (at + length (stored (q .frame))) (s ++ (r ∷ []))  n)
+        → if-else t (some (partOf at q)) (replacementPart (at + length (stored (q .frame))) (s ++ (r ∷ [])) n)
         ≡ maybe (if-else t (some (partOf at q)) (replacementPart (at + length (stored (q .frame))) s n)) (if-else (gives n r) (some (partOf (at + length (stored (q .frame) ++ bytesOf s)) r)) none) some
     go true h = refl
     go false h = h ∙ ap (λ (k : ℕ). maybe (replacementPart (at + length (stored (q .frame))) s n) (if-else (gives n r) (some (partOf k r)) none) some) behind

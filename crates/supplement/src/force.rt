@@ -55,7 +55,11 @@ pub fn payload_at<'a>(
     ensures { λ r. ⌜ StandsIn (lawStretch (now (store .entry)) (now (laws .entry)) (now (supplement .entry)) (now (over .entry)) i .stands) (store .entry) (supplement .entry)
         (payloadOf (now (store .entry)) (now (laws .entry)) (now (supplement .entry)) (now (over .entry)) i) r ⌝ }
 {
-    handed_out(store, supplement, standing(store, laws, supplement, over, i))
+    handed_out(
+        store,
+        supplement,
+        standing(store, laws, supplement, over, i),
+    )
 }
 
 // A place in a list of them, 0 past its end.

@@ -8,9 +8,9 @@ mod reader;
 mod under;
 
 pub use force::LawPlace;
-pub use force::place_in_force;
 pub use force::in_force;
 pub use force::payload_at;
+pub use force::place_in_force;
 pub use reader::read;
 pub use under::Under;
 pub use under::index_of;

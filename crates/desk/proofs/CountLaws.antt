@@ -3,7 +3,7 @@ use Prim.Native.Nat.{ℕ}
 use mathlib.Core.Path.{_≡_, sym, ap, subst, _∙_}
 use mathlib.Core.Bool.{true, false}
 use mathlib.Core.List.{List}
-use Rattle.bmap.specs.Refusal.{got, refused, numberOf}
+use Rattle.bmap.specs.Refusal.{refused, numberOf}
 use Rattle.bmap.specs.Store.{domainIn}
 use Rattle.bmap.specs.declared.refusal.Refusal.the-variants.{NotDomain}
 use Rattle.index.specs.Index.{Sound}

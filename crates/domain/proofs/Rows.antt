@@ -6,8 +6,8 @@ use native.Mathlib.Omega.{arith}
 use mathlib.Core.Path.{_≡_, refl, sym, ap, subst, _∙_}
 use mathlib.Core.Bool.{Bool}
 use mathlib.Core.List.{List, [], _∷_, _++_, append-assoc, map}
-use lib.ListN.{length, getD, set, replicate, length-append, List·getD-append, List·getD-map}
-use lib.Seq.{getD-append-seam, set-append-seam}
+use lib.ListN.{length, getD, set, take, drop, replicate, length-append, List·getD-append, List·getD-map}
+use lib.Seq.{take-nil, getD-append-seam, set-append-seam}
 use Rattle.bmap.specs.Plain.{both, either, any, all, numbers}
 use Rattle.bmap.proofs.PlainLaws.{either-end, either-assoc}
 use Rattle.domain.specs.Found.{row}
@@ -48,6 +48,16 @@ pub any-snoc : {A : Type 0} (P : A → Bool) (l : List A) (a : A) → any P (l +
 unfolding any
 any-snoc P [] a = either-end (P a)
 any-snoc P (b ∷ l) a = ap (either (P b)) (any-snoc P l a) ∙ either-assoc (P b) (any P l) (P a)
+
+-- ---- two elements less
+
+pub two-off : (n : ℕ) (l : List ℕ) → drop 2 (take n l) ≡ take (n - 2) (drop 2 l)
+two-off zero l = refl
+two-off (suc zero) [] = refl
+two-off (suc zero) (x ∷ l) = refl
+two-off (suc (suc n)) [] = sym (take-nil (suc (suc n) - 2))
+two-off (suc (suc n)) (x ∷ []) = sym (take-nil (suc (suc n) - 2))
+two-off (suc (suc n)) (x ∷ y ∷ l) = let z : n ≡ suc (suc n) - 2 = omega arith in ap (λ (k : ℕ). take k l) z
 
 -- ---- rows
 

@@ -1,5 +1,5 @@
 -- The frames of a store from its beginning on: what the partial domain keeps, and where its laws stand. Assumes nothing.
-use Prim.Native.Nat.{ℕ, zero, suc, _+_, _*_, _≤_, _<_}
+use Prim.Native.Nat.{ℕ, zero, suc, _+_, _-_, _*_, _≤_, _<_}
 use native.Mathlib.Decide.{decLe}
 use native.Mathlib.Omega.{arith}
 use mathlib.Core.Path.{_≡_, refl, sym, ap, subst, _∙_}
@@ -8,7 +8,7 @@ use mathlib.Core.List.{List, [], _∷_, _++_, append-assoc, append-nil, map}
 use mathlib.Core.Option.{Option, none, some}
 use lib.Dec.{eqb, leb}
 use lib.ListN.{length, getD, take, drop, length-drop, length-take}
-use lib.Seq.{take-nil, length-take-le, getD-take, getD-drop, drop-drop}
+use lib.Seq.{length-take-le, getD-take, getD-drop, drop-drop}
 use borrow.Author.Tests.{leb-true, eqb-false, le-leb, lt-leb}
 use Rattle.bmap.specs.Plain.{if-else, maybe}
 use Rattle.bmap.specs.Limits.{frameSize}
@@ -23,7 +23,7 @@ use Rattle.bmap.proofs.PlainLaws.{both-true}
 use Rattle.index.specs.Index.{frameBytes}
 use Rattle.domain.specs.Check.{refusedIn}
 use Rattle.domain.specs.Found.{lawPlaces}
-use Rattle.domain.proofs.Rows.{length-snoc, each-snoc, map-snoc, map-same}
+use Rattle.domain.proofs.Rows.{two-off, length-snoc, each-snoc, map-snoc, map-same}
 use Rattle.domain.proofs.CheckLaws.{room-agents, room-fluents, room-knowledge, room-entries, room-laws}
 use Rattle.domain.proofs.Passed.{Case, is-agents, is-fluent, is-knowledge, is-entry, is-law, Passed, passed}
 
@@ -80,12 +80,7 @@ lawThere s n at = lawIn n (getD (frameBytes s at) 0 0) (drop 2 (frameBytes s at)
 
 module _ (s : List ℕ) (at : ℕ) (f : Frame) (h : Here s at f) where
   two-on : (l : List ℕ) (n : ℕ) → drop 2 (take (n + 2) l) ≡ take n (drop 2 l)
-  two-on l n = let z : n + 2 ≡ suc (suc n) = omega arith in ap (λ k. drop 2 (take k l)) z ∙ go l
-    where
-      go : (l : List ℕ) → drop 2 (take (suc (suc n)) l) ≡ take n (drop 2 l)
-      go [] = sym (take-nil n)
-      go (x ∷ []) = sym (take-nil n)
-      go (x ∷ y ∷ l) = refl
+  two-on l n = let z : n + 2 - 2 ≡ n = omega arith in two-off (n + 2) l ∙ ap (λ k. take k (drop 2 l)) z
 
   law-there : (n : Counts) → lawThere s n at ≡ lawIn n (f .kind) (f .payload)
   unfolding frameBytes

@@ -1,11 +1,11 @@
 -- Parts of a store, where they stand. Assumes nothing.
-use Prim.Native.Nat.{ℕ, _+_, _-_, _≤_, _<_}
+use Prim.Native.Nat.{ℕ, _+_, _-_, _≤_}
 use native.Mathlib.Omega.{arith}
 use mathlib.Core.Path.{_≡_, sym, ap, _∙_, subst}
 use mathlib.Core.List.{List, []}
 use lib.ListN.{length, getD, take, drop, drop-of-length-le, length-drop}
 use lib.Seq.{take-all, take-nil}
-use denote.Ref.{RefT, now}
+use denote.Ref.{RefT}
 use Rattle.index.specs.Index.{frameBytes}
 use Rattle.index.specs.Place.{StandsAt}
 

@@ -11,7 +11,7 @@ use Rattle.bmap.specs.Limits.{mostFluents, mostEntries, mostLaws, mostPayload, 
 use Rattle.bmap.specs.Line.{effectKind, staticKind, concurrencyKind, goalKind}
 use Rattle.bmap.specs.Tree.{Con, always}
 use Rattle.bmap.specs.Meaning.{History}
-use Rattle.bmap.specs.Domain.{Domain, Names, Law, executable, effect, must, Scope, static, concurrency, goal, entryAt, has, occursIn, knows, readable}
+use Rattle.bmap.specs.Domain.{Domain, Names, Law, executable, effect, must, static, concurrency, goal, entryAt, has, occursIn, knows, readable}
 use Rattle.bmap.specs.Judge.{carries}
 use Rattle.bmap.specs.Payload.{lawIn, asks}
 use Rattle.bmap.specs.Accept.{countsOf}

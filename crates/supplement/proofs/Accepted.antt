@@ -3,11 +3,11 @@ use Prim.Native.Nat.{ℕ, zero, suc, _+_, _-_, _≤_, _<_}
 use native.Mathlib.Omega.{arith}
 use mathlib.Core.Path.{_≡_, refl, sym, ap, subst, _∙_}
 use mathlib.Core.Bool.{Bool, true, false}
-use mathlib.Core.List.{List, [], _∷_, _++_, map}
+use mathlib.Core.List.{List, [], _∷_, map}
 use mathlib.Core.Option.{Option, none, some}
 use lib.Dec.{eqb}
-use lib.ListN.{length, getD, take, drop, length-take, length-drop}
-use lib.Seq.{take-nil, drop-drop}
+use lib.ListN.{length, getD, take, drop, length-drop}
+use lib.Seq.{drop-drop}
 use borrow.Author.Tests.{eqb-true, eq-eqb, ne-eqb}
 use Rattle.bmap.specs.Plain.{if-else, maybe}
 use Rattle.bmap.specs.Limits.{mostPayload}
@@ -17,7 +17,7 @@ use Rattle.bmap.specs.Domain.{Domain, Law}
 use Rattle.bmap.specs.Payload.{byte, scopeKind, lawIn}
 use Rattle.bmap.specs.Accept.{countsOf}
 use Rattle.bmap.specs.Store.{frameAt, zeros, framesFrom, framesIn, whatWasRead, domainIn}
-use Rattle.bmap.specs.Supplement.{Replacement, replaces, replacementOf, inForceFrom, replaced, numberIn, kindIn, payloadIn, standsFor, supplementFrom, supplementIn, Where, inDomain, inSupplement, Part, replacementPart}
+use Rattle.bmap.specs.Supplement.{Replacement, replaces, replacementOf, inForceFrom, replaced, kindIn, payloadIn, standsFor, supplementFrom, supplementIn, Where, inDomain, inSupplement, Part, replacementPart}
 use Rattle.bmap.proofs.PlainLaws.{both-true}
 use Rattle.bmap.specs.declared.limits.Counts.{Counts}
 use Rattle.index.specs.declared.Index.{Index}
@@ -25,16 +25,17 @@ use Rattle.index.specs.Index.{frameBytes, lawBytes, lawOf, domainOf, Sound}
 use Rattle.index.proofs.DomainLaws.{counts-are, law-count, law-number}
 use Rattle.domain.specs.Found.{foundIn}
 use Rattle.domain.proofs.Passed.{Form, is-executable, is-effect, is-must, law-form}
+use Rattle.domain.proofs.Rows.{two-off}
 use Rattle.domain.proofs.Stands.{Here, here, no-more}
 use Rattle.domain.proofs.Accepted.{FoundHere, found-ok, refused-15}
 use Rattle.supplement.specs.declared.under.Under.{Under}
 use Rattle.supplement.specs.Check.{placeIn, countPlace, overOf}
 use Rattle.supplement.specs.Under.{underOf, underIn}
-use Rattle.supplement.specs.Force.{stretchAt, lawStretch, bytesIn, payloadOf}
+use Rattle.supplement.specs.Force.{stretchAt, bytesIn, payloadOf}
 use Rattle.supplement.proofs.OverLaws.{over-at}
 use Rattle.supplement.proofs.CheckLaws.{lawAt, noLaw}
 use Rattle.supplement.proofs.UnderLaws.{under-by, under-not}
-use Rattle.supplement.proofs.Passes.{Fits, AllFit, no-more as fit-none, FoundFits, found-fits, frames, AllRead, all-read}
+use Rattle.supplement.proofs.Passes.{no-more as fit-none, found-fits, frames, AllRead, all-read}
 
 -- ---- the laws in force, number by number
 
@@ -71,14 +72,6 @@ pub record Stood (s : List ℕ) (r : Replacement) (p : Part) : Type 0 where
   pub there : take (getD s count 0 - 2) (drop (count + 3) s) ≡ payloadIn (r .frame)
   pub size : getD s count 0 - 2 ≡ length (payloadIn (r .frame))
   pub short : length (r .frame .payload) ≤ 120
-
-two-off : (n : ℕ) (l : List ℕ) → drop 2 (take n l) ≡ take (n - 2) (drop 2 l)
-two-off zero l = refl
-two-off (suc zero) [] = refl
-two-off (suc zero) (x ∷ l) = refl
-two-off (suc (suc n)) [] = sym (take-nil (suc (suc n) - 2))
-two-off (suc (suc n)) (x ∷ []) = sym (take-nil (suc (suc n) - 2))
-two-off (suc (suc n)) (x ∷ y ∷ l) = let z : n ≡ suc (suc n) - 2 = omega arith in ap (λ (k : ℕ). take k l) z
 
 -- the frames from a place on are the replacements'
 module _ (s : List ℕ) (n : ℕ) (r : Replacement) where
@@ -140,7 +133,7 @@ no-part at (q ∷ rs) n e = go (eqb (replaces q) n) e (no-part (at + length (sto
 -- ---- the payload of each law in force, by what was found
 
 -- the payload of the domain's own law
-pub payload-own : (store supplement : List ℕ) (frame over : ℕ) → over ≡ 0 → bytesIn (stretchAt store frame supplement over) store supplement ≡ drop 2 (frameBytes store frame)
+payload-own : (store supplement : List ℕ) (frame over : ℕ) → over ≡ 0 → bytesIn (stretchAt store frame supplement over) store supplement ≡ drop 2 (frameBytes store frame)
 unfolding frameBytes
 payload-own store supplement frame over e =
     let z : getD store (frame + 1) 0 + 2 - 2 ≡ getD store (frame + 1) 0 = omega arith in
@@ -149,7 +142,7 @@ payload-own store supplement frame over e =
     ∙ sym (two-off (getD store (frame + 1) 0 + 2) (drop frame store) ∙ ap (take (getD store (frame + 1) 0 + 2 - 2)) (drop-drop 2 frame store))
 
 -- the payload of a law that replaces it
-pub payload-over : (store supplement : List ℕ) (frame over : ℕ) → 1 ≤ over → bytesIn (stretchAt store frame supplement over) store supplement ≡ take (getD supplement over 0 - 2) (drop (over + 3) supplement)
+payload-over : (store supplement : List ℕ) (frame over : ℕ) → 1 ≤ over → bytesIn (stretchAt store frame supplement over) store supplement ≡ take (getD supplement over 0 - 2) (drop (over + 3) supplement)
 payload-over store supplement frame over h =
     ap (λ (b : Bool). bytesIn (if-else b (record { stands = inDomain (frame + 2); size = getD store (frame + 1) 0 }) (record { stands = inSupplement (over + 3); size = getD supplement over 0 - 2 })) store supplement) (ne-eqb over 0 (λ e. omega arith))
 

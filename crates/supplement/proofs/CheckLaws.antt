@@ -1,23 +1,24 @@
 -- The check of one frame of a supplement, refusal by refusal. Assumes nothing.
-use Prim.Native.Nat.{ℕ, zero, suc, _+_, _-_, _≤_, _<_}
+use Prim.Native.Nat.{ℕ, zero, suc, _+_, _≤_, _<_}
 use native.Mathlib.Omega.{arith}
-use mathlib.Core.Path.{_≡_, refl, sym, ap, subst, _∙_}
-use mathlib.Core.Bool.{Bool, true, false, not}
-use mathlib.Core.List.{List, [], _∷_, _++_, map}
+use mathlib.Core.Path.{_≡_, refl, sym, ap, _∙_}
+use mathlib.Core.Bool.{Bool, true, false}
+use mathlib.Core.List.{List, [], _∷_, map}
 use mathlib.Core.Option.{Option, none, some}
-use lib.Dec.{eqb, leb}
-use lib.ListN.{length, getD, take, drop}
+use lib.Dec.{eqb}
+use lib.ListN.{length, getD, drop}
 use lib.Seq.{getD-drop}
-use borrow.Author.Tests.{eqb-true, leb-true, eq-eqb, ne-eqb, le-leb, lt-leb, not-true}
-use Rattle.bmap.specs.Plain.{both, either, implies, if-else, maybe, any}
-use Rattle.bmap.specs.Refusal.{Answer, got, refused, need, known, then}
+use borrow.Author.Tests.{eq-eqb, ne-eqb, le-leb, lt-leb}
+use Rattle.bmap.specs.Plain.{both, implies, maybe, any}
+use Rattle.bmap.specs.Refusal.{Answer, got, known, then}
 use Rattle.bmap.specs.Line.{Frame}
 use Rattle.bmap.specs.Tree.{always}
-use Rattle.bmap.specs.Domain.{Domain, Law, executable, effect, must, Scope, static, concurrency, goal}
+use Rattle.bmap.specs.Domain.{Domain, Law, must, Scope, static, concurrency, goal}
 use Rattle.bmap.specs.Payload.{byte, scopeKind, lawIn}
 use Rattle.bmap.specs.Accept.{countsOf}
 use Rattle.bmap.specs.Supplement.{Replacement, replaces, numberIn, kindIn, payloadIn, lawNumbered, standsFor, replacementIn, replacementPart}
 use Rattle.bmap.specs.declared.limits.Counts.{Counts}
+use Rattle.bmap.proofs.PlainLaws.{both-end}
 use Rattle.index.specs.declared.Index.{Index}
 use Rattle.index.specs.Index.{frameBytes, lawOf, domainOf, Sound}
 use Rattle.index.proofs.DomainLaws.{counts-are, law-count, law-number}
@@ -27,10 +28,6 @@ use Rattle.supplement.specs.Check.{LawsStand, hasEntry, standsIn, countP
 use Rattle.supplement.proofs.OverLaws.{gives, given, not-given, over-at}
 
 -- ---- 20: kind and entry, by the bytes of the domain's law
-
-both-end : (b : Bool) → both b true ≡ b
-both-end true = refl
-both-end false = refl
 
 no-entry : (s : Scope) → hasEntry (scopeKind s) ≡ false
 no-entry static = refl

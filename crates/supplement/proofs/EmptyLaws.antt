@@ -1,22 +1,21 @@
 -- An empty supplement changes nothing. Assumes nothing.
 use Prim.Native.Nat.{ℕ, suc}
-use native.Mathlib.Omega.{arith}
-use mathlib.Core.Path.{_≡_, refl, sym, ap, _∙_}
+use mathlib.Core.Path.{_≡_, refl, ap, _∙_}
 use mathlib.Core.List.{List, [], _∷_, map}
-use mathlib.Core.Option.{Option, none, some}
+use mathlib.Core.Option.{Option, none}
 use lib.IntN.{ℤ}
 use lib.Dec.{leb}
 use lib.ListN.{length, replicate}
 use Rattle.bmap.specs.Plain.{maybe, flat}
 use Rattle.bmap.specs.Limits.{levelsSize}
 use Rattle.bmap.specs.Refusal.{Answer, got, refused, need, known, then}
-use Rattle.bmap.specs.Line.{Frame, stored}
+use Rattle.bmap.specs.Line.{Frame}
 use Rattle.bmap.specs.Domain.{Domain, Names, Law}
-use Rattle.bmap.specs.Store.{framesIn, whatWasRead, domainIn}
+use Rattle.bmap.specs.Store.{whatWasRead, domainIn}
 use Rattle.bmap.specs.Sheet.{sheetOf}
 use Rattle.bmap.specs.Judge.{Judged, judge}
-use Rattle.bmap.specs.Verdict.{judgement, sheetJudged, judgeSheet}
-use Rattle.bmap.specs.Supplement.{replacementOf, inForceFrom, replaced, supplementFrom, supplementIn, sheetJudgedUnder, judgeUnder}
+use Rattle.bmap.specs.Verdict.{sheetJudged}
+use Rattle.bmap.specs.Supplement.{replacementOf, inForceFrom, replaced, supplementFrom, supplementIn, sheetJudgedUnder}
 use Rattle.domain.proofs.RoundTrip.{no-frames, frames-back}
 
 in-force-none : (n : ℕ) (laws : List Law) → inForceFrom [] n laws ≡ laws

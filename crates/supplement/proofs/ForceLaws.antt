@@ -6,32 +6,29 @@ use mathlib.Core.Path.{_≡_, refl, sym, ap, subst, _∙_}
 use mathlib.Core.Bool.{Bool, true, false}
 use mathlib.Core.List.{List, [], _∷_}
 use mathlib.Core.Option.{Option, none, some}
-use lib.Dec.{eqb, leb, ltb}
+use lib.Dec.{leb, ltb}
 use lib.ListN.{length, getD, take, drop}
-use lib.Seq.{take-nil}
 use borrow.Author.Tests.{eq-eqb, ne-eqb, lt-ltb, le-ltb}
 use denote.Ref.{RefT, now}
 use Rattle.bmap.specs.Plain.{if-else, maybe}
 use Rattle.bmap.specs.Refusal.{Answer, got, refused, need, then}
 use Rattle.bmap.specs.Line.{Frame, stored}
-use Rattle.bmap.specs.Domain.{Domain}
 use Rattle.bmap.specs.Store.{frameAt, zeros, framesFrom, framesIn, domainIn}
-use Rattle.bmap.specs.Supplement.{Replacement, replacementOf, payloadIn, supplementIn, Where, inDomain, inSupplement, Part, lawParts, replacementPart, noPart, lawInForce}
-use Rattle.index.specs.Index.{frameBytes, domainOf}
-use Rattle.index.specs.Place.{StandsAt}
+use Rattle.bmap.specs.Supplement.{Replacement, replacementOf, supplementIn, Where, inDomain, inSupplement, Part, lawParts, replacementPart, noPart, lawInForce}
+use Rattle.index.specs.Index.{domainOf}
 use Rattle.index.proofs.DomainLaws.{law-count}
 use Rattle.index.specs.declared.Index.{Index}
 use Rattle.domain.specs.declared.found.Found.{Found}
-use Rattle.domain.specs.Found.{lawPlaces, indexWith, foundIn, row}
+use Rattle.domain.specs.Found.{lawPlaces, indexWith}
 use Rattle.domain.proofs.Rows.{row-at}
 use Rattle.domain.proofs.Stands.{Here, here, no-more}
-use Rattle.domain.proofs.Accepted.{Domained, domained, found-got, as-many}
+use Rattle.domain.proofs.Accepted.{domained, found-got, as-many}
 use Rattle.supplement.specs.declared.under.Under.{Under}
 use Rattle.supplement.specs.Check.{placeIn, countPlace, overOf}
 use Rattle.supplement.specs.Under.{underIn}
 use Rattle.supplement.specs.Force.{Stretch, StandsIn, bytesThere, bytesIn, HandedOut, InForce, stretchOf, stretchAt, lawStretch, payloadOf}
 use Rattle.supplement.proofs.OverLaws.{over-at}
-use Rattle.supplement.proofs.Accepted.{UnderIs, Stood, under-ok, under-none, Supplemented, supplemented, stood, no-part, payload-own, payload-over}
+use Rattle.supplement.proofs.Accepted.{UnderIs, Stood, under-ok, under-none, supplemented, stood, no-part}
 
 -- ---- a place, as the code finds it
 

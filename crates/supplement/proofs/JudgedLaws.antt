@@ -1,5 +1,5 @@
 -- The law in force that is handed out is the one by which a sheet is judged. Assumes nothing.
-use Prim.Native.Nat.{ℕ, zero, suc, _≤_, _<_}
+use Prim.Native.Nat.{ℕ, _<_}
 use native.Mathlib.Omega.{arith}
 use mathlib.Core.Path.{_≡_, refl, sym, ap, subst, _∙_}
 use mathlib.Core.Bool.{Bool, true, false}
@@ -8,23 +8,19 @@ use mathlib.Core.Option.{Option, none, some}
 use lib.Dec.{eqb}
 use lib.ListN.{length}
 use Rattle.bmap.specs.Plain.{if-else}
-use Rattle.bmap.specs.Refusal.{got}
 use Rattle.bmap.specs.Code.{parseC}
-use Rattle.bmap.specs.Domain.{Domain, Law, static, concurrency, goal}
+use Rattle.bmap.specs.Domain.{Domain, Law}
 use Rattle.bmap.specs.Payload.{byte, kindOf, executableIn, effectIn, mustIn, lawIn}
-use Rattle.bmap.specs.Accept.{countsOf}
-use Rattle.bmap.specs.Store.{domainIn}
-use Rattle.bmap.specs.Supplement.{Replacement, replaced, supplementIn, Part, lawInForce}
+use Rattle.bmap.specs.Supplement.{Replacement, replaced, supplementIn}
 use Rattle.bmap.specs.Theorems.{InForce, InForceJudged}
 use Rattle.bmap.specs.declared.limits.Counts.{Counts}
 use Rattle.index.specs.Index.{lawBytes, domainOf}
 use Rattle.index.proofs.DomainLaws.{counts-are, law-count}
 use Rattle.domain.proofs.Passed.{Form, is-executable, is-effect, is-must, law-form}
-use Rattle.supplement.specs.declared.under.Under.{Under}
 use Rattle.supplement.specs.Under.{underIn}
 use Rattle.supplement.proofs.CheckLaws.{lawAt, noLaw, numbered-some}
 use Rattle.supplement.proofs.Accepted.{length-in-force}
-use Rattle.supplement.proofs.ForceLaws.{Known, known-law}
+use Rattle.supplement.proofs.ForceLaws.{known-law}
 
 -- the kind of a law's bytes is the law's
 kind-is : (n : Counts) (k : ℕ) (p : List ℕ) (l : Law) → lawIn n k p ≡ some l → k ≡ kindOf l

@@ -1,17 +1,17 @@
 -- The replacements so far, and where they stand. Assumes nothing.
 use Prim.Native.Nat.{ℕ, zero, suc, _+_, _-_, _*_, _≤_, _<_}
 use native.Mathlib.Omega.{arith}
-use mathlib.Core.Path.{_≡_, refl, sym, ap, subst, _∙_}
-use mathlib.Core.Bool.{Bool, true, false, not}
+use mathlib.Core.Path.{_≡_, refl, sym, ap, _∙_}
+use mathlib.Core.Bool.{Bool, true, false}
 use mathlib.Core.List.{List, [], _∷_, _++_, map}
 use mathlib.Core.Option.{Option, none, some}
 use lib.Dec.{eqb}
 use lib.ListN.{length, getD, set, replicate, length-append, length-set}
 use lib.Seq.{getD-set-same, getD-set-other}
-use borrow.Author.Tests.{eqb-true, eqb-false, eq-eqb, ne-eqb, not-true}
+use borrow.Author.Tests.{eqb-true, eqb-false, eq-eqb, ne-eqb}
 use Rattle.bmap.specs.Plain.{either, if-else, maybe, any, flat, numbers}
-use Rattle.bmap.specs.Line.{Frame, stored}
-use Rattle.bmap.specs.Supplement.{Replacement, replaces, numberIn, payloadIn, inSupplement, Part, replacementPart}
+use Rattle.bmap.specs.Line.{stored}
+use Rattle.bmap.specs.Supplement.{Replacement, replaces, payloadIn, inSupplement, Part, replacementPart}
 use Rattle.bmap.proofs.PlainLaws.{flat-one}
 use Rattle.bmap.proofs.NumbersLaws.{map-length, map-at}
 use Rattle.domain.proofs.Rows.{length-snoc, map-snoc, numbers-all}

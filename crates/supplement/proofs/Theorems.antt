@@ -1,16 +1,13 @@
 -- What document 02 asks to be shown of supplements, and that each answer is the only one that keeps its promise. Assumes nothing.
-use Prim.Native.Nat.{ℕ, _+_, _<_}
+use Prim.Native.Nat.{ℕ, _<_}
 use native.Mathlib.Omega.{arith}
-use mathlib.Core.Path.{_≡_, sym, ap, subst, _∙_}
-use mathlib.Core.List.{List, []}
-use mathlib.Core.Option.{none, some}
+use mathlib.Core.Path.{_≡_, sym, ap}
+use mathlib.Core.List.{List}
 use lib.ListN.{length}
 use denote.Ref.{RefT, now}
 use Rattle.bmap.specs.Refusal.{Answer, got, refused, numberOf}
-use Rattle.bmap.specs.Domain.{Domain, Law}
-use Rattle.bmap.specs.Payload.{kindOf, lawIn}
 use Rattle.bmap.specs.Verdict.{judgement, judgeSheet}
-use Rattle.bmap.specs.Supplement.{Replacement, replaced, lawNumbered, judgeUnder, Where, inDomain, inSupplement, Part}
+use Rattle.bmap.specs.Supplement.{judgeUnder, Where, inDomain, inSupplement}
 use Rattle.bmap.specs.Theorems.{EmptyChangesNothing, SupplementStands, SupplementLinesReturn, InForceJudged}
 use Rattle.bmap.proofs.RefusalLaws.{same-refusal}
 use Rattle.supplement.specs.declared.force.LawPlace.{LawPlace}

@@ -9,7 +9,7 @@ ghost use Prim.Native.Nat.{_-_};
 ghost use lib.ListN.{getD};
 ghost use Rattle.bmap.specs.Refusal.{got};
 ghost use Rattle.bmap.specs.Supplement.{lawInForce};
-ghost use Rattle.supplement.specs.Force.{placed, stretchOf, stretchAt, lawStretch, payloadOf, StandsIn, HandedOut, InForce};
+ghost use Rattle.supplement.specs.Force.{placed, stretchOf, lawStretch, payloadOf, StandsIn, HandedOut, InForce};
 
 // Where a law's payload stands, and how many bytes it has.
 pub enum LawPlace {

@@ -1,5 +1,5 @@
 -- `supplement::force::handed_out` meets its contract. Assumes nothing.
-use mathlib.Core.Path.{_≡_, sym, ap}
+use mathlib.Core.Path.{sym, ap}
 use borrow.Author.Needs.{needs}
 use Rattle.supplement.specs.Force.{placed}
 use Rattle.supplement.proofs.ForceLaws.{handed}

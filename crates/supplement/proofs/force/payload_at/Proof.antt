@@ -1,5 +1,4 @@
 -- `supplement::force::payload_at` meets its contract. Assumes nothing.
-use mathlib.Core.Path.{_≡_}
 use borrow.Author.Needs.{needs}
 use Rattle.supplement.proofs.ForceLaws.{handed}
 use Rattle.supplement.proofs.force.payload_at.Statement.{statement}

@@ -6,8 +6,8 @@ use native.Mathlib.Omega.{arith}
 use borrow.Author.Needs.{needs}
 use Prim.Native.Nat.{ℕ, _+_, _-_, _≤_}
 use lib.ListN.{length}
-use Rattle.bmap.specs.Refusal.{got, refused}
-use Rattle.bmap.specs.Line.{Frame, stored}
+use Rattle.bmap.specs.Refusal.{refused}
+use Rattle.bmap.specs.Line.{Frame}
 use Rattle.bmap.specs.Domain.{Domain}
 use Rattle.bmap.specs.Supplement.{replacementIn}
 use Rattle.line.specs.Frame.{sizeOf}

@@ -58,15 +58,18 @@ enum { WAROTH_INPUT = 60000 };
 
 /* The most stack of a call, in bytes: what was measured, with room to spare. Measured by reference/beside/stack.c:
  *
- *   waroth_read_domain   2,224   waroth_read_sheet     312   waroth_open    5,408   waroth_undo    17,360
- *   waroth_write_domain  5,456   waroth_write_sheet     69   waroth_enter  16,352   waroth_redo    20,992
- *   waroth_counts        5,392   waroth_judge       28,208   waroth_strike 16,352   waroth_verdict 40,528
- *   waroth_frame             8   waroth_answer      70,464   waroth_amend  16,352 */
+ *   waroth_read_domain   2,320   waroth_read_supplement  5,984   waroth_judge        32,144   waroth_open    5,504
+ *   waroth_write_domain  5,552   waroth_law              9,600   waroth_judge_under  32,160   waroth_enter  20,976
+ *   waroth_counts        5,488   waroth_read_sheet         312   waroth_answer       74,528   waroth_strike 25,632
+ *   waroth_frame             8   waroth_write_sheet         69   waroth_low_water    90,576   waroth_amend  20,992
+ *                                                                waroth_verdict      44,400   waroth_undo   17,360
+ *                                                                                             waroth_redo   20,992 */
 enum {
-    WAROTH_STACK_TEXTS = 8192,     /* domains, supplements and sheets */
-    WAROTH_STACK_VERDICTS = 65536, /* waroth_judge, waroth_judge_under, waroth_verdict */
-    WAROTH_STACK_ANSWER = 131072,  /* waroth_answer, waroth_low_water */
-    WAROTH_STACK_SESSIONS = 32768  /* sessions, but for the verdict */
+    WAROTH_STACK_TEXTS = 8192,        /* domains and sheets */
+    WAROTH_STACK_SUPPLEMENTS = 16384, /* waroth_read_supplement, waroth_law */
+    WAROTH_STACK_VERDICTS = 65536,    /* waroth_judge, waroth_judge_under, waroth_verdict */
+    WAROTH_STACK_ANSWER = 131072,     /* waroth_answer, waroth_low_water */
+    WAROTH_STACK_SESSIONS = 32768     /* sessions, but for the verdict */
 };
 
 /* The characters of a line whose payload has so many bytes: two for each byte, kind and count among them, and the LF. */

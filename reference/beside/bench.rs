@@ -190,7 +190,7 @@ fn main() {
         "{:42} {:>12} {:>12} {:>8} {:>12} {:>8}",
         "verdicts under a supplement, a second", "library", "second", "ratio", "without", "ratio"
     );
-    for input in [inputs::pool(), inputs::deep(), full] {
+    for input in [inputs::pool(), inputs::deep(), full, inputs::long_laws()] {
         verdicts_under(&input, 5);
         if input.draft.laws() > 5 {
             verdicts_under(&input, usize::MAX);

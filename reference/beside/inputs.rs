@@ -1,7 +1,7 @@
 //! What the benchmark runs on: accepted domains, and sheets of 64 steps for them that are accepted.
 
 use waroth_reference::generate::draft::{law, replacement, Draft};
-use waroth_reference::generate::laws::{constant, node};
+use waroth_reference::generate::laws::{constant, node, wrapped};
 use waroth_reference::generate::random::Random;
 use waroth_reference::generate::shapes::longest;
 use waroth_reference::generate::supplements::LONGEST_LAW;
@@ -87,6 +87,28 @@ pub fn deep() -> Input {
     }
     Input {
         name: "deep laws, 64 steps",
+        draft,
+        sheet: vec![0; STEPS],
+    }
+}
+
+/// A constraint of so many bytes, 111 or more, that is true.
+fn long(bytes: usize) -> Vec<u8> {
+    let short = at_least(&fluent(0), 0);
+    let most = (0..12).fold(short.clone(), |all, _| node(0x26, &[&all, &short]));
+    let last = at_least(&wrapped(0x18, bytes - 111, &fluent(0)), 0);
+    node(0x26, &[&most, &last])
+}
+
+/// As many laws as is allowed, each as long as a supplement can give it, and nobody acts.
+pub fn long_laws() -> Input {
+    let mut draft = Draft::new(1, &[[0, 100, 1]], &[(1, 1)]);
+    draft.insert(law(0xA5, &[&[0], &long(LONGEST_LAW - 1)]));
+    for _ in 1..128 {
+        draft.insert(law(0xA7, &[&long(LONGEST_LAW)]));
+    }
+    Input {
+        name: "118 bytes each, 64 steps",
         draft,
         sheet: vec![0; STEPS],
     }

@@ -244,7 +244,7 @@ uint64_t waroth_read_supplement(const uint8_t *store, size_t store_size, const u
                                 uint8_t *supplement, size_t supplement_size);
 
 /* Where the payload of the law in force stands, by the law's number from 0 (waroth_replaced, waroth_place and waroth_size);
- * both stores may have any size, and no bytes at all are a supplement that replaces nothing.
+ * both stores may have any size, and size 0, with any pointer but null, is a supplement that replaces nothing.
  * Refusals: 15 for either store, 20. */
 uint64_t waroth_law(const uint8_t *store, size_t store_size, const uint8_t *supplement, size_t supplement_size, size_t law);
 
@@ -272,7 +272,7 @@ uint64_t waroth_judge(const uint8_t *store, size_t store_size, const uint8_t *sh
                       size_t levels_size);
 
 /* The same under a supplement, whose store may have any size: as if the domain had its laws replaced. Answers as
- * waroth_judge, and so where the supplement is empty.
+ * waroth_judge, and just so where the supplement is empty (size 0, with any pointer but null, or zeros only).
  * Refusals: 10, 15 for either store, 8, 9. The levels: as waroth_judge. */
 uint64_t waroth_judge_under(const uint8_t *store, size_t store_size, const uint8_t *supplement, size_t supplement_size,
                             const uint8_t *sheet, size_t sheet_size, int16_t *levels, size_t levels_size);
@@ -315,7 +315,8 @@ uint64_t waroth_undo(struct waroth_session *session);
 /* Refusals: 17, 13. */
 uint64_t waroth_redo(struct waroth_session *session);
 
-/* Judges the session's sheet against a store; the session itself is passed, and stays as it is. Answers as waroth_judge.
+/* Judges the session's sheet against a store; the session itself is passed, and stays as it is. Answers as waroth_judge. It
+ * judges by the domain's own laws; under a supplement, hand session.names, steps * agents bytes, to waroth_judge_under.
  * Refusals: 17, 10, 15, 16. The levels: as waroth_judge. */
 uint64_t waroth_verdict(struct waroth_session session, const uint8_t *store, size_t store_size, int16_t *levels,
                         size_t levels_size);

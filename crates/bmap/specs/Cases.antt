@@ -309,10 +309,14 @@ supplements =
     ∷ supplementRefused (text "AF0304A92A\nA9012A\n") 3 2
     -- "a payload under 3 bytes is 4, not 20"
     ∷ supplementRefused (text "AF02FFFF\n") 4 1
+    ∷ supplementRefused (text "AF00\n") 4 1
+    ∷ supplementRefused (text "AF0104\n") 4 1
     -- "a law number not in the domain"
     ∷ supplementRefused (text "AF0305A92A\n") 20 1
     -- "a kind … that differs"
     ∷ supplementRefused (text "AF0304A82A\n") 20 1
+    ∷ supplementRefused (text "AF0800A6002A0010012B\n") 20 1
+    ∷ supplementRefused (text "AF0402A5002A\n") 20 1
     -- a kind that is no law's
     ∷ supplementRefused (text "AF0304A12A\n") 20 1
     -- "or entry that differs", of A5 and of A6
@@ -320,6 +324,7 @@ supplements =
     ∷ supplementRefused (text "AF0802A6012A0010012B\n") 20 1
     -- "a law number given twice", before 4
     ∷ supplementRefused (text "AF0304A92A\nAF0304A9FF\n") 20 2
+    ∷ supplementRefused (text "AF0304A92A\nAF0400A5002A\nAF0304A92A\n") 20 3
     -- 3 bytes: the entry differs, and there is no constraint
     ∷ supplementRefused (text "AF0300A52A\n") 20 1
     ∷ supplementRefused (text "AF0300A500\n") 4 1
@@ -349,6 +354,8 @@ supplements =
     ∷ judgesUnder (noGoal ++ noGoal) (1 ∷ []) (record { answer = refused 15; levels = replicate 2_080 (pos 7) })
     ∷ record { Of = Judgement; left = judgeUnder store noGoal (1 ∷ []) (replicate 2_080 (pos 7)); right = record { answer = refused 8; levels = replicate 2_080 (pos 7) } }
     ∷ record { Of = Judgement; left = judgeUnder [] (1 ∷ []) [] (pos 7 ∷ []); right = record { answer = refused 10; levels = pos 7 ∷ [] } }
+    ∷ record { Of = Judgement; left = judgeUnder (store ++ (1 ∷ [])) noGoal (1 ∷ []) (replicate 2_080 (pos 7)); right = record { answer = refused 15; levels = replicate 2_080 (pos 7) } }
+    ∷ judgesUnder noGoal (replicate 130 0) (record { answer = refused 9; levels = replicate 2_080 (pos 7) })
     -- `low_water`
     ∷ lowPrints (p ++ text "AF0304A92A\nB1020100\nB1020100\n") (text "S 0 300\nS 1 286\nS 2 272\nACCEPTED\n")
     ∷ lowPrints (p ++ text "B1020100\nB1020100\n") (text "S 0 300\nS 1 286\nS 2 272\nBROKEN 8 2 4\n")
@@ -373,6 +380,8 @@ supplements =
     ∷ lowPrints (kinds ++ text "AF0402A7282A\nB1020100\n") (text "BROKEN 6 0 2\n")
     ∷ lowPrints (kinds ++ text "AF0403A8282A\nB1020100\n") (text "S 0 300\nBROKEN 3 1 3\n")
     ∷ lowPrints (kinds ++ text "AF0404A9282A\nB1020100\n") (text "S 0 300\nS 1 299\nBROKEN 8 1 4\n")
+    -- "the same entry" alone: another fluent may be set
+    ∷ lowPrints (text "A10101\nA206000000090001\nA206000000090002\nA403010001\nA502002A\nA606002A00100005\nAF0801A6002A01100005\nB10101\n") (text "S 0 1 2\nS 1 1 5\nACCEPTED\n")
     -- the fluent known to nobody in the crew is asked of the law in force
     ∷ lowPrints (gauge ++ text "A403010003\nA502002A\nAF0A00A50025110100100000\nB103010100\n") (text "S 0 300 1\nBROKEN 2 1 0\n")
     ∷ []
@@ -383,4 +392,4 @@ AllHold (c ∷ l) = (c .left ≡ c .right) × AllHold l
 
 pub shown : AllHold starred × AllHold others × AllHold edges × AllHold sessions × AllHold calls × AllHold supplements
 unfolding p judgedUnder text any all flat numbers bounded signedWord namedE namedC allowedE allowedC evalE evalC codeOf parseE parseC linesOf digit bytes framed decode occursIn knownTo readable maskFits agentsFit fluentFits knowledgeFits entryFits executableIn effectIn mustIn lawIn itemIn inOrder room fresh checked accept complete takenFrom stepOf stepsFrom eachFrom history holds carries placed permits permitted mayOccur sets settled levelAfter stateAfter inRange landed step carried ran judge digitsOf spaced stateLines split output edited replayed standingSheet edit undo redo turn after replies loggedAll layout openSession readDomain standsAt frameAt framesFrom domainIn start nextFrame writeDomain stepsIn readSheet rows judgeSheet sheetOf verdict digitFor hex lineFor replacementOf inForceFrom replaced replacementIn supplementFrom readSupplement supplementIn judgeUnder lawParts replacementPart lawInForce lowWater
-shown = ((refl, (refl, (refl, (refl, (refl, (refl, (refl, (refl, (refl, (refl, (refl, (refl, (refl, (refl, (refl, (refl, tt)))))))))))))))), (refl, (refl, (refl, (refl, (refl, (refl, tt)))))), (refl, (refl, (refl, (refl, (refl, (refl, (refl, (refl, (refl, (refl, (refl, (refl, (refl, (refl, (refl, (refl, (refl, (refl, (refl, (refl, (refl, (refl, (refl, (refl, (refl, (refl, (refl, (refl, (refl, (refl, (refl, (refl, (refl, (refl, (refl, (refl, (refl, (refl, (refl, (refl, (refl, (refl, (refl, (refl, (refl, (refl, (refl, (refl, (refl, (refl, (refl, (refl, (refl, (refl, (refl, (refl, (refl, (refl, (refl, tt))))))))))))))))))))))))))))))))))))))))))))))))))))))))))), (refl, (refl, (refl, (refl, (refl, (refl, (refl, (refl, (refl, (refl, tt)))))))))), (refl, (refl, (refl, (refl, (refl, (refl, (refl, (refl, (refl, (refl, (refl, (refl, (refl, tt))))))))))))), (refl, (refl, (refl, (refl, (refl, (refl, (refl, (refl, (refl, (refl, (refl, (refl, (refl, (refl, (refl, (refl, (refl, (refl, (refl, (refl, (refl, (refl, (refl, (refl, (refl, (refl, (refl, (refl, (refl, (refl, (refl, (refl, (refl, (refl, (refl, (refl, (refl, (refl, (refl, (refl, (refl, (refl, (refl, (refl, (refl, (refl, (refl, (refl, (refl, (refl, (refl, tt))))))))))))))))))))))))))))))))))))))))))))))))))))
+shown = ((refl, (refl, (refl, (refl, (refl, (refl, (refl, (refl, (refl, (refl, (refl, (refl, (refl, (refl, (refl, (refl, tt)))))))))))))))), (refl, (refl, (refl, (refl, (refl, (refl, tt)))))), (refl, (refl, (refl, (refl, (refl, (refl, (refl, (refl, (refl, (refl, (refl, (refl, (refl, (refl, (refl, (refl, (refl, (refl, (refl, (refl, (refl, (refl, (refl, (refl, (refl, (refl, (refl, (refl, (refl, (refl, (refl, (refl, (refl, (refl, (refl, (refl, (refl, (refl, (refl, (refl, (refl, (refl, (refl, (refl, (refl, (refl, (refl, (refl, (refl, (refl, (refl, (refl, (refl, (refl, (refl, (refl, (refl, (refl, (refl, tt))))))))))))))))))))))))))))))))))))))))))))))))))))))))))), (refl, (refl, (refl, (refl, (refl, (refl, (refl, (refl, (refl, (refl, tt)))))))))), (refl, (refl, (refl, (refl, (refl, (refl, (refl, (refl, (refl, (refl, (refl, (refl, (refl, tt))))))))))))), (refl, (refl, (refl, (refl, (refl, (refl, (refl, (refl, (refl, (refl, (refl, (refl, (refl, (refl, (refl, (refl, (refl, (refl, (refl, (refl, (refl, (refl, (refl, (refl, (refl, (refl, (refl, (refl, (refl, (refl, (refl, (refl, (refl, (refl, (refl, (refl, (refl, (refl, (refl, (refl, (refl, (refl, (refl, (refl, (refl, (refl, (refl, (refl, (refl, (refl, (refl, (refl, (refl, (refl, (refl, (refl, (refl, (refl, (refl, tt))))))))))))))))))))))))))))))))))))))))))))))))))))))))))))

@@ -1,4 +1,4 @@
--- Documents 01 and 02, as definitions. Read the modules in this order.
+-- Document 01, and of document 02 request K7, as definitions. Read the modules in this order.
 pub mod Plain
 pub mod Limits
 pub mod Refusal

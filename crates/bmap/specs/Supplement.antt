@@ -5,7 +5,7 @@ use mathlib.Core.List.{List, [], _∷_, _++_, map}
 use mathlib.Core.Option.{Option, none, some}
 use lib.Dec.{eqb, leb, ltb}
 use lib.IntN.{ℤ}
-use lib.ListN.{length, getD, drop}
+use lib.ListN.{length, getD, take, drop}
 use Rattle.bmap.specs.Plain.{both, if-else, maybe, any, flat}
 use Rattle.bmap.specs.Limits.{supplementSize, levelsSize}
 use Rattle.bmap.specs.Refusal.{Answer, got, need, known, then, Reading, read, atLine, afterwards}
@@ -121,6 +121,11 @@ pub data Where : Type 0 where
 pub record Part : Type 0 where
   pub stands : Where
   pub bytes : List ℕ
+
+-- so many bytes that stand there
+abbrev pub bytesThere : Where → ℕ → List ℕ → List ℕ → List ℕ
+bytesThere (inDomain at) size store supplement = take size (drop at store)
+bytesThere (inSupplement at) size store supplement = take size (drop at supplement)
 
 -- "its payload alone": in a domain's frame after kind and count
 abbrev pub isLaw : Frame → Bool

@@ -7,20 +7,20 @@ use mathlib.Core.List.{List, [], map}
 use mathlib.Core.Option.{some}
 use lib.Dec.{T, ltb}
 use lib.IntN.{ℤ}
-use lib.ListN.{length, take, replicate}
-use Rattle.bmap.specs.Plain.{all, flat}
+use lib.ListN.{length, getD, take, replicate}
+use Rattle.bmap.specs.Plain.{all, flat, maybe}
 use Rattle.bmap.specs.Limits.{mostAgents, mostFluents, mostKnowledge, mostEntries, mostLaws, mostPayload, mostSteps, storeSize, sheetSize, levelsSize, supplementSize}
-use Rattle.bmap.specs.Refusal.{got, refused, read}
+use Rattle.bmap.specs.Refusal.{got, refused, need, then, read}
 use Rattle.bmap.specs.Line.{linesOf, lineSize}
 use Rattle.bmap.specs.Domain.{Domain, Names, Law}
 use Rattle.bmap.specs.Payload.{kindOf, lawIn}
 use Rattle.bmap.specs.Accept.{countsOf}
 use Rattle.bmap.specs.Buffer.{padded, over}
-use Rattle.bmap.specs.Store.{framesOf, reading, readDomain, textOf, writeDomain, domainIn}
+use Rattle.bmap.specs.Store.{framesOf, framesIn, reading, readDomain, textOf, writeDomain, domainIn}
 use Rattle.bmap.specs.Sheet.{stepsIn, readSheet, agentsKnown, sheetOf, stepLine, writeSheet}
 use Rattle.bmap.specs.Judge.{judge}
 use Rattle.bmap.specs.Verdict.{judgement, judgeSheet}
-use Rattle.bmap.specs.Supplement.{Replacement, replaced, lawNumbered, supplementFrom, readSupplement, supplementIn, judgeUnder, Part, lawInForce}
+use Rattle.bmap.specs.Supplement.{Replacement, replaced, lawNumbered, supplementFrom, readSupplement, supplementIn, judgeUnder, Part, bytesThere, lawParts, noPart, lawInForce}
 use Rattle.bmap.specs.Program.{split, sheetMark, supplemented, output, lowWater}
 use Rattle.bmap.specs.Session.{isOpen, CouldBeLeft, Call, opened, after, replies, standingSheet, replayed, layout, openSession, verdictOf}
 use Rattle.bmap.specs.Series.{sessionAfter, repliesOf}
@@ -102,6 +102,9 @@ pub record EmptyChangesNothing : Type 0 where
   pub laws : (d : Domain) → replaced [] d ≡ d
   pub accepted : (d : Domain) (zeros : ℕ) → supplementIn d (replicate zeros 0) ≡ got []
   pub judged : (store sheet : List ℕ) (levels : List ℤ) (zeros : ℕ) → judgeUnder store (replicate zeros 0) sheet levels ≡ judgeSheet store sheet levels
+  -- the law asked for is the domain's own
+  pub asked : (store : List ℕ) (zeros n : ℕ)
+      → lawInForce store (replicate zeros 0) n ≡ then (domainIn store) (λ d. need (ltb n (length (d .laws))) 20 (got (getD (maybe (framesIn store) [] (lawParts 0)) n noPart)))
 
 -- what was read is accepted: the supplement that the lines are
 abbrev pub SupplementStands : Type 0
@@ -117,17 +120,18 @@ SupplementLinesReturn =
     domainIn store ≡ got d → supplementFrom d [] (framesOf text) ≡ read s → supplementSize ≤ length buffer →
     textOf (readSupplement store text buffer .buffer) ≡ text
 
--- the law in force that is handed out is the one by which a sheet is judged, and never without bytes
-pub record InForce (d : Domain) (s : List Replacement) (n : ℕ) (part : Part) (l : Law) : Type 0 where
+-- the law in force that is handed out is the one by which a sheet is judged, never without bytes, and it stands where it is said to
+pub record JudgedBy (store supplement : List ℕ) (d : Domain) (s : List Replacement) (n : ℕ) (part : Part) (l : Law) : Type 0 where
   pub law : lawNumbered (replaced s d) n ≡ some l
   pub says : lawIn (countsOf d) (kindOf l) (part .bytes) ≡ some l
   pub some-bytes : 0 < length (part .bytes)
+  pub there : bytesThere (part .stands) (length (part .bytes)) store supplement ≡ part .bytes
 
 abbrev pub InForceJudged : Type 0
 InForceJudged =
     (store supplement : List ℕ) (d : Domain) (s : List Replacement) (n : ℕ) (part : Part) →
     domainIn store ≡ got d → supplementIn d supplement ≡ got s → lawInForce store supplement n ≡ got part →
-    (l : Law) × InForce d s n part l
+    (l : Law) × JudgedBy store supplement d s n part l
 
 -- `low_water` prints as `waroth` does where no line before the sheet starts "AF"
 abbrev pub LowWaterAlike : Type 0

@@ -15,7 +15,7 @@ use Rattle.judge.specs.declared.verdict.Judgement.{Judgement}
 use Rattle.judge.specs.declared.verdict.Judgement.the-variants.{Refused, Judged}
 use Rattle.judge.specs.declared.verdict.Verdict.{Verdict}
 use Rattle.judge.specs.declared.verdict.Verdict.the-variants.{Accepted, Broken}
-use Rattle.desk.specs.Numbers.{foundNumber, refusedNumber, judgedNumber, fourBytes, sizeNumber, acceptedKind, refusedKind, refusalIn, lowerHalf, markIn, countIn, lineIn, statesIn, kindIn, stepIn, numberIn, standsNumber, lawNumber, StretchIn, CountsIn}
+use Rattle.desk.specs.Numbers.{foundNumber, refusedNumber, judgedNumber, fourBytes, sizeNumber, acceptedKind, refusedKind, refusalIn, lowerHalf, markIn, countIn, lineIn, statesIn, kindIn, stepIn, numberIn, standsNumber, lawPlaceNumber, StretchIn, CountsIn}
 use Rattle.desk.proofs.NumberLaws.{number-small, kind-small, verdict-small}
 
 -- ---- the lower half has what the answer has, but for the upper half's number
@@ -122,14 +122,14 @@ stands-below : (w : Where) → standsNumber w < 2 ^ 25
 stands-below (inDomain at) = omega arith
 stands-below (inSupplement at) = omega arith
 
-pub law-below : (x : Stretch) → lawNumber (got x) < 2 ^ 31
+pub law-below : (x : Stretch) → lawPlaceNumber (got x) < 2 ^ 31
 law-below x = omega (arith, stands-below (x .stands))
 
 module _ (at size : ℕ) (h : at < 2 ^ 16) (k : size < 2 ^ 8) where
-  pub domain-back : StretchIn (lawNumber (got (record { stands = inDomain at; size = size }))) 0 at size
+  pub domain-back : StretchIn (lawPlaceNumber (got (record { stands = inDomain at; size = size }))) 0 at size
   domain-back = record { supplement = omega arith; place = omega arith; size = omega arith }
 
-  pub supplement-back : StretchIn (lawNumber (got (record { stands = inSupplement at; size = size }))) 1 at size
+  pub supplement-back : StretchIn (lawPlaceNumber (got (record { stands = inSupplement at; size = size }))) 1 at size
   supplement-back = record { supplement = omega arith; place = omega arith; size = omega arith }
 
 -- who looks at the kind alone, of the lower half alone, and reads "accepted", has an accepted sheet

@@ -66,9 +66,9 @@ abbrev pub standsNumber : Where → ℕ
 standsNumber (inDomain at) = at % 2 ^ 16 * 2 ^ 8
 standsNumber (inSupplement at) = 2 ^ 24 + at % 2 ^ 16 * 2 ^ 8
 
-abbrev pub lawNumber : Answer Stretch → ℕ
-lawNumber (got x) = standsNumber (x .stands) + x .size % 2 ^ 8
-lawNumber (refused number) = refusedNumber number number
+abbrev pub lawPlaceNumber : Answer Stretch → ℕ
+lawPlaceNumber (got x) = standsNumber (x .stands) + x .size % 2 ^ 8
+lawPlaceNumber (refused number) = refusedNumber number number
 
 -- a frame's size, 0 where there is none
 abbrev pub sizeNumber : Option ℕ → ℕ

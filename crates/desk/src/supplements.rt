@@ -7,7 +7,7 @@ use supplement::LawPlace;
 ghost use mathlib.Core.Path.{_≡_};
 ghost use Rattle.bmap.specs.Supplement.{readSupplement, lawInForce};
 ghost use Rattle.supplement.specs.Force.{placed, stretchOf};
-ghost use Rattle.desk.specs.Numbers.{readNumber, lawNumber};
+ghost use Rattle.desk.specs.Numbers.{readNumber, lawPlaceNumber};
 
 #[no_mangle]
 pub extern "C" fn waroth_read_supplement(store: &[u8], text: &[u8], supplement: &mut [u8]) -> u64
@@ -18,7 +18,7 @@ pub extern "C" fn waroth_read_supplement(store: &[u8], text: &[u8], supplement: 
 
 // Where a law's payload stands: a bit for the supplement, two bytes for the place, one for the size.
 fn stands(place: LawPlace) -> u64
-    ensures { λ r. ⌜ r ≡ lawNumber (placed place) ⌝ }
+    ensures { λ r. ⌜ r ≡ lawPlaceNumber (placed place) ⌝ }
 {
     match place {
         LawPlace::InDomain { at, size } => at as u64 % 65_536 * SECOND + size as u64 % 256,
@@ -32,7 +32,7 @@ fn stands(place: LawPlace) -> u64
 // The law in force, by its place: the caller has both stores.
 #[no_mangle]
 pub extern "C" fn waroth_law(store: &[u8], supplement: &[u8], law: usize) -> u64
-    ensures { λ r. ⌜ r ≡ lawNumber (stretchOf (lawInForce (now (store .entry)) (now (supplement .entry)) law)) ⌝ }
+    ensures { λ r. ⌜ r ≡ lawPlaceNumber (stretchOf (lawInForce (now (store .entry)) (now (supplement .entry)) law)) ⌝ }
 {
     stands(supplement::place_in_force(store, supplement, law))
 }

@@ -35,6 +35,10 @@ lawOf s x i = lawIn (x .counts) (getD (lawBytes s x i) 0 0) (drop 2 (lawBytes s 
 abbrev pub lawAt : List ℕ → Index → ℕ → Law
 lawAt s x i = maybe (lawOf s x i) (must static always) (λ l. l)
 
+-- law i of a domain; some law where it has none
+abbrev pub lawNumber : Domain → ℕ → Law
+lawNumber d i = getD (d .laws) i (must static always)
+
 -- the domain of which a store and an index speak
 unfoldable pub domainOf : List ℕ → Index → Domain
 domainOf s x = record {

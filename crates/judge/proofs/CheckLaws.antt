@@ -17,7 +17,8 @@ use Rattle.bmap.specs.Domain.{Domain, Names, Entry, Law, executable, effect, mu
 use Rattle.bmap.specs.Payload.{scopeKind}
 use Rattle.bmap.specs.Accept.{countsOf}
 use Rattle.bmap.specs.Judge.{pass, fault, unless, next, reads, placed, carries, sameScope, holds, permits, permitted, mayOccur}
-use Rattle.judge.specs.Told.{Belonging, Says, Lawful, Within, Owned, Own, ownerOf, lawNumber, frameOf, conOf, placeOf, asksOf}
+use Rattle.index.specs.Index.{lawNumber}
+use Rattle.judge.specs.Told.{Belonging, Says, Lawful, Within, Owned, Own, ownerOf, frameOf, conOf, placeOf, asksOf}
 use Rattle.judge.proofs.LoopLaws.{starts, rests}
 use Rattle.judge.proofs.ByteLaws.{Spelt, spelt}
 

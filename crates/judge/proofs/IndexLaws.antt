@@ -15,15 +15,15 @@ use Rattle.bmap.specs.Supplement.{Replacement, replaced}
 use Rattle.bmap.specs.Judge.{startOf}
 use Rattle.bmap.specs.declared.limits.Counts.{Counts}
 use Rattle.index.specs.declared.Index.{Index}
-use Rattle.index.specs.Index.{fluentAt, entryOf, domainOf}
+use Rattle.index.specs.Index.{fluentAt, entryOf, domainOf, lawNumber}
 use Rattle.index.proofs.DomainLaws.{counts-are, law-count}
 use Rattle.supplement.specs.declared.under.Under.{Under}
 use Rattle.supplement.specs.Force.{payloadOf}
 use Rattle.supplement.proofs.Accepted.{UnderIs, under-ok, length-in-force}
 use Rattle.judge.specs.Masks.{unionFrom}
 use Rattle.judge.specs.Landing.{Ranged}
-use Rattle.judge.specs.Told.{Lawful, Knowing, Held, kindThere, lawNumber, frameOf}
-use Rattle.judge.specs.Prepared.{Entered, Accepted, InForce}
+use Rattle.judge.specs.Told.{Lawful, Knowing, Held, kindThere, frameOf}
+use Rattle.judge.specs.Prepared.{Entered, Accepted, Governs}
 use Rattle.bmap.proofs.NumbersLaws.{map-length, map-at}
 use Rattle.judge.proofs.CheckLaws.{noEntry}
 use Rattle.judge.proofs.HeldLaws.{held-says}
@@ -50,10 +50,10 @@ module _ {s supplement : List ℕ} {u : Under} (here : UnderIs s supplement u) w
   abbrev pub domainHere : Domain
   domainHere = replaced (here .replacements) (domainOf s x)
 
-  pub in-force : InForce s supplement u domainHere
+  pub in-force : Governs s supplement u domainHere
   in-force = record { replacements = here .replacements; accepted = here .accepted; is = refl }
 
-  pub only-one : {d : Domain} → InForce s supplement u d → domainHere ≡ d
+  pub only-one : {d : Domain} → Governs s supplement u d → domainHere ≡ d
   only-one f = let z : got (here .replacements) ≡ got (f .replacements) = sym (here .accepted) ∙ f .accepted in let same : here .replacements ≡ f .replacements = cc in ap (λ (r : List Replacement). replaced r (domainOf s x)) same ∙ f .is
 
   counts-in-force : countsOf domainHere ≡ n

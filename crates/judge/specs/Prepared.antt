@@ -27,7 +27,7 @@ pub record Accepted (store supplement : List ℕ) (u : Under) : Type 0 where
   pub ok : u .ok ≡ true
 
 -- "the domain with those laws replaced"
-pub record InForce (store supplement : List ℕ) (u : Under) (d : Domain) : Type 0 where
+pub record Governs (store supplement : List ℕ) (u : Under) (d : Domain) : Type 0 where
   pub replacements : List Replacement
   pub accepted : supplementIn (domainOf store (u .index)) supplement ≡ got replacements
   pub is : replaced replacements (domainOf store (u .index)) ≡ d

@@ -15,7 +15,7 @@ use Rattle.bmap.specs.Domain.{Domain, Names, Law, executable, effect, must, sta
 use Rattle.bmap.specs.Judge.{carries}
 use Rattle.bmap.specs.Payload.{lawIn, asks}
 use Rattle.bmap.specs.Accept.{countsOf}
-use Rattle.index.specs.Index.{frameBytes}
+use Rattle.index.specs.Index.{frameBytes, lawNumber}
 use Rattle.law.specs.Evaluate.{heldSize}
 use Rattle.supplement.specs.Force.{payloadOf}
 use Rattle.judge.specs.declared.reading.Runs.{Runs}
@@ -31,9 +31,6 @@ abbrev pub asksOf : Law → Bool
 asksOf (executable e c) = true
 asksOf (effect e c f x) = true
 asksOf (must s c) = asks s
-
-abbrev pub lawNumber : Domain → ℕ → Law
-lawNumber d i = getD (d .laws) i (must static always)
 
 -- where its constraint stands in a frame
 abbrev pub placeOf : Law → ℕ

@@ -10,7 +10,7 @@ ghost use Rattle.bmap.specs.Supplement.{judgeUnder};
 ghost use Rattle.bmap.specs.Judge.{judge};
 ghost use Rattle.bmap.specs.Verdict.{judgement, judgeSheet};
 ghost use Rattle.judge.specs.Answer.{answerOf, statesIn, statesWritten, statesWrittenUnder};
-ghost use Rattle.judge.specs.Prepared.{judgedOf, Accepted, InForce, Judgeable};
+ghost use Rattle.judge.specs.Prepared.{judgedOf, Accepted, Governs, Judgeable};
 use crate::held::hold_laws;
 use crate::knowledge::all_knowers;
 use crate::knowledge::all_owners;
@@ -37,7 +37,7 @@ fn judge_steps<'a>(
 ) -> Ran
     requires { ⌜ Judgeable (now store) (now supplement) under (now sheet) n (now levels) ⌝ }
     ensures { λ r. ⌜ ((r .reached ≤ mostSteps + 1) × (length (now (levels .exit)) ≡ levelsSize))
-        × ((d : Domain) → InForce (now (store .entry)) (now (supplement .entry)) under d
+        × ((d : Domain) → Governs (now (store .entry)) (now (supplement .entry)) under d
         → judgedOf (under .index .counts .fluents) r (now (levels .exit)) ≡ judge d (rows (under .index .counts .agents) n (now (sheet .entry)))) ⌝ }
 {
     let counts = under.index.counts;
@@ -94,7 +94,7 @@ fn judge_by<'a>(
     levels: &mut [i16],
 ) -> Counted
     requires { ⌜ Accepted (now store) (now supplement) under × (levelsSize ≤ length (now levels)) ⌝ }
-    ensures { λ r. ⌜ ((d : Domain) → InForce (now (store .entry)) (now (supplement .entry)) under d
+    ensures { λ r. ⌜ ((d : Domain) → Governs (now (store .entry)) (now (supplement .entry)) under d
         → (record { answer = answerOf (r .judgement); levels = now (levels .exit) }
         ≡ judgement (now (levels .entry)) (then (sheetOf (under .index .counts .agents) (now (sheet .entry))) (λ steps. got (judge d steps))))
         × (r .states ≡ statesIn (then (sheetOf (under .index .counts .agents) (now (sheet .entry))) (λ steps. got (judge d steps))))) ⌝ }

@@ -21,7 +21,7 @@ use Rattle.bmap.specs.Supplement.{Replacement, replaces, replacementOf, inForce
 use Rattle.bmap.proofs.PlainLaws.{both-true}
 use Rattle.bmap.specs.declared.limits.Counts.{Counts}
 use Rattle.index.specs.declared.Index.{Index}
-use Rattle.index.specs.Index.{frameBytes, lawBytes, lawOf, domainOf, Sound}
+use Rattle.index.specs.Index.{frameBytes, lawBytes, lawOf, domainOf, Sound, lawNumber}
 use Rattle.index.proofs.DomainLaws.{counts-are, law-count, law-number}
 use Rattle.domain.specs.Found.{foundIn}
 use Rattle.domain.proofs.Passed.{Form, is-executable, is-effect, is-must, law-form}
@@ -33,7 +33,7 @@ use Rattle.supplement.specs.Check.{placeIn, countPlace, overOf}
 use Rattle.supplement.specs.Under.{underOf, underIn}
 use Rattle.supplement.specs.Force.{stretchAt, bytesIn, payloadOf}
 use Rattle.supplement.proofs.OverLaws.{over-at}
-use Rattle.supplement.proofs.CheckLaws.{lawAt, noLaw}
+use Rattle.supplement.proofs.CheckLaws.{noLaw}
 use Rattle.supplement.proofs.UnderLaws.{under-by, under-not}
 use Rattle.supplement.proofs.Passes.{no-more as fit-none, found-fits, frames, AllRead, all-read}
 
@@ -57,9 +57,9 @@ pub length-in-force : (s : List Replacement) (d : Domain) → length (replaced s
 unfolding replaced
 length-in-force s d = length-in-force-from s 0 (d .laws)
 
-pub in-force : (s : List Replacement) (d : Domain) (i : ℕ) → i < length (d .laws) → lawAt (replaced s d) i ≡ maybe (replacementOf s i) (lawAt d i) (λ r. r .law)
+pub in-force : (s : List Replacement) (d : Domain) (i : ℕ) → i < length (d .laws) → lawNumber (replaced s d) i ≡ maybe (replacementOf s i) (lawNumber d i) (λ r. r .law)
 unfolding replaced
-in-force s d i h = let z : 0 + i ≡ i = omega arith in in-force-at s 0 (d .laws) i h ∙ ap (λ (k : ℕ). maybe (replacementOf s k) (lawAt d i) (λ r. r .law)) z
+in-force s d i h = let z : 0 + i ≡ i = omega arith in in-force-at s 0 (d .laws) i h ∙ ap (λ (k : ℕ). maybe (replacementOf s k) (lawNumber d i) (λ r. r .law)) z
 
 -- ---- where a replacement's bytes stand
 
@@ -157,7 +157,7 @@ same-kind d kind p f l e h = go (law-form (countsOf d) kind p l e)
 
 -- what is so of law i in force: its number, its payload and its place
 pub record LawStands (store supplement : List ℕ) (x : Index) (d : Domain) (s : List Replacement) (i : ℕ) : Type 0 where
-  pub law : lawIn (x .counts) (byte (lawBytes store x i) 0) (payloadOf store (x .laws) supplement (overOf s) i) ≡ some (lawAt (replaced s d) i)
+  pub law : lawIn (x .counts) (byte (lawBytes store x i) 0) (payloadOf store (x .laws) supplement (overOf s) i) ≡ some (lawNumber (replaced s d) i)
   pub short : length (payloadOf store (x .laws) supplement (overOf s) i) ≤ mostPayload
 
 module _ (store supplement : List ℕ) (x : Index) (h : Sound store x) (s : List Replacement) where
@@ -179,7 +179,7 @@ module _ (store supplement : List ℕ) (x : Index) (h : Sound store x) (s : List
         record {
           law =
               ap (lawIn (x .counts) (byte (lawBytes store x i) 0)) bytes ∙ h .law i k ∙ ap some (sym (law-number store x i k))
-              ∙ ap some (sym (in-force s d i (omega (arith, law-count store x)) ∙ ap (λ (o : Option Replacement). maybe o (lawAt d i) (λ r. r .law)) q));
+              ∙ ap some (sym (in-force s d i (omega (arith, law-count store x)) ∙ ap (λ (o : Option Replacement). maybe o (lawNumber d i) (λ r. r .law)) q));
           short = omega (arith, ap length bytes, length-drop 2 (lawBytes store x i), h .short i k);
         }
 
@@ -193,14 +193,14 @@ module _ (store supplement : List ℕ) (x : Index) (h : Sound store x) (s : List
         = ap (λ (n : ℕ). bytesIn (stretchAt store frame supplement n) store supplement) place ∙ payload-over store supplement frame (there .count) (there .some-place) ∙ there .there in
         let f = found-fits d s i r (w .fit) q in
         let kind : kindIn (r .frame) ≡ byte (lawBytes store x i) 0
-        = same-kind d (byte (lawBytes store x i) 0) (drop 2 (lawBytes store x i)) (r .frame) (lawAt d i)
+        = same-kind d (byte (lawBytes store x i) 0) (drop 2 (lawBytes store x i)) (r .frame) (lawNumber d i)
         (ap (λ (c : Counts). lawIn c (byte (lawBytes store x i) 0) (drop 2 (lawBytes store x i))) (counts-are store x) ∙ h .law i k ∙ ap some (sym (law-number store x i k)))
-        (ap (λ (n : ℕ). standsFor (r .frame) (lawAt d n)) (sym (f .has)) ∙ f .fits .same) in
+        (ap (λ (n : ℕ). standsFor (r .frame) (lawNumber d n)) (sym (f .has)) ∙ f .fits .same) in
         record {
           law =
               ap (lawIn (x .counts) (byte (lawBytes store x i) 0)) bytes ∙ ap (λ (n : ℕ). lawIn (x .counts) n (payloadIn (r .frame))) (sym kind)
               ∙ ap (λ (c : Counts). lawIn c (kindIn (r .frame)) (payloadIn (r .frame))) (sym (counts-are store x)) ∙ f .fits .law
-              ∙ ap some (sym (in-force s d i (omega (arith, law-count store x)) ∙ ap (λ (o : Option Replacement). maybe o (lawAt d i) (λ r. r .law)) q));
+              ∙ ap some (sym (in-force s d i (omega (arith, law-count store x)) ∙ ap (λ (o : Option Replacement). maybe o (lawNumber d i) (λ r. r .law)) q));
           short = omega (arith, ap length bytes, length-drop 2 (r .frame .payload), there .short);
         }
 
@@ -249,7 +249,7 @@ pub record UnderIs (store supplement : List ℕ) (u : Under) : Type 0 where
   pub places : u .over ≡ overOf replacements
   -- law i in force, by its bytes
   pub law : (i : ℕ) → i < u .index .counts .laws
-      → lawIn (u .index .counts) (byte (lawBytes store (u .index) i) 0) (payloadOf store (u .index .laws) supplement (u .over) i) ≡ some (lawAt (replaced replacements (domainOf store (u .index))) i)
+      → lawIn (u .index .counts) (byte (lawBytes store (u .index) i) 0) (payloadOf store (u .index .laws) supplement (u .over) i) ≡ some (lawNumber (replaced replacements (domainOf store (u .index))) i)
   pub short : (i : ℕ) → i < u .index .counts .laws → length (payloadOf store (u .index .laws) supplement (u .over) i) ≤ mostPayload
 
 module _ (store supplement : List ℕ) where

@@ -20,7 +20,7 @@ use Rattle.bmap.specs.Supplement.{Replacement, replaces, numberIn, kindIn, payl
 use Rattle.bmap.specs.declared.limits.Counts.{Counts}
 use Rattle.bmap.proofs.PlainLaws.{both-end}
 use Rattle.index.specs.declared.Index.{Index}
-use Rattle.index.specs.Index.{frameBytes, lawOf, domainOf, Sound}
+use Rattle.index.specs.Index.{frameBytes, lawOf, domainOf, Sound, lawNumber}
 use Rattle.index.proofs.DomainLaws.{counts-are, law-count, law-number}
 use Rattle.domain.specs.Check.{isSome, refusedIn}
 use Rattle.domain.proofs.Passed.{Form, is-executable, is-effect, is-must, law-form}
@@ -87,9 +87,6 @@ numbered-some (a ∷ l) (suc n) d h = numbered-some l n d (omega arith)
 abbrev pub noLaw : Law
 noLaw = must static always
 
-abbrev pub lawAt : Domain → ℕ → Law
-lawAt d n = getD (d .laws) n noLaw
-
 -- ---- the refusals in their order
 
 -- the law that it says, or 4
@@ -143,8 +140,8 @@ module _ {d : Domain} {store : List ℕ} {n : Counts} {laws over : List ℕ} (h 
   module _ (q : number < n .laws) where
     stands-in : standsIn frame (f .payload) ≡ stands d earlier f
     stands-in =
-        let e : lawNumbered d number ≡ some (lawAt d number) = numbered-some (d .laws) number noLaw (omega (arith, how-many)) in
-        stands-is n frame f (lawAt d number) (h .law number q ∙ e)
+        let e : lawNumbered d number ≡ some (lawNumber d number) = numbered-some (d .laws) number noLaw (omega (arith, how-many)) in
+        stands-is n frame f (lawNumber d number) (h .law number q ∙ e)
         ∙ ap (λ (x : Option Law). maybe x false (standsFor f)) (sym e) ∙ ap (λ (i : ℕ). maybe (lawNumbered d i) false (standsFor f)) is
 
     pub other-law : standsIn frame (f .payload) ≡ false → some 20 ≡ refusedIn (replacementIn d earlier f)

@@ -4,18 +4,18 @@ use mathlib.Core.Path.{_≡_, refl, ap, _∙_}
 use mathlib.Core.List.{List, [], _∷_, map}
 use mathlib.Core.Option.{Option, none}
 use lib.IntN.{ℤ}
-use lib.Dec.{leb}
-use lib.ListN.{length, replicate}
+use lib.Dec.{leb, ltb}
+use lib.ListN.{length, getD, replicate}
 use Rattle.bmap.specs.Plain.{maybe, flat}
 use Rattle.bmap.specs.Limits.{levelsSize}
 use Rattle.bmap.specs.Refusal.{Answer, got, refused, need, known, then}
 use Rattle.bmap.specs.Line.{Frame}
 use Rattle.bmap.specs.Domain.{Domain, Names, Law}
-use Rattle.bmap.specs.Store.{whatWasRead, domainIn}
+use Rattle.bmap.specs.Store.{framesIn, whatWasRead, domainIn}
 use Rattle.bmap.specs.Sheet.{sheetOf}
 use Rattle.bmap.specs.Judge.{Judged, judge}
 use Rattle.bmap.specs.Verdict.{sheetJudged}
-use Rattle.bmap.specs.Supplement.{replacementOf, inForceFrom, replaced, supplementFrom, supplementIn, sheetJudgedUnder}
+use Rattle.bmap.specs.Supplement.{replacementOf, inForceFrom, replaced, supplementFrom, supplementIn, sheetJudgedUnder, Part, lawParts, replacementPart, noPart, lawInForce}
 use Rattle.domain.proofs.RoundTrip.{no-frames, frames-back}
 
 in-force-none : (n : ℕ) (laws : List Law) → inForceFrom [] n laws ≡ laws
@@ -43,3 +43,13 @@ zeros-judged store sheet levels zeros = ap (need (leb levelsSize (length levels)
         ≡ then a (λ d. then (sheetOf (d .agents) sheet) (λ steps. got (judge d steps)))
     go (refused n) = refl
     go (got d) = ap (λ a. then a (λ s. then (sheetOf (d .agents) sheet) (λ steps. got (judge (replaced s d) steps)))) (zeros-accepted d zeros) ∙ by d (sheetOf (d .agents) sheet)
+
+pub zeros-asked : (store : List ℕ) (zeros n : ℕ)
+    → lawInForce store (replicate zeros 0) n ≡ then (domainIn store) (λ d. need (ltb n (length (d .laws))) 20 (got (getD (maybe (framesIn store) [] (lawParts 0)) n noPart)))
+unfolding lawInForce replacementPart
+zeros-asked store zeros n = go (domainIn store)
+  where
+    go : (a : Answer Domain) → then a (λ d. then (supplementIn d (replicate zeros 0)) (λ s. need (ltb n (length (d .laws))) 20 (got (maybe (replacementPart 0 s n) (getD (maybe (framesIn store) [] (lawParts 0)) n noPart) (λ part. part)))))
+        ≡ then a (λ d. need (ltb n (length (d .laws))) 20 (got (getD (maybe (framesIn store) [] (lawParts 0)) n noPart)))
+    go (refused m) = refl
+    go (got d) = ap (λ a. then a (λ s. need (ltb n (length (d .laws))) 20 (got (maybe (replacementPart 0 s n) (getD (maybe (framesIn store) [] (lawParts 0)) n noPart) (λ part. part))))) (zeros-accepted d zeros)

@@ -14,7 +14,7 @@ use Rattle.bmap.specs.Plain.{if-else, maybe}
 use Rattle.bmap.specs.Refusal.{Answer, got, refused, need, then}
 use Rattle.bmap.specs.Line.{Frame, stored}
 use Rattle.bmap.specs.Store.{frameAt, zeros, framesFrom, framesIn, domainIn}
-use Rattle.bmap.specs.Supplement.{Replacement, replacementOf, supplementIn, Where, inDomain, inSupplement, Part, lawParts, replacementPart, noPart, lawInForce}
+use Rattle.bmap.specs.Supplement.{Replacement, replacementOf, supplementIn, Where, inDomain, inSupplement, Part, lawParts, replacementPart, noPart, bytesThere, lawInForce}
 use Rattle.index.specs.Index.{domainOf}
 use Rattle.index.proofs.DomainLaws.{law-count}
 use Rattle.index.specs.declared.Index.{Index}
@@ -26,7 +26,7 @@ use Rattle.domain.proofs.Accepted.{domained, found-got, as-many}
 use Rattle.supplement.specs.declared.under.Under.{Under}
 use Rattle.supplement.specs.Check.{placeIn, countPlace, overOf}
 use Rattle.supplement.specs.Under.{underIn}
-use Rattle.supplement.specs.Force.{Stretch, StandsIn, bytesThere, bytesIn, HandedOut, InForce, stretchOf, stretchAt, lawStretch, payloadOf}
+use Rattle.supplement.specs.Force.{Stretch, StandsIn, bytesIn, HandedOut, InForce, stretchOf, stretchAt, lawStretch, payloadOf}
 use Rattle.supplement.proofs.OverLaws.{over-at}
 use Rattle.supplement.proofs.Accepted.{UnderIs, Stood, under-ok, under-none, supplemented, stood, no-part}
 
@@ -210,7 +210,7 @@ known-law store supplement n p e = by (underIn store supplement .ok) refl
         ]
 
 -- its bytes are where they are said to stand
-bytes-there : (store supplement : List ℕ) (n : ℕ) (p : Part) → lawInForce store supplement n ≡ got p → bytesThere (p .stands) (length (p .bytes)) store supplement ≡ p .bytes
+pub bytes-there : (store supplement : List ℕ) (n : ℕ) (p : Part) → lawInForce store supplement n ≡ got p → bytesThere (p .stands) (length (p .bytes)) store supplement ≡ p .bytes
 bytes-there store supplement n p e =
     let k = known-law store supplement n p e in
     ap (λ (x : Stretch). bytesIn x store supplement) (k .part .stretch) ∙ k .part .there

@@ -12,15 +12,15 @@ use Rattle.bmap.specs.Code.{parseC}
 use Rattle.bmap.specs.Domain.{Domain, Law}
 use Rattle.bmap.specs.Payload.{byte, kindOf, executableIn, effectIn, mustIn, lawIn}
 use Rattle.bmap.specs.Supplement.{Replacement, replaced, supplementIn}
-use Rattle.bmap.specs.Theorems.{InForce, InForceJudged}
+use Rattle.bmap.specs.Theorems.{JudgedBy, InForceJudged}
 use Rattle.bmap.specs.declared.limits.Counts.{Counts}
-use Rattle.index.specs.Index.{lawBytes, domainOf}
+use Rattle.index.specs.Index.{lawBytes, domainOf, lawNumber}
 use Rattle.index.proofs.DomainLaws.{counts-are, law-count}
 use Rattle.domain.proofs.Passed.{Form, is-executable, is-effect, is-must, law-form}
 use Rattle.supplement.specs.Under.{underIn}
-use Rattle.supplement.proofs.CheckLaws.{lawAt, noLaw, numbered-some}
+use Rattle.supplement.proofs.CheckLaws.{noLaw, numbered-some}
 use Rattle.supplement.proofs.Accepted.{length-in-force}
-use Rattle.supplement.proofs.ForceLaws.{known-law}
+use Rattle.supplement.proofs.ForceLaws.{known-law, bytes-there}
 
 -- the kind of a law's bytes is the law's
 kind-is : (n : Counts) (k : ℕ) (p : List ℕ) (l : Law) → lawIn n k p ≡ some l → k ≡ kindOf l
@@ -55,12 +55,13 @@ in-force-says store supplement d s n part g a e =
     let u = underIn store supplement in
     let same : domainOf store (u .index) ≡ d = (let y = sym (k .under .domain) ∙ g in cc) in
     let its : k .under .replacements ≡ s = (let y = sym (k .under .accepted) ∙ ap (λ (x : Domain). supplementIn x supplement) same ∙ a in cc) in
-    let l = lawAt (replaced (k .under .replacements) (domainOf store (u .index))) n in
+    let l = lawNumber (replaced (k .under .replacements) (domainOf store (u .index))) n in
     let spelt : lawIn (u .index .counts) (byte (lawBytes store (u .index) n) 0) (part .bytes) ≡ some l = ap (lawIn (u .index .counts) (byte (lawBytes store (u .index) n) 0)) (sym (k .part .there)) ∙ k .under .law n (k .number) in
     let kind = kind-is (u .index .counts) (byte (lawBytes store (u .index) n) 0) (part .bytes) l spelt in
-    let here : InForce (domainOf store (u .index)) (k .under .replacements) n part l = record {
+    let here : JudgedBy store supplement (domainOf store (u .index)) (k .under .replacements) n part l = record {
       law = numbered-some (replaced (k .under .replacements) (domainOf store (u .index)) .laws) n noLaw (omega (arith, length-in-force (k .under .replacements) (domainOf store (u .index)), law-count store (u .index), k .number));
       says = ap (λ (c : Counts). lawIn c (kindOf l) (part .bytes)) (counts-are store (u .index)) ∙ ap (λ (x : ℕ). lawIn (u .index .counts) x (part .bytes)) (sym kind) ∙ spelt;
       some-bytes = some-law (u .index .counts) (byte (lawBytes store (u .index) n) 0) (part .bytes) l spelt;
+      there = bytes-there store supplement n part e;
     } in
-    (l, subst (λ (x : Domain). InForce x s n part l) same (subst (λ (x : List Replacement). InForce (domainOf store (u .index)) x n part l) its here))
+    (l, subst (λ (x : Domain). JudgedBy store supplement x s n part l) same (subst (λ (x : List Replacement). JudgedBy store supplement (domainOf store (u .index)) x n part l) its here))

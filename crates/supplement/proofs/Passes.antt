@@ -16,11 +16,12 @@ use Rattle.bmap.specs.Domain.{Domain, Law}
 use Rattle.bmap.specs.Payload.{lawIn}
 use Rattle.bmap.specs.Accept.{countsOf}
 use Rattle.bmap.specs.Supplement.{Replacement, replaces, replacementOf, numberIn, kindIn, payloadIn, lawNumbered, standsFor, replacementIn, supplementFrom}
+use Rattle.index.specs.Index.{lawNumber}
 use Rattle.domain.specs.Check.{refusedIn}
 use Rattle.domain.proofs.Passed.{need-got}
 use Rattle.domain.proofs.Rows.{map-snoc}
 use Rattle.supplement.proofs.OverLaws.{gives, Over, over-next}
-use Rattle.supplement.proofs.CheckLaws.{lawAt, numbered-none, numbered-some, noLaw}
+use Rattle.supplement.proofs.CheckLaws.{numbered-none, numbered-some, noLaw}
 
 -- ---- a replacement that fits the domain
 
@@ -28,7 +29,7 @@ pub record Fits (d : Domain) (r : Replacement) : Type 0 where
   pub kind : r .frame .kind ≡ 0xAF
   pub long : 3 ≤ length (r .frame .payload)
   pub number : replaces r < length (d .laws)
-  pub same : standsFor (r .frame) (lawAt d (replaces r)) ≡ true
+  pub same : standsFor (r .frame) (lawNumber d (replaces r)) ≡ true
   pub law : lawIn (countsOf d) (kindIn (r .frame)) (payloadIn (r .frame)) ≡ some (r .law)
 
 pub record Passes (d : Domain) (earlier : List Replacement) (f : Frame) : Type 0 where
@@ -40,7 +41,7 @@ pub record Passes (d : Domain) (earlier : List Replacement) (f : Frame) : Type 0
 
 -- the law that has the number
 module _ (d : Domain) (f : Frame) where
-  has-number : maybe (lawNumbered d (numberIn f)) false (standsFor f) ≡ true → (numberIn f < length (d .laws)) × (standsFor f (lawAt d (numberIn f)) ≡ true)
+  has-number : maybe (lawNumbered d (numberIn f)) false (standsFor f) ≡ true → (numberIn f < length (d .laws)) × (standsFor f (lawNumber d (numberIn f)) ≡ true)
   has-number e = elim (decLt (numberIn f) (length (d .laws))) [
     | yes h ↦ (h, sym (ap (λ (o : Option Law). maybe o false (standsFor f)) (numbered-some (d .laws) (numberIn f) noLaw h)) ∙ e)
     | no h ↦

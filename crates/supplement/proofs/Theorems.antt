@@ -15,7 +15,7 @@ use Rattle.supplement.specs.declared.force.LawPlace.the-variants.{InDoma
 use Rattle.supplement.specs.Check.{placeIn}
 use Rattle.supplement.specs.Force.{Stretch, placed, StandsIn}
 use Rattle.index.proofs.Theorems as part
-use Rattle.supplement.proofs.EmptyLaws.{nothing-replaced, zeros-accepted, zeros-judged}
+use Rattle.supplement.proofs.EmptyLaws.{nothing-replaced, zeros-accepted, zeros-judged, zeros-asked}
 use Rattle.supplement.proofs.RoundTrip.{left-supplement, left-lines}
 use Rattle.supplement.proofs.JudgedLaws.{in-force-says}
 
@@ -25,6 +25,7 @@ unfolding judgeUnder judgeSheet
 empty-changes-nothing = record {
   laws = nothing-replaced;
   accepted = zeros-accepted;
+  asked = zeros-asked;
   judged = λ store sheet levels zeros. ap (judgement levels) (zeros-judged store sheet levels zeros);
 }
 

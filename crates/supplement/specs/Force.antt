@@ -3,11 +3,11 @@ use Prim.Native.Nat.{ℕ, _+_, _-_}
 use mathlib.Core.Path.{_≡_}
 use mathlib.Core.List.{List, []}
 use lib.Dec.{eqb}
-use lib.ListN.{length, getD, take, drop}
+use lib.ListN.{length, getD}
 use denote.Ref.{RefT, now}
 use Rattle.bmap.specs.Plain.{if-else}
 use Rattle.bmap.specs.Refusal.{Answer, got, refused, then, numberOf}
-use Rattle.bmap.specs.Supplement.{Where, inDomain, inSupplement, Part}
+use Rattle.bmap.specs.Supplement.{Where, inDomain, inSupplement, Part, bytesThere}
 use Rattle.index.specs.Place.{StandsAt}
 use Rattle.supplement.specs.declared.force.LawPlace.{LawPlace}
 use Rattle.supplement.specs.declared.force.LawPlace.the-variants.{InDomain, InSupplement, Refused}
@@ -33,10 +33,6 @@ stretchOf a = then a (λ p. got (record { stands = p .stands; size = length (p .
 abbrev pub StandsIn : Where → RefT (List ℕ) → RefT (List ℕ) → List ℕ → RefT (List ℕ) → Type 0
 StandsIn (inDomain at) store supplement bytes r = StandsAt store at bytes r
 StandsIn (inSupplement at) store supplement bytes r = StandsAt supplement at bytes r
-
-abbrev pub bytesThere : Where → ℕ → List ℕ → List ℕ → List ℕ
-bytesThere (inDomain at) size store supplement = take size (drop at store)
-bytesThere (inSupplement at) size store supplement = take size (drop at supplement)
 
 abbrev pub bytesIn : Stretch → List ℕ → List ℕ → List ℕ
 bytesIn x store supplement = bytesThere (x .stands) (x .size) store supplement

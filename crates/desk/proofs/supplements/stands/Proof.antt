@@ -5,12 +5,12 @@ use Prim.Native.Nat.{ℕ}
 use borrow.Author.Needs.{needs}
 use Rattle.supplement.specs.Force.{placed}
 use Rattle.supplement.specs.declared.force.LawPlace.{LawPlace}
-use Rattle.desk.specs.Numbers.{lawNumber}
+use Rattle.desk.specs.Numbers.{lawPlaceNumber}
 use Rattle.desk.proofs.supplements.stands.Statement.{statement}
 use Rattle.desk.proofs.supplements.stands.Tie as tie
 
 abbrev told : LawPlace → ℕ
-told place = lawNumber (placed place)
+told place = lawPlaceNumber (placed place)
 
 enum-known-place : tie.Need-enum-known-place
 enum-known-place c = search needs

@@ -5,7 +5,8 @@ use native.Mathlib.Omega.{arith}
 use borrow.Author.Needs.{needs}
 use mathlib.Core.Path.{subst}
 use Rattle.bmap.specs.Limits.{frameSize}
-use Rattle.judge.specs.Told.{lawNumber, Seen}
+use Rattle.index.specs.Index.{lawNumber}
+use Rattle.judge.specs.Told.{Seen}
 use Rattle.judge.proofs.CheckLaws.{permits-other, permits-mine, owned-place}
 use Rattle.judge.proofs.checks.try_law.Statement.{statement}
 use Rattle.judge.proofs.checks.try_law.Tie as tie

@@ -18,10 +18,11 @@ use Rattle.bmap.specs.Number.{value}
 use Rattle.bmap.specs.Domain.{Domain, Names}
 use Rattle.bmap.specs.Meaning.{History}
 use Rattle.bmap.specs.Judge.{Checked, fine, fault, Setting, agrees, settled}
+use Rattle.index.specs.Index.{lawNumber}
 use Rattle.number.proofs.BackLaws.{back32}
 use Rattle.judge.specs.Answer.{wantsOf}
 use Rattle.judge.specs.Settings.{setting, settingsOf}
-use Rattle.judge.specs.Told.{Lawful, Within, Occurring, Seen, lawNumber}
+use Rattle.judge.specs.Told.{Lawful, Within, Occurring, Seen}
 use Rattle.judge.proofs.CheckLaws.{run-starts, run-ends, run-law, run-says}
 use Rattle.judge.proofs.SettingLaws.{settings-none, settings-clash, settings-same, settings-other, settings-put, same-back, sets-none, settled-none, settled-idle, settled-blank, settled-clash, settled-leaves, settled-puts}
 use Rattle.judge.proofs.effects.settle.Statement.{statement}

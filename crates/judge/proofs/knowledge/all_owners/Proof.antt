@@ -6,7 +6,8 @@ use lib.ListN.{length, getD}
 use lib.ListN.{length-set}
 use Rattle.bmap.specs.Limits.{mostLaws}
 use Rattle.bmap.specs.Domain.{Domain}
-use Rattle.judge.specs.Told.{Lawful, Knowing, lawNumber, ownerOf}
+use Rattle.index.specs.Index.{lawNumber}
+use Rattle.judge.specs.Told.{Lawful, Knowing, ownerOf}
 use Rattle.judge.proofs.LandingLaws.{filled-more}
 use Rattle.judge.proofs.knowledge.all_owners.Statement.{statement}
 use Rattle.judge.proofs.knowledge.all_owners.Tie as tie

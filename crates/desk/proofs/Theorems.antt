@@ -2,14 +2,18 @@
 -- accepted sheet as accepted. Assumes nothing.
 use Prim.Native.Nat.{ℕ, _+_, _*_, _/_, _%_, _<_, _≤_, _^_}
 use native.Mathlib.Omega.{arith}
-use mathlib.Core.Path.{_≡_, refl, ap, _∙_}
+use mathlib.Core.Path.{_≡_, refl, sym, ap, subst, _∙_}
+use mathlib.Core.List.{List}
 use mathlib.Core.Option.{some}
-use Rattle.bmap.specs.Refusal.{got, refused, numberOf}
+use lib.ListN.{length}
+use Rattle.bmap.specs.Refusal.{Answer, got, refused, numberOf}
 use Rattle.bmap.specs.Limits.{mostAgents, mostFluents, mostEntries, mostLaws, frameSize}
 use Rattle.bmap.specs.Judge.{accepted, broken}
-use Rattle.bmap.specs.Supplement.{Where, inDomain, inSupplement}
+use Rattle.bmap.specs.Supplement.{Where, inDomain, inSupplement, Part, lawInForce}
 use Rattle.bmap.specs.declared.limits.Counts.{Counts}
-use Rattle.supplement.specs.Force.{Stretch}
+use Rattle.supplement.specs.Check.{placeIn}
+use Rattle.supplement.specs.Force.{Stretch, stretchOf}
+use Rattle.supplement.proofs.Theorems.{in-force-low}
 use Rattle.judge.specs.Answer.{answerOf}
 use Rattle.judge.specs.declared.verdict.Judgement.{Judgement}
 use Rattle.judge.specs.declared.verdict.Judgement.the-variants.{Refused, Judged}
@@ -131,6 +135,23 @@ module _ (at size : ℕ) (h : at < 2 ^ 16) (k : size < 2 ^ 8) where
 
   pub supplement-back : StretchIn (lawPlaceNumber (got (record { stands = inSupplement at; size = size }))) 1 at size
   supplement-back = record { supplement = omega arith; place = omega arith; size = omega arith }
+
+-- which of the two stores
+abbrev storeOf : Where → ℕ
+storeOf (inDomain at) = 0
+storeOf (inSupplement at) = 1
+
+told : (w : Where) (size : ℕ) → placeIn w < 2 ^ 16 → size < 2 ^ 8 → StretchIn (lawPlaceNumber (got (record { stands = w; size = size }))) (storeOf w) (placeIn w) size
+told (inDomain at) size h k = domain-back at size h k
+told (inSupplement at) size h k = supplement-back at size h k
+
+-- what `waroth_law` answers of a law in force is read back whole
+pub law-told : (store supplement : List ℕ) (n : ℕ) (p : Part) → lawInForce store supplement n ≡ got p
+    → StretchIn (lawPlaceNumber (stretchOf (lawInForce store supplement n))) (storeOf (p .stands)) (placeIn (p .stands)) (length (p .bytes))
+law-told store supplement n p e =
+    let low = in-force-low store supplement n p e in
+    subst (λ (a : Answer Part). StretchIn (lawPlaceNumber (stretchOf a)) (storeOf (p .stands)) (placeIn (p .stands)) (length (p .bytes))) (sym e)
+    (told (p .stands) (length (p .bytes)) (low .place) (omega (arith, low .size)))
 
 -- who looks at the kind alone, of the lower half alone, and reads "accepted", has an accepted sheet
 pub accepted-only : (states : ℕ) (j : Judgement) → kindIn (lowerHalf (judgedNumber states (answerOf j))) ≡ acceptedKind → j ≡ Judged Accepted

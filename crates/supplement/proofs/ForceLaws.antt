@@ -13,13 +13,14 @@ use denote.Ref.{RefT, now}
 use Rattle.bmap.specs.Plain.{if-else, maybe}
 use Rattle.bmap.specs.Refusal.{Answer, got, refused, need, then}
 use Rattle.bmap.specs.Line.{Frame, stored}
+use Rattle.bmap.specs.Domain.{Domain}
 use Rattle.bmap.specs.Store.{frameAt, zeros, framesFrom, framesIn, domainIn}
 use Rattle.bmap.specs.Supplement.{Replacement, replacementOf, supplementIn, Where, inDomain, inSupplement, Part, lawParts, replacementPart, noPart, bytesThere, lawInForce}
 use Rattle.index.specs.Index.{domainOf}
 use Rattle.index.proofs.DomainLaws.{law-count}
 use Rattle.index.specs.declared.Index.{Index}
 use Rattle.domain.specs.declared.found.Found.{Found}
-use Rattle.domain.specs.Found.{lawPlaces, indexWith}
+use Rattle.domain.specs.Found.{lawPlaces, indexWith, foundIn}
 use Rattle.domain.proofs.Rows.{row-at}
 use Rattle.domain.proofs.Stands.{Here, here, no-more}
 use Rattle.domain.proofs.Accepted.{domained, found-got, as-many}
@@ -91,6 +92,13 @@ module _ (s : List ℕ) where
               subst (λ (k : List Frame). OwnPart s (getD (lawPlaces at k) n 0) (getD (lawParts at k) n noPart)) fr
               (test g l (leb 0xA5 (g .kind)) n (here s at g o) (rec (at + length (stored g)) l w) (subst (λ (k : List Frame). n < length (lawPlaces at k)) (sym fr) h))
 
+-- the index has the places of the domain's laws
+pub law-place : (store : List ℕ) (d : Domain) (x : Index) → x ≡ foundIn store .index → (g : domainIn store ≡ got d) (n : ℕ) → n < length (lawPlaces 0 (domained store d g .frames))
+    → getD (x .laws) n 0 ≡ getD (lawPlaces 0 (domained store d g .frames)) n 0
+unfolding indexWith
+law-place store d x e g n h =
+    ap (λ (i : Index). getD (i .laws) n 0) (e ∙ ap (λ (f : Found). f .index) (found-got store d g)) ∙ row-at 128 0 (lawPlaces 0 (domained store d g .frames)) 0 n h
+
 -- ---- the part that is the law in force
 
 -- its place and its size are those that are found, and its bytes are there
@@ -155,14 +163,12 @@ module _ (store supplement : List ℕ) (n : ℕ) where
       numbered = answers ∙ ap (λ (b : Bool). need b 20 (got (partIn store (h .replacements) n))) (lt-ltb n (u .index .counts .laws) q)
 
       own-here : OwnPart store (getD (u .index .laws) n 0) (getD (maybe (framesIn store) [] (lawParts 0)) n noPart)
-      unfolding indexWith
       own-here =
           let d = domainOf store (u .index) in
           let m = domained store d (h .domain) in
           let places = lawPlaces 0 (m .frames) in
-          let x : u .index ≡ indexWith d places = h .found ∙ ap (λ (f : Found). f .index) (found-got store d (h .domain)) in
           let in-places : n < length places = omega (arith, as-many store d places (m .all), law-count store (u .index)) in
-          let its : getD (u .index .laws) n 0 ≡ getD places n 0 = ap (λ (i : Index). getD (i .laws) n 0) x ∙ row-at 128 0 places 0 n in-places in
+          let its : getD (u .index .laws) n 0 ≡ getD places n 0 = law-place store d (u .index) (h .found) (h .domain) n in-places in
           subst (λ (k : ℕ). OwnPart store k (getD (maybe (framesIn store) [] (lawParts 0)) n noPart)) (sym its)
           (subst (λ (o : Option (List Frame)). OwnPart store (getD places n 0) (getD (maybe o [] (lawParts 0)) n noPart)) (sym (m .are)) (own-part store (suc (length store)) 0 (m .frames) (m .are) n in-places))
 

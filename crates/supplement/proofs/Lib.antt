@@ -13,6 +13,7 @@ pub mod ReaderLaws
 -- THERE AND BACK: lines to a store, and its frames to lines.
 pub mod RoundTrip
 -- What document 02 asks for.
+pub mod BoundLaws
 pub mod EmptyLaws
 pub mod JudgedLaws
 pub mod Theorems

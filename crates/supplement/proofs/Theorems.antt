@@ -7,7 +7,7 @@ use lib.ListN.{length}
 use denote.Ref.{RefT, now}
 use Rattle.bmap.specs.Refusal.{Answer, got, refused, numberOf}
 use Rattle.bmap.specs.Verdict.{judgement, judgeSheet}
-use Rattle.bmap.specs.Supplement.{judgeUnder, Where, inDomain, inSupplement}
+use Rattle.bmap.specs.Supplement.{judgeUnder, Where, inDomain, inSupplement, Part, lawInForce}
 use Rattle.bmap.specs.Theorems.{EmptyChangesNothing, SupplementStands, SupplementLinesReturn, InForceJudged}
 use Rattle.bmap.proofs.RefusalLaws.{same-refusal}
 use Rattle.supplement.specs.declared.force.LawPlace.{LawPlace}
@@ -18,6 +18,7 @@ use Rattle.index.proofs.Theorems as part
 use Rattle.supplement.proofs.EmptyLaws.{nothing-replaced, zeros-accepted, zeros-judged, zeros-asked}
 use Rattle.supplement.proofs.RoundTrip.{left-supplement, left-lines}
 use Rattle.supplement.proofs.JudgedLaws.{in-force-says}
+use Rattle.supplement.proofs.BoundLaws.{Low, law-low}
 
 -- THEOREM. "an empty supplement changes nothing", also of length 0 and of zeros only.
 pub empty-changes-nothing : EmptyChangesNothing
@@ -40,6 +41,10 @@ supplement-lines-return = left-lines
 -- THEOREM. The law in force that is handed out is the one by which a sheet is judged.
 pub in-force-judged : InForceJudged
 in-force-judged = in-force-says
+
+-- THEOREM. A law in force stands below 2 ^ 16, in a domain's store and in a supplement's, and has no more bytes than a payload.
+pub in-force-low : (store supplement : List ℕ) (n : ℕ) (p : Part) → lawInForce store supplement n ≡ got p → Low p
+in-force-low = law-low
 
 -- ---- one result for each promise; the reader's answer has `same-reading` of `domain`
 

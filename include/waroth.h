@@ -273,6 +273,7 @@ uint64_t waroth_judge(const uint8_t *store, size_t store_size, const uint8_t *sh
 
 /* The same under a supplement, whose store may have any size: as if the domain had its laws replaced. Answers as
  * waroth_judge, and just so where the supplement is empty (size 0, with any pointer but null, or zeros only).
+ * Of a supplement that was read, the bytes used (waroth_count) are enough, and quicker than the whole buffer with its zeros.
  * Refusals: 10, 15 for either store, 8, 9. The levels: as waroth_judge. */
 uint64_t waroth_judge_under(const uint8_t *store, size_t store_size, const uint8_t *supplement, size_t supplement_size,
                             const uint8_t *sheet, size_t sheet_size, int16_t *levels, size_t levels_size);

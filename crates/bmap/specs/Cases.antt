@@ -380,6 +380,9 @@ supplements =
     ∷ lowPrints (kinds ++ text "AF0402A7282A\nB1020100\n") (text "BROKEN 6 0 2\n")
     ∷ lowPrints (kinds ++ text "AF0403A8282A\nB1020100\n") (text "S 0 300\nBROKEN 3 1 3\n")
     ∷ lowPrints (kinds ++ text "AF0404A9282A\nB1020100\n") (text "S 0 300\nS 1 299\nBROKEN 8 1 4\n")
+    -- a frame holds 120 bytes: a law of 118, here a goal that is false, and one byte more
+    ∷ lowPrints (p ++ text "AF7804A928282828282828262626201000001000002620100000100000201000001000002626201000001000002010000010000026201000001000002010000010000026262010000010000026201000001000002010000010000026262010000010000020100000100000262010000010000020100000100000\nB1020100\n") (text "S 0 300\nS 1 286\nBROKEN 8 1 4\n")
+    ∷ supplementRefused (text "AF79" ++ replicate 242 48 ++ text "\n") 2 1
     -- "the same entry" alone: another fluent may be set
     ∷ lowPrints (text "A10101\nA206000000090001\nA206000000090002\nA403010001\nA502002A\nA606002A00100005\nAF0801A6002A01100005\nB10101\n") (text "S 0 1 2\nS 1 1 5\nACCEPTED\n")
     -- the fluent known to nobody in the crew is asked of the law in force
@@ -392,4 +395,4 @@ AllHold (c ∷ l) = (c .left ≡ c .right) × AllHold l
 
 pub shown : AllHold starred × AllHold others × AllHold edges × AllHold sessions × AllHold calls × AllHold supplements
 unfolding p judgedUnder text any all flat numbers bounded signedWord namedE namedC allowedE allowedC evalE evalC codeOf parseE parseC linesOf digit bytes framed decode occursIn knownTo readable maskFits agentsFit fluentFits knowledgeFits entryFits executableIn effectIn mustIn lawIn itemIn inOrder room fresh checked accept complete takenFrom stepOf stepsFrom eachFrom history holds carries placed permits permitted mayOccur sets settled levelAfter stateAfter inRange landed step carried ran judge digitsOf spaced stateLines split output edited replayed standingSheet edit undo redo turn after replies loggedAll layout openSession readDomain standsAt frameAt framesFrom domainIn start nextFrame writeDomain stepsIn readSheet rows judgeSheet sheetOf verdict digitFor hex lineFor replacementOf inForceFrom replaced replacementIn supplementFrom readSupplement supplementIn judgeUnder lawParts replacementPart lawInForce lowWater
-shown = ((refl, (refl, (refl, (refl, (refl, (refl, (refl, (refl, (refl, (refl, (refl, (refl, (refl, (refl, (refl, (refl, tt)))))))))))))))), (refl, (refl, (refl, (refl, (refl, (refl, tt)))))), (refl, (refl, (refl, (refl, (refl, (refl, (refl, (refl, (refl, (refl, (refl, (refl, (refl, (refl, (refl, (refl, (refl, (refl, (refl, (refl, (refl, (refl, (refl, (refl, (refl, (refl, (refl, (refl, (refl, (refl, (refl, (refl, (refl, (refl, (refl, (refl, (refl, (refl, (refl, (refl, (refl, (refl, (refl, (refl, (refl, (refl, (refl, (refl, (refl, (refl, (refl, (refl, (refl, (refl, (refl, (refl, (refl, (refl, (refl, tt))))))))))))))))))))))))))))))))))))))))))))))))))))))))))), (refl, (refl, (refl, (refl, (refl, (refl, (refl, (refl, (refl, (refl, tt)))))))))), (refl, (refl, (refl, (refl, (refl, (refl, (refl, (refl, (refl, (refl, (refl, (refl, (refl, tt))))))))))))), (refl, (refl, (refl, (refl, (refl, (refl, (refl, (refl, (refl, (refl, (refl, (refl, (refl, (refl, (refl, (refl, (refl, (refl, (refl, (refl, (refl, (refl, (refl, (refl, (refl, (refl, (refl, (refl, (refl, (refl, (refl, (refl, (refl, (refl, (refl, (refl, (refl, (refl, (refl, (refl, (refl, (refl, (refl, (refl, (refl, (refl, (refl, (refl, (refl, (refl, (refl, (refl, (refl, (refl, (refl, (refl, (refl, (refl, (refl, tt))))))))))))))))))))))))))))))))))))))))))))))))))))))))))))
+shown = ((refl, (refl, (refl, (refl, (refl, (refl, (refl, (refl, (refl, (refl, (refl, (refl, (refl, (refl, (refl, (refl, tt)))))))))))))))), (refl, (refl, (refl, (refl, (refl, (refl, tt)))))), (refl, (refl, (refl, (refl, (refl, (refl, (refl, (refl, (refl, (refl, (refl, (refl, (refl, (refl, (refl, (refl, (refl, (refl, (refl, (refl, (refl, (refl, (refl, (refl, (refl, (refl, (refl, (refl, (refl, (refl, (refl, (refl, (refl, (refl, (refl, (refl, (refl, (refl, (refl, (refl, (refl, (refl, (refl, (refl, (refl, (refl, (refl, (refl, (refl, (refl, (refl, (refl, (refl, (refl, (refl, (refl, (refl, (refl, (refl, tt))))))))))))))))))))))))))))))))))))))))))))))))))))))))))), (refl, (refl, (refl, (refl, (refl, (refl, (refl, (refl, (refl, (refl, tt)))))))))), (refl, (refl, (refl, (refl, (refl, (refl, (refl, (refl, (refl, (refl, (refl, (refl, (refl, tt))))))))))))), (refl, (refl, (refl, (refl, (refl, (refl, (refl, (refl, (refl, (refl, (refl, (refl, (refl, (refl, (refl, (refl, (refl, (refl, (refl, (refl, (refl, (refl, (refl, (refl, (refl, (refl, (refl, (refl, (refl, (refl, (refl, (refl, (refl, (refl, (refl, (refl, (refl, (refl, (refl, (refl, (refl, (refl, (refl, (refl, (refl, (refl, (refl, (refl, (refl, (refl, (refl, (refl, (refl, (refl, (refl, (refl, (refl, (refl, (refl, (refl, (refl, tt))))))))))))))))))))))))))))))))))))))))))))))))))))))))))))))

@@ -14,13 +14,12 @@ use Rattle.bmap.specs.Plain.{maybe, numbers}
 use Rattle.bmap.specs.Limits.{frameSize}
 use Rattle.bmap.specs.Refusal.{Answer, got, refused, known, Reading, read, refusedAt}
 use Rattle.bmap.specs.Line.{Frame}
-use Rattle.bmap.specs.Tree.{always}
-use Rattle.bmap.specs.Domain.{Domain, Fluent, Knows, Entry, Law, must, static}
+use Rattle.bmap.specs.Domain.{Domain, Fluent, Knows, Entry, Law}
 use Rattle.bmap.specs.Accept.{nothing, countsOf, complete, taken}
 use Rattle.bmap.specs.Store.{framesIn, whatWasRead, domainIn}
 use Rattle.bmap.proofs.PlainLaws.{both-true}
 use Rattle.index.specs.declared.Index.{Index}
-use Rattle.index.specs.Index.{frameBytes, fluentAt, knowledgeAt, entryOf, lawBytes, lawOf, lawAt, domainOf, Sound}
+use Rattle.index.specs.Index.{frameBytes, fluentAt, knowledgeAt, entryOf, noLaw, lawBytes, lawOf, lawAt, domainOf, Sound}
 use Rattle.domain.specs.declared.found.Found.{Found}
 use Rattle.domain.specs.Found.{lawPlaces, indexWith, nothingFound, foundOf, foundIn}
 use Rattle.domain.proofs.Rows.{length-mapped, row-at, row-back, numbers-all}
@@ -42,9 +41,6 @@ noKnowledge = record { fluent = 0; mask = 0 }
 
 noEntry : Entry
 noEntry = record { name = 0; crew = 0 }
-
-noLaw : Law
-noLaw = must static always
 
 module _ (s : List ℕ) (d : Domain) (places : List ℕ) (w : Whole s d places) where
   abbrev index : Index
@@ -87,7 +83,7 @@ module _ (s : List ℕ) (d : Domain) (places : List ℕ) (w : Whole s d places) 
       ap (lawThere s (countsOf d)) (row-at 128 0 places 0 i (omega (arith, as-many))) ∙ nth (lawThere s (countsOf d)) some places (d .laws) noLaw i (w .stands .there) h
 
   law-at : (i : ℕ) → i < length (d .laws) → lawAt s index i ≡ getD (d .laws) i noLaw
-  law-at i h = ap (λ o. maybe o (must static always) (λ l. l)) (law-is i h)
+  law-at i h = ap (λ o. maybe o noLaw (λ l. l)) (law-is i h)
 
   law-short : (i : ℕ) → i < length (d .laws) → length (lawBytes s index i) ≤ frameSize
   unfolding indexWith

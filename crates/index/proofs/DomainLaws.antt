@@ -2,13 +2,11 @@
 use Prim.Native.Nat.{ℕ, _<_}
 use mathlib.Core.Path.{_≡_, ap, _∙_}
 use mathlib.Core.List.{List}
-use lib.ListN.{length, getD}
-use Rattle.bmap.specs.Tree.{always}
-use Rattle.bmap.specs.Domain.{must, static}
+use lib.ListN.{length}
 use Rattle.bmap.specs.Accept.{countsOf}
 use Rattle.bmap.proofs.NumbersLaws.{map-length, map-at}
 use Rattle.index.specs.declared.Index.{Index}
-use Rattle.index.specs.Index.{fluentAt, knowledgeAt, entryOf, lawAt, domainOf}
+use Rattle.index.specs.Index.{fluentAt, knowledgeAt, entryOf, lawAt, noLaw, lawNumber, domainOf}
 
 module _ (s : List ℕ) (x : Index) where
   -- the counts of the domain are the index's own
@@ -26,6 +24,6 @@ module _ (s : List ℕ) (x : Index) where
   unfolding domainOf
   law-count = map-length (lawAt s x) 0 (x .counts .laws)
 
-  pub law-number : (i : ℕ) → i < x .counts .laws → getD (domainOf s x .laws) i (must static always) ≡ lawAt s x i
+  pub law-number : (i : ℕ) → i < x .counts .laws → lawNumber (domainOf s x) i ≡ lawAt s x i
   unfolding domainOf
-  law-number i h = map-at (lawAt s x) (x .counts .laws) i (must static always) h
+  law-number i h = map-at (lawAt s x) (x .counts .laws) i noLaw h

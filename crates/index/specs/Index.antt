@@ -28,16 +28,20 @@ entryOf x i = record { name = getD (x .names) i 0; crew = getD (x .crews) i 0 }
 abbrev pub lawBytes : List ℕ → Index → ℕ → List ℕ
 lawBytes s x i = frameBytes s (getD (x .laws) i 0)
 
--- law i, from its bytes; some law where they are none
+-- some law, where there is none
+abbrev pub noLaw : Law
+noLaw = must static always
+
+-- law i, from its bytes
 unfoldable pub lawOf : List ℕ → Index → ℕ → Option Law
 lawOf s x i = lawIn (x .counts) (getD (lawBytes s x i) 0 0) (drop 2 (lawBytes s x i))
 
 abbrev pub lawAt : List ℕ → Index → ℕ → Law
-lawAt s x i = maybe (lawOf s x i) (must static always) (λ l. l)
+lawAt s x i = maybe (lawOf s x i) noLaw (λ l. l)
 
--- law i of a domain; some law where it has none
+-- law i of a domain
 abbrev pub lawNumber : Domain → ℕ → Law
-lawNumber d i = getD (d .laws) i (must static always)
+lawNumber d i = getD (d .laws) i noLaw
 
 -- the domain of which a store and an index speak
 unfoldable pub domainOf : List ℕ → Index → Domain

@@ -1,6 +1,6 @@
 // What a judge reads of an accepted store, found once: the numbers of its fluents, knowledge and entries, and where each law
-// stands. `domain` makes an index, `supplement` and `judge` read it; `session`, `answer` and `desk` ask it for its counts. What is handed out
-// of a store is cut here, so that its place is promised once.
+// stands. `domain` makes an index, `supplement` and `judge` read it; `session`, `answer` and `desk` ask it for its counts. What
+// is handed out of a store is cut here, so that its place is promised once.
 use bmap::Counts;
 ghost use mathlib.Core.Path.{_≡_};
 ghost use Prim.Native.Nat.{_-_, _≤_};

@@ -11,21 +11,18 @@ use lib.Seq.{getD-drop}
 use borrow.Author.Tests.{eq-eqb, ne-eqb, eqb-true}
 use Rattle.bmap.specs.Plain.{either, if-else, any}
 use Rattle.bmap.specs.Number.{Valued, value, no-value}
-use Rattle.bmap.specs.Tree.{Con, always}
+use Rattle.bmap.specs.Tree.{Con}
 use Rattle.bmap.specs.Meaning.{History, evalC}
 use Rattle.bmap.specs.Domain.{Domain, Names, Entry, Law, executable, effect, must, Scope, static, concurrency, goal, has, entryAt, occursIn, readable}
 use Rattle.bmap.specs.Payload.{scopeKind}
 use Rattle.bmap.specs.Accept.{countsOf}
 use Rattle.bmap.specs.Judge.{pass, fault, unless, next, reads, placed, carries, sameScope, holds, permits, permitted, mayOccur}
-use Rattle.index.specs.Index.{lawNumber}
+use Rattle.index.specs.Index.{lawNumber, noLaw}
 use Rattle.judge.specs.Told.{Belonging, Says, Lawful, Within, Owned, Own, ownerOf, frameOf, conOf, placeOf, asksOf}
 use Rattle.judge.proofs.LoopLaws.{starts, rests}
 use Rattle.judge.proofs.ByteLaws.{Spelt, spelt}
 
 -- ---- the laws of a run
-
-abbrev pub noLaw : Law
-noLaw = must static always
 
 abbrev pub noEntry : Entry
 noEntry = record { name = 0; crew = 0 }

@@ -18,11 +18,12 @@ use Rattle.bmap.specs.Number.{value, no-value, same}
 use Rattle.bmap.specs.Meaning.{History}
 use Rattle.bmap.specs.Domain.{Domain, Names, Law, executable, effect, must}
 use Rattle.bmap.specs.Judge.{fine, fault, Setting, agrees, sets, settled}
+use Rattle.index.specs.Index.{noLaw}
 use Rattle.number.proofs.BackLaws.{back32}
 use Rattle.judge.specs.Told.{Says}
 use Rattle.judge.specs.Settings.{setting, settingsOf}
 use Rattle.judge.proofs.LoopLaws.{stops}
-use Rattle.judge.proofs.CheckLaws.{noLaw, says}
+use Rattle.judge.proofs.CheckLaws.{says}
 
 -- ---- the earlier settings of a fluent
 

@@ -21,7 +21,7 @@ use Rattle.bmap.specs.Supplement.{Replacement, replaces, replacementOf, inForce
 use Rattle.bmap.proofs.PlainLaws.{both-true}
 use Rattle.bmap.specs.declared.limits.Counts.{Counts}
 use Rattle.index.specs.declared.Index.{Index}
-use Rattle.index.specs.Index.{frameBytes, lawBytes, lawOf, domainOf, Sound, lawNumber}
+use Rattle.index.specs.Index.{frameBytes, lawBytes, lawOf, domainOf, Sound, lawNumber, noLaw}
 use Rattle.index.proofs.DomainLaws.{counts-are, law-count, law-number}
 use Rattle.domain.specs.Found.{foundIn}
 use Rattle.domain.proofs.Passed.{Form, is-executable, is-effect, is-must, law-form}
@@ -33,7 +33,6 @@ use Rattle.supplement.specs.Check.{placeIn, countPlace, overOf}
 use Rattle.supplement.specs.Under.{underOf, underIn}
 use Rattle.supplement.specs.Force.{stretchAt, bytesIn, payloadOf}
 use Rattle.supplement.proofs.OverLaws.{over-at}
-use Rattle.supplement.proofs.CheckLaws.{noLaw}
 use Rattle.supplement.proofs.UnderLaws.{under-by, under-not}
 use Rattle.supplement.proofs.Passes.{no-more as fit-none, found-fits, frames, AllRead, all-read}
 

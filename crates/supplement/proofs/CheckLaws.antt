@@ -12,7 +12,6 @@ use borrow.Author.Tests.{eq-eqb, ne-eqb, le-leb, lt-leb}
 use Rattle.bmap.specs.Plain.{both, implies, maybe, any}
 use Rattle.bmap.specs.Refusal.{Answer, got, known, then}
 use Rattle.bmap.specs.Line.{Frame}
-use Rattle.bmap.specs.Tree.{always}
 use Rattle.bmap.specs.Domain.{Domain, Law, must, Scope, static, concurrency, goal}
 use Rattle.bmap.specs.Payload.{byte, scopeKind, lawIn}
 use Rattle.bmap.specs.Accept.{countsOf}
@@ -20,7 +19,7 @@ use Rattle.bmap.specs.Supplement.{Replacement, replaces, numberIn, kindIn, payl
 use Rattle.bmap.specs.declared.limits.Counts.{Counts}
 use Rattle.bmap.proofs.PlainLaws.{both-end}
 use Rattle.index.specs.declared.Index.{Index}
-use Rattle.index.specs.Index.{frameBytes, lawOf, domainOf, Sound, lawNumber}
+use Rattle.index.specs.Index.{frameBytes, lawOf, domainOf, Sound, lawNumber, noLaw}
 use Rattle.index.proofs.DomainLaws.{counts-are, law-count, law-number}
 use Rattle.domain.specs.Check.{isSome, refusedIn}
 use Rattle.domain.proofs.Passed.{Form, is-executable, is-effect, is-must, law-form}
@@ -83,9 +82,6 @@ pub numbered-some : {A : Type 0} (l : List A) (n : ℕ) (d : A) → n < length l
 numbered-some [] n d h = absurd (omega arith)
 numbered-some (a ∷ l) zero d h = refl
 numbered-some (a ∷ l) (suc n) d h = numbered-some l n d (omega arith)
-
-abbrev pub noLaw : Law
-noLaw = must static always
 
 -- ---- the refusals in their order
 

@@ -14,11 +14,11 @@ use Rattle.bmap.specs.Payload.{byte, kindOf, executableIn, effectIn, mustIn, la
 use Rattle.bmap.specs.Supplement.{Replacement, replaced, supplementIn}
 use Rattle.bmap.specs.Theorems.{JudgedBy, InForceJudged}
 use Rattle.bmap.specs.declared.limits.Counts.{Counts}
-use Rattle.index.specs.Index.{lawBytes, domainOf, lawNumber}
+use Rattle.index.specs.Index.{lawBytes, domainOf, lawNumber, noLaw}
 use Rattle.index.proofs.DomainLaws.{counts-are, law-count}
 use Rattle.domain.proofs.Passed.{Form, is-executable, is-effect, is-must, law-form}
 use Rattle.supplement.specs.Under.{underIn}
-use Rattle.supplement.proofs.CheckLaws.{noLaw, numbered-some}
+use Rattle.supplement.proofs.CheckLaws.{numbered-some}
 use Rattle.supplement.proofs.Accepted.{length-in-force}
 use Rattle.supplement.proofs.ForceLaws.{known-law, bytes-there}
 

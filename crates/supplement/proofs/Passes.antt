@@ -16,12 +16,12 @@ use Rattle.bmap.specs.Domain.{Domain, Law}
 use Rattle.bmap.specs.Payload.{lawIn}
 use Rattle.bmap.specs.Accept.{countsOf}
 use Rattle.bmap.specs.Supplement.{Replacement, replaces, replacementOf, numberIn, kindIn, payloadIn, lawNumbered, standsFor, replacementIn, supplementFrom}
-use Rattle.index.specs.Index.{lawNumber}
+use Rattle.index.specs.Index.{lawNumber, noLaw}
 use Rattle.domain.specs.Check.{refusedIn}
 use Rattle.domain.proofs.Passed.{need-got}
 use Rattle.domain.proofs.Rows.{map-snoc}
 use Rattle.supplement.proofs.OverLaws.{gives, Over, over-next}
-use Rattle.supplement.proofs.CheckLaws.{numbered-none, numbered-some, noLaw}
+use Rattle.supplement.proofs.CheckLaws.{numbered-none, numbered-some}
 
 -- ---- a replacement that fits the domain
 

@@ -8,10 +8,11 @@ use Rattle.bmap.specs.Domain.{Domain}
 use Rattle.bmap.specs.Meaning.{History}
 use Rattle.bmap.specs.Number.{value}
 use Rattle.bmap.specs.Judge.{permitted}
+use Rattle.index.specs.Index.{noLaw}
 use Rattle.number.specs.Answer.{truthOf}
 use Rattle.judge.specs.Told.{Lawful, Own, Owned, Seen}
 use Rattle.judge.proofs.LoopLaws.{stops, on}
-use Rattle.judge.proofs.CheckLaws.{noLaw, own-starts, own-ends, own-law, permitted-on, permitted-true, permitted-blank}
+use Rattle.judge.proofs.CheckLaws.{own-starts, own-ends, own-law, permitted-on, permitted-true, permitted-blank}
 use Rattle.judge.proofs.checks.check_entry.Statement.{statement}
 use Rattle.judge.proofs.checks.check_entry.Tie as tie
 

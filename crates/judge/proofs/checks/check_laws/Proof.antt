@@ -6,11 +6,11 @@ use Rattle.bmap.specs.Domain.{Domain, Scope}
 use Rattle.bmap.specs.Meaning.{History}
 use Rattle.bmap.specs.Judge.{eachFrom, holds}
 use Rattle.bmap.specs.Payload.{asks, scopeKind}
-use Rattle.index.specs.Index.{lawNumber}
+use Rattle.index.specs.Index.{lawNumber, noLaw}
 use Rattle.judge.specs.Answer.{passOf, kindOf}
 use Rattle.judge.specs.Told.{Lawful, Within, Seen}
 use Rattle.judge.proofs.LoopLaws.{stops, on, each-on, each-stop, each-none}
-use Rattle.judge.proofs.CheckLaws.{noLaw, run-starts, run-ends, run-law, run-says, holds-other}
+use Rattle.judge.proofs.CheckLaws.{run-starts, run-ends, run-law, run-says, holds-other}
 use Rattle.judge.proofs.checks.check_laws.Statement.{statement}
 use Rattle.judge.proofs.checks.check_laws.Tie as tie
 

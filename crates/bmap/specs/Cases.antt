@@ -1,6 +1,6 @@
 -- The cases of document 01: those marked with a star in one list, the others in a second; beside them what they leave open, and the
 -- sentences of document 02. One statement.
-use Prim.Native.Nat.{ℕ, _+_}
+use Prim.Native.Nat.{ℕ, _+_, _-_}
 use mathlib.Core.Path.{_≡_, refl}
 use mathlib.Core.Bool.{false}
 use mathlib.Core.List.{List, [], _∷_, _++_}
@@ -23,6 +23,7 @@ use Rattle.bmap.specs.Verdict.{Judgement, judgeSheet}
 use Rattle.bmap.specs.Judge.{Judged, accepted, broken, eachFrom, history, holds, carries, placed, permits, permitted, mayOccur, sets, settled, levelAfter, stateAfter, inRange, landed, step, carried, ran, judge}
 use Rattle.bmap.specs.Session.{enter, strike, amend, edited, replayed, standingSheet, edit, undo, redo, verdict, Call, editing, undoing, redoing, Reply, done, turn, after, replies, loggedAll, layout, Changed, openSession}
 use Rattle.bmap.specs.Supplement.{replacementOf, inForceFrom, replaced, replacementIn, supplementFrom, readSupplement, supplementIn, judgeUnder, inDomain, inSupplement, Part, lawParts, replacementPart, lawInForce}
+use Rattle.bmap.specs.Laying.{byNumber, ordered, laid, laySupplements, orderSupplement}
 use Rattle.bmap.specs.Program.{digitsOf, spaced, stateLines, split, output, lowWater}
 use Rattle.bmap.specs.River.{p, judgedUnder, gives}
 use Rattle.bmap.specs.declared.Operation.the-variants.{Product, Quotient, Remainder}
@@ -389,10 +390,87 @@ supplements =
     ∷ lowPrints (gauge ++ text "A403010003\nA502002A\nAF0A00A50025110100100000\nB103010100\n") (text "S 0 300 1\nBROKEN 2 1 0\n")
     ∷ []
 
+-- K8: of domain P. The laws that its supplements say: the A5 of entry 0 always, the A6 of entry 0 to level 299, the goal always or never
+abbrev mayAlways : List ℕ
+mayAlways = 175 ∷ 4 ∷ 0 ∷ 165 ∷ 0 ∷ 42 ∷ []
+
+abbrev setsTo299 : List ℕ
+setsTo299 = 175 ∷ 8 ∷ 2 ∷ 166 ∷ 0 ∷ 42 ∷ 0 ∷ 16 ∷ 1 ∷ 43 ∷ []
+
+abbrev noSuchGoal : List ℕ
+noSuchGoal = 175 ∷ 4 ∷ 4 ∷ 169 ∷ 40 ∷ 42 ∷ []
+
+-- ours, law 4 and then 0; the dredging office's, law 4 and then 2
+abbrev ours : List ℕ
+ours = noGoal ++ mayAlways
+
+abbrev dredging : List ℕ
+dredging = noSuchGoal ++ setsTo299
+
+abbrev lays : List ℕ → List ℕ → ℕ → List ℕ → Case
+lays lower upper used bytes = record { Of = Written; left = laySupplements store lower upper lent; right = record { answer = got used; buffer = bytes ++ replicate (16_000 - used) 0 } }
+
+-- a refusal leaves the result buffer "untouched"
+abbrev layingRefused : List ℕ → List ℕ → List ℕ → List ℕ → ℕ → Case
+layingRefused domain lower upper result number = record { Of = Written; left = laySupplements domain lower upper result; right = record { answer = refused number; buffer = result } }
+
+-- P with its laws 0 and 4 replaced by ours
+abbrev oursInForce : List ℕ
+oursInForce = text "A10102\nA20600C80140012C\nA303000003\nA403010001\nA403020002\nA502002A\nA50801241100001000DC\nA60A002A001311000010000E\nA60A012A0013110000100006\nA9012A\n"
+
+-- what a call leaves, laid again
+abbrev onTop : List ℕ → List ℕ → List ℕ
+onTop lower upper = laySupplements store lower upper lent .buffer
+
+abbrev pub layings : List Case
+layings =
+    -- "keeps each law number of either, the upper one winning; the result is ordered by law number"
+    lays ours dredging 22 (mayAlways ++ setsTo299 ++ noSuchGoal)
+    ∷ lays dredging ours 21 (mayAlways ++ setsTo299 ++ noGoal)
+    -- "zeros after" to the end of a longer buffer, "its bytes used returned"
+    ∷ record { Of = Written; left = laySupplements store ours dredging (replicate 16_003 7); right = record { answer = got 22; buffer = mayAlways ++ setsTo299 ++ noSuchGoal ++ replicate 15_981 0 } }
+    -- "laying three gives the same whichever pair is laid first"
+    ∷ lays (onTop ours dredging) noGoal 21 (mayAlways ++ setsTo299 ++ noGoal)
+    ∷ lays ours (onTop dredging noGoal) 21 (mayAlways ++ setsTo299 ++ noGoal)
+    -- "laying the empty one over or under another only orders it": no bytes, and zeros only
+    ∷ lays ours [] 11 (mayAlways ++ noGoal)
+    ∷ lays [] ours 11 (mayAlways ++ noGoal)
+    ∷ lays (0 ∷ 0 ∷ []) ours 11 (mayAlways ++ noGoal)
+    ∷ lays ours (0 ∷ 0 ∷ []) 11 (mayAlways ++ noGoal)
+    ∷ record { Of = Written; left = orderSupplement store ours lent; right = record { answer = got 11; buffer = mayAlways ++ noGoal ++ replicate 15_989 0 } }
+    ∷ lays [] [] 0 []
+    -- "one laid over itself is itself once ordered"
+    ∷ lays ours ours 11 (mayAlways ++ noGoal)
+    -- "it does not matter which of two without a common number is the upper"
+    ∷ lays ours setsTo299 21 (mayAlways ++ setsTo299 ++ noGoal)
+    ∷ lays setsTo299 ours 21 (mayAlways ++ setsTo299 ++ noGoal)
+    -- zeros after a supplement are none of it
+    ∷ lays (ours ++ (0 ∷ [])) (setsTo299 ++ (0 ∷ 0 ∷ [])) 21 (mayAlways ++ setsTo299 ++ noGoal)
+    -- "Refusals: 10 for a result buffer under 16,000 bytes, then 15 for the domain or for either supplement store"
+    ∷ layingRefused store ours dredging (replicate 15_999 7) 10
+    ∷ layingRefused [] (1 ∷ []) (1 ∷ []) (replicate 15_999 7) 10
+    ∷ layingRefused (store ++ (1 ∷ [])) ours dredging lent 15
+    ∷ layingRefused store (ours ++ (1 ∷ [])) dredging lent 15
+    ∷ layingRefused store ours (dredging ++ (1 ∷ [])) lent 15
+    -- a number given twice in one of them; another domain's, whose law 4 is an A5
+    ∷ layingRefused store ours (noGoal ++ noSuchGoal) lent 15
+    ∷ layingRefused store (175 ∷ 3 ∷ 4 ∷ 165 ∷ 42 ∷ []) [] lent 15
+    -- the law in force is the upper one's, the lower one's, the domain's own
+    ∷ force (onTop ours dredging) 4 (got (record { stands = inSupplement 20; bytes = 40 ∷ 42 ∷ [] }))
+    ∷ force (onTop ours dredging) 0 (got (record { stands = inSupplement 4; bytes = 0 ∷ 42 ∷ [] }))
+    ∷ force (onTop ours dredging) 1 (got (record { stands = inDomain 38; bytes = 1 ∷ 36 ∷ 17 ∷ 0 ∷ 0 ∷ 16 ∷ 0 ∷ 220 ∷ [] }))
+    -- "Judging a domain under the combined supplement"
+    ∷ judgesUnder (onTop ours dredging) (1 ∷ 0 ∷ []) (record { answer = got (broken 8 1 4); levels = pos 300 ∷ pos 299 ∷ replicate 2_078 (pos 7) })
+    ∷ judgesUnder (onTop dredging ours) (1 ∷ 0 ∷ []) (record { answer = got accepted; levels = pos 300 ∷ pos 299 ∷ replicate 2_078 (pos 7) })
+    -- "equals judging the domain, first replaced by the lower and then by the upper": P with our two laws, under the office's
+    ∷ lowPrints (p ++ text "AF0400A5002A\nAF0802A6002A0010012B\nAF0404A9282A\nB1020100\n") (text "S 0 300\nS 1 299\nBROKEN 8 1 4\n")
+    ∷ lowPrints (oursInForce ++ text "AF0404A9282A\nAF0802A6002A0010012B\nB1020100\n") (text "S 0 300\nS 1 299\nBROKEN 8 1 4\n")
+    ∷ []
+
 abbrev pub AllHold : List Case → Type 0
 AllHold [] = Unit {0}
 AllHold (c ∷ l) = (c .left ≡ c .right) × AllHold l
 
-pub shown : AllHold starred × AllHold others × AllHold edges × AllHold sessions × AllHold calls × AllHold supplements
-unfolding p judgedUnder text any all flat numbers bounded signedWord namedE namedC allowedE allowedC evalE evalC codeOf parseE parseC linesOf digit bytes framed decode occursIn knownTo readable maskFits agentsFit fluentFits knowledgeFits entryFits executableIn effectIn mustIn lawIn itemIn inOrder room fresh checked accept complete takenFrom stepOf stepsFrom eachFrom history holds carries placed permits permitted mayOccur sets settled levelAfter stateAfter inRange landed step carried ran judge digitsOf spaced stateLines split output edited replayed standingSheet edit undo redo turn after replies loggedAll layout openSession readDomain standsAt frameAt framesFrom domainIn start nextFrame writeDomain stepsIn readSheet rows judgeSheet sheetOf verdict digitFor hex lineFor replacementOf inForceFrom replaced replacementIn supplementFrom readSupplement supplementIn judgeUnder lawParts replacementPart lawInForce lowWater
-shown = ((refl, (refl, (refl, (refl, (refl, (refl, (refl, (refl, (refl, (refl, (refl, (refl, (refl, (refl, (refl, (refl, tt)))))))))))))))), (refl, (refl, (refl, (refl, (refl, (refl, tt)))))), (refl, (refl, (refl, (refl, (refl, (refl, (refl, (refl, (refl, (refl, (refl, (refl, (refl, (refl, (refl, (refl, (refl, (refl, (refl, (refl, (refl, (refl, (refl, (refl, (refl, (refl, (refl, (refl, (refl, (refl, (refl, (refl, (refl, (refl, (refl, (refl, (refl, (refl, (refl, (refl, (refl, (refl, (refl, (refl, (refl, (refl, (refl, (refl, (refl, (refl, (refl, (refl, (refl, (refl, (refl, (refl, (refl, (refl, (refl, tt))))))))))))))))))))))))))))))))))))))))))))))))))))))))))), (refl, (refl, (refl, (refl, (refl, (refl, (refl, (refl, (refl, (refl, tt)))))))))), (refl, (refl, (refl, (refl, (refl, (refl, (refl, (refl, (refl, (refl, (refl, (refl, (refl, tt))))))))))))), (refl, (refl, (refl, (refl, (refl, (refl, (refl, (refl, (refl, (refl, (refl, (refl, (refl, (refl, (refl, (refl, (refl, (refl, (refl, (refl, (refl, (refl, (refl, (refl, (refl, (refl, (refl, (refl, (refl, (refl, (refl, (refl, (refl, (refl, (refl, (refl, (refl, (refl, (refl, (refl, (refl, (refl, (refl, (refl, (refl, (refl, (refl, (refl, (refl, (refl, (refl, (refl, (refl, (refl, (refl, (refl, (refl, (refl, (refl, (refl, (refl, tt))))))))))))))))))))))))))))))))))))))))))))))))))))))))))))))
+pub shown : AllHold starred × AllHold others × AllHold edges × AllHold sessions × AllHold calls × AllHold supplements × AllHold layings
+unfolding p judgedUnder text any all flat numbers bounded signedWord namedE namedC allowedE allowedC evalE evalC codeOf parseE parseC linesOf digit bytes framed decode occursIn knownTo readable maskFits agentsFit fluentFits knowledgeFits entryFits executableIn effectIn mustIn lawIn itemIn inOrder room fresh checked accept complete takenFrom stepOf stepsFrom eachFrom history holds carries placed permits permitted mayOccur sets settled levelAfter stateAfter inRange landed step carried ran judge digitsOf spaced stateLines split output edited replayed standingSheet edit undo redo turn after replies loggedAll layout openSession readDomain standsAt frameAt framesFrom domainIn start nextFrame writeDomain stepsIn readSheet rows judgeSheet sheetOf verdict digitFor hex lineFor replacementOf inForceFrom replaced replacementIn supplementFrom readSupplement supplementIn judgeUnder lawParts replacementPart lawInForce lowWater byNumber ordered laid laySupplements orderSupplement
+shown = ((refl, (refl, (refl, (refl, (refl, (refl, (refl, (refl, (refl, (refl, (refl, (refl, (refl, (refl, (refl, (refl, tt)))))))))))))))), (refl, (refl, (refl, (refl, (refl, (refl, tt)))))), (refl, (refl, (refl, (refl, (refl, (refl, (refl, (refl, (refl, (refl, (refl, (refl, (refl, (refl, (refl, (refl, (refl, (refl, (refl, (refl, (refl, (refl, (refl, (refl, (refl, (refl, (refl, (refl, (refl, (refl, (refl, (refl, (refl, (refl, (refl, (refl, (refl, (refl, (refl, (refl, (refl, (refl, (refl, (refl, (refl, (refl, (refl, (refl, (refl, (refl, (refl, (refl, (refl, (refl, (refl, (refl, (refl, (refl, (refl, tt))))))))))))))))))))))))))))))))))))))))))))))))))))))))))), (refl, (refl, (refl, (refl, (refl, (refl, (refl, (refl, (refl, (refl, tt)))))))))), (refl, (refl, (refl, (refl, (refl, (refl, (refl, (refl, (refl, (refl, (refl, (refl, (refl, tt))))))))))))), (refl, (refl, (refl, (refl, (refl, (refl, (refl, (refl, (refl, (refl, (refl, (refl, (refl, (refl, (refl, (refl, (refl, (refl, (refl, (refl, (refl, (refl, (refl, (refl, (refl, (refl, (refl, (refl, (refl, (refl, (refl, (refl, (refl, (refl, (refl, (refl, (refl, (refl, (refl, (refl, (refl, (refl, (refl, (refl, (refl, (refl, (refl, (refl, (refl, (refl, (refl, (refl, (refl, (refl, (refl, (refl, (refl, (refl, (refl, (refl, (refl, tt))))))))))))))))))))))))))))))))))))))))))))))))))))))))))))), (refl, (refl, (refl, (refl, (refl, (refl, (refl, (refl, (refl, (refl, (refl, (refl, (refl, (refl, (refl, (refl, (refl, (refl, (refl, (refl, (refl, (refl, (refl, (refl, (refl, (refl, (refl, (refl, (refl, tt))))))))))))))))))))))))))))))

@@ -1,4 +1,4 @@
--- Document 01, and of document 02 request K7, as definitions. Read the modules in this order.
+-- Document 01, and of document 02 requests K7 and K8, as definitions. Read the modules in this order.
 pub mod Plain
 pub mod Limits
 pub mod Refusal
@@ -16,6 +16,7 @@ pub mod Sheet
 pub mod Judge
 pub mod Verdict
 pub mod Supplement
+pub mod Laying
 pub mod Session
 pub mod Series
 pub mod Program

@@ -4,8 +4,8 @@ use mathlib.Core.Path.{_≡_}
 use mathlib.Core.Logic.{_↔_, _⊎_}
 use mathlib.Core.Bool.{true}
 use mathlib.Core.List.{List, [], map}
-use mathlib.Core.Option.{some}
-use lib.Dec.{T, ltb}
+use mathlib.Core.Option.{none, some}
+use lib.Dec.{T, leb, ltb}
 use lib.IntN.{ℤ}
 use lib.ListN.{length, getD, take, replicate}
 use Rattle.bmap.specs.Plain.{all, flat, maybe}
@@ -20,7 +20,8 @@ use Rattle.bmap.specs.Store.{framesOf, framesIn, reading, readDomain, te
 use Rattle.bmap.specs.Sheet.{stepsIn, readSheet, agentsKnown, sheetOf, stepLine, writeSheet}
 use Rattle.bmap.specs.Judge.{judge}
 use Rattle.bmap.specs.Verdict.{judgement, judgeSheet}
-use Rattle.bmap.specs.Supplement.{Replacement, replaced, lawNumbered, supplementFrom, readSupplement, supplementIn, judgeUnder, Part, bytesThere, lawParts, noPart, lawInForce}
+use Rattle.bmap.specs.Supplement.{Replacement, replaces, replacementOf, replaced, lawNumbered, supplementFrom, readSupplement, supplementIn, judgeUnder, Part, bytesThere, lawParts, noPart, lawInForce}
+use Rattle.bmap.specs.Laying.{ordered, winning, laid, bytesOf, laySupplements, orderSupplement}
 use Rattle.bmap.specs.Program.{split, sheetMark, supplemented, output, lowWater}
 use Rattle.bmap.specs.Session.{isOpen, CouldBeLeft, Call, opened, after, replies, standingSheet, replayed, layout, openSession, verdictOf}
 use Rattle.bmap.specs.Series.{sessionAfter, repliesOf}
@@ -136,3 +137,89 @@ InForceJudged =
 -- `low_water` prints as `waroth` does where no line before the sheet starts "AF"
 abbrev pub LowWaterAlike : Type 0
 LowWaterAlike = (input : List ℕ) → supplemented (split sheetMark (linesOf input)) .from ≡ [] → lowWater input ≡ output input
+
+-- ---- K8
+
+-- two supplements that one domain accepts
+pub record Supplements (store lower upper : List ℕ) (d : Domain) (l u : List Replacement) : Type 0 where
+  pub domain : domainIn store ≡ got d
+  pub below : supplementIn d lower ≡ got l
+  pub above : supplementIn d upper ≡ got u
+
+-- "ordered by law number": each number is lower than those after it, so that none is there twice
+abbrev pub Rising : List Replacement → Type 0
+Rising s = (i j : ℕ) → i < j → j < length s → getD (map replaces s) i 0 < getD (map replaces s) j 0
+
+-- "keeps each law number of either, the upper one winning; the result is ordered by law number": that fixes it
+pub record Lays (l u r : List Replacement) : Type 0 where
+  pub keeps : (n : ℕ) → replacementOf r n ≡ winning l u n
+  pub rising : Rising r
+
+-- the result is again a supplement that the domain accepts, in the whole buffer and in the bytes used alone; it always fits
+pub record LaidAgain (store lower upper result : List ℕ) (d : Domain) (l u : List Replacement) : Type 0 where
+  pub lays : Lays l u (laid l u)
+  pub fits : length (bytesOf (laid l u)) ≤ supplementSize
+  pub answer : laySupplements store lower upper result .answer ≡ got (length (bytesOf (laid l u)))
+  pub whole : supplementIn d (laySupplements store lower upper result .buffer) ≡ got (laid l u)
+  pub used : supplementIn d (take (length (bytesOf (laid l u))) (laySupplements store lower upper result .buffer)) ≡ got (laid l u)
+
+abbrev pub LaidAccepted : Type 0
+LaidAccepted =
+    (store lower upper result : List ℕ) (d : Domain) (l u : List Replacement) →
+    Supplements store lower upper d l u → supplementSize ≤ length result → LaidAgain store lower upper result d l u
+
+-- what ordering is, and that it changes no law in force: neither the law that is handed out nor a judgement
+pub record Orders (store supplement result : List ℕ) (d : Domain) (s : List Replacement) : Type 0 where
+  pub same : (n : ℕ) → replacementOf (ordered s) n ≡ replacementOf s n
+  pub rising : Rising (ordered s)
+  pub laws : replaced (ordered s) d ≡ replaced s d
+  pub whole : supplementIn d (orderSupplement store supplement result .buffer) ≡ got (ordered s)
+  pub asked : (n : ℕ) → then (lawInForce store (orderSupplement store supplement result .buffer) n) (λ p. got (p .bytes)) ≡ then (lawInForce store supplement n) (λ p. got (p .bytes))
+  pub judged : (sheet : List ℕ) (levels : List ℤ) → judgeUnder store (orderSupplement store supplement result .buffer) sheet levels ≡ judgeUnder store supplement sheet levels
+
+abbrev pub OrderedOrders : Type 0
+OrderedOrders =
+    (store supplement result : List ℕ) (d : Domain) (s : List Replacement) →
+    domainIn store ≡ got d → supplementIn d supplement ≡ got s → supplementSize ≤ length result → Orders store supplement result d s
+
+-- "laying three gives the same whichever pair is laid first": of supplements, and of the calls, every byte and the answer, wherever
+-- both pairs are laid
+pub record LayingAssociates : Type 0 where
+  pub supplements : (a b c : List Replacement) → laid (laid a b) c ≡ laid a (laid b c)
+  pub calls : (store a b c first second result : List ℕ) (m n : ℕ)
+      → laySupplements store a b first .answer ≡ got m → laySupplements store b c second .answer ≡ got n
+      → laySupplements store (laySupplements store a b first .buffer) c result ≡ laySupplements store a (laySupplements store b c second .buffer) result
+
+-- "laying the empty one over or under another only orders it": for a refusal too, which is the other's
+pub record EmptyOnlyOrders : Type 0 where
+  pub supplements : (s : List Replacement) → (laid s [] ≡ ordered s) × (laid [] s ≡ ordered s)
+  pub over : (store supplement result : List ℕ) (zeros : ℕ) → laySupplements store supplement (replicate zeros 0) result ≡ orderSupplement store supplement result
+  pub under : (store supplement result : List ℕ) (zeros : ℕ) → laySupplements store (replicate zeros 0) supplement result ≡ orderSupplement store supplement result
+
+-- "one laid over itself is itself once ordered"
+pub record OverItself : Type 0 where
+  pub supplements : (s : List Replacement) → laid s s ≡ ordered s
+  pub calls : (store supplement result : List ℕ) → laySupplements store supplement supplement result ≡ orderSupplement store supplement result
+
+-- "it does not matter which of two without a common number is the upper"
+abbrev pub Apart : List Replacement → List Replacement → Type 0
+Apart a b = (n : ℕ) → (replacementOf a n ≡ none) ⊎ (replacementOf b n ≡ none)
+
+pub record ApartCommutes : Type 0 where
+  pub supplements : (a b : List Replacement) → Apart a b → laid a b ≡ laid b a
+  pub calls : (store lower upper result : List ℕ) (d : Domain) (l u : List Replacement) → Supplements store lower upper d l u → Apart l u
+      → laySupplements store lower upper result ≡ laySupplements store upper lower result
+
+-- "Judging a domain under the combined supplement equals judging the domain, first replaced by the lower and then by the upper, for
+-- any two that the domain accepts": the domain replaced by the lower accepts what it accepted before, and so the upper
+pub record InTurn (store lower upper result : List ℕ) (d : Domain) (l u : List Replacement) : Type 0 where
+  pub alike : (other : List ℕ) → supplementIn (replaced l d) other ≡ supplementIn d other
+  pub laws : replaced (laid l u) d ≡ replaced u (replaced l d)
+  pub judged : (sheet : List ℕ) (levels : List ℤ)
+      → judgeUnder store (laySupplements store lower upper result .buffer) sheet levels
+      ≡ judgement levels (need (leb levelsSize (length levels)) 10 (then (sheetOf (d .agents) sheet) (λ steps. got (judge (replaced u (replaced l d)) steps))))
+
+abbrev pub JudgedUnderBoth : Type 0
+JudgedUnderBoth =
+    (store lower upper result : List ℕ) (d : Domain) (l u : List Replacement) →
+    Supplements store lower upper d l u → supplementSize ≤ length result → InTurn store lower upper result d l u

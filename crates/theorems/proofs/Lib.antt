@@ -1,0 +1,2 @@
+-- What is shown of the definitions alone.
+pub mod LayingLaws

@@ -13,6 +13,7 @@ use Rattle.bmap.specs.Line.{Frame, stored, lineFor}
 use Rattle.bmap.specs.Domain.{Domain}
 use Rattle.bmap.specs.Store.{frameAt, zeros, framesIn, domainIn, textOf}
 use Rattle.bmap.specs.Supplement.{Replacement, replaces, numberIn, payloadIn, replacementIn, supplementIn, Where, inDomain, inSupplement, Part, replacementPart, lawInForce}
+use Rattle.bmap.specs.Laying.{bytesOf}
 use Rattle.bmap.specs.Limits.{mostPayload}
 use Rattle.line.proofs.WriteLaws.{length-line}
 use Rattle.index.specs.Index.{domainOf}
@@ -25,7 +26,7 @@ use Rattle.domain.proofs.TextLaws.{domain-text-fits}
 use Rattle.supplement.specs.Check.{placeIn, countPlace, overOf}
 use Rattle.supplement.specs.Under.{underIn}
 use Rattle.supplement.specs.Force.{Stretch, stretchAt, lawStretch}
-use Rattle.supplement.proofs.OverLaws.{Over, bytesOf, over-at}
+use Rattle.supplement.proofs.OverLaws.{Over, over-at}
 use Rattle.supplement.proofs.UnderLaws.{Passing, passing-first, passing-junk, passing-done, passing-refused, passing-next}
 use Rattle.supplement.proofs.ForceLaws.{known-law, law-place}
 

@@ -12,13 +12,11 @@ use borrow.Author.Tests.{eqb-true, eqb-false, eq-eqb, ne-eqb}
 use Rattle.bmap.specs.Plain.{either, if-else, maybe, any, flat, numbers}
 use Rattle.bmap.specs.Line.{stored}
 use Rattle.bmap.specs.Supplement.{Replacement, replaces, payloadIn, inSupplement, Part, replacementPart}
+use Rattle.bmap.specs.Laying.{bytesOf}
 use Rattle.bmap.proofs.PlainLaws.{flat-one}
 use Rattle.bmap.proofs.NumbersLaws.{map-length, map-at}
 use Rattle.domain.proofs.Rows.{length-snoc, map-snoc, numbers-all}
 use Rattle.supplement.specs.Check.{countPlace, overOf}
-
-abbrev pub bytesOf : List Replacement → List ℕ
-bytesOf s = flat (map (λ (r : Replacement). stored (r .frame)) s)
 
 abbrev pub gives : ℕ → Replacement → Bool
 gives n r = eqb (replaces r) n

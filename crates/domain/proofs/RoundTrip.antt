@@ -255,7 +255,8 @@ pub data Spells : List Frame → Type 0 where
   none-spelt : Spells []
   and-spelt : {f : Frame} {fs : List Frame} → Spelt f → Spells fs → Spells (f ∷ fs)
 
-frame-off : (s : List ℕ) (at : ℕ) (f : Frame) → Here s at f → drop at s ≡ stored f ++ drop (at + length (stored f)) s
+-- its bytes stand from its place on
+pub frame-off : (s : List ℕ) (at : ℕ) (f : Frame) → Here s at f → drop at s ≡ stored f ++ drop (at + length (stored f)) s
 frame-off s at f h =
     let n = length (f .payload) in
     let one : drop at s ≡ getD s at 0 ∷ drop (suc at) s = drop-cons s at 0 (omega (arith, h .within)) in

@@ -3,11 +3,11 @@ use Prim.Native.Nat.{ℕ, zero, suc, _+_, _-_, _≤_, _<_}
 use native.Mathlib.Omega.{arith}
 use mathlib.Core.Path.{_≡_, refl, sym, ap, subst, _∙_}
 use mathlib.Core.Bool.{Bool, true, false}
-use mathlib.Core.List.{List, [], _∷_, map}
+use mathlib.Core.List.{List, [], _∷_, _++_, map}
 use mathlib.Core.Option.{Option, none, some}
 use lib.Dec.{eqb}
 use lib.ListN.{length, getD, take, drop, length-drop}
-use lib.Seq.{drop-drop}
+use lib.Seq.{drop-drop, take-append-seam}
 use borrow.Author.Tests.{eqb-true, eq-eqb, ne-eqb}
 use Rattle.bmap.specs.Plain.{if-else, maybe}
 use Rattle.bmap.specs.Limits.{mostPayload}
@@ -28,6 +28,7 @@ use Rattle.domain.proofs.Passed.{Form, is-executable, is-effect, is-must, law-f
 use Rattle.domain.proofs.Rows.{two-off}
 use Rattle.domain.proofs.Stands.{Here, here, no-more}
 use Rattle.domain.proofs.Accepted.{FoundHere, found-ok, refused-15}
+use Rattle.domain.proofs.RoundTrip.{frame-off}
 use Rattle.supplement.specs.declared.under.Under.{Under}
 use Rattle.supplement.specs.Check.{placeIn, countPlace, overOf}
 use Rattle.supplement.specs.Under.{underOf, underIn}
@@ -71,6 +72,9 @@ pub record Stood (s : List ℕ) (r : Replacement) (p : Part) : Type 0 where
   pub there : take (getD s count 0 - 2) (drop (count + 3) s) ≡ payloadIn (r .frame)
   pub size : getD s count 0 - 2 ≡ length (payloadIn (r .frame))
   pub short : length (r .frame .payload) ≤ 120
+  -- the whole frame, from its kind on
+  pub frame : take (getD s count 0 + 2) (drop (count - 1) s) ≡ stored (r .frame)
+  pub within : count + 1 + getD s count 0 ≤ length s
 
 -- the frames from a place on are the replacements'
 module _ (s : List ℕ) (n : ℕ) (r : Replacement) where
@@ -85,6 +89,12 @@ module _ (s : List ℕ) (n : ℕ) (r : Replacement) where
         sym (ap (drop 2) (h .payload) ∙ two-off (getD s (at + 1) 0) (drop (at + 2) s) ∙ ap (take (getD s (at + 1) 0 - 2)) (drop-drop 2 (at + 2) s ∙ ap (λ (k : ℕ). drop k s) z));
     size = omega (arith, h .count, length-drop 2 (r .frame .payload));
     short = h .most;
+    frame =
+        let z : at + 1 - 1 ≡ at = omega arith in
+        let n : getD s (at + 1) 0 + 2 ≡ length (stored (r .frame)) = omega (arith, h .count) in
+        ap (λ (k : ℕ). take (getD s (at + 1) 0 + 2) (drop k s)) z ∙ ap (take (getD s (at + 1) 0 + 2)) (frame-off s at (r .frame) h)
+        ∙ ap (λ (k : ℕ). take k (stored (r .frame) ++ drop (at + length (stored (r .frame))) s)) n ∙ take-append-seam (stored (r .frame)) (drop (at + length (stored (r .frame))) s);
+    within = omega (arith, h .count, h .within);
   }
 
   pub stood : (looks at : ℕ) (rs : List Replacement) (fs : List Frame) → framesFrom looks s at ≡ some fs → frames rs ≡ fs → replacementOf rs n ≡ some r
@@ -129,6 +139,14 @@ no-part at (q ∷ rs) n e = go (eqb (replaces q) n) e (no-part (at + length (sto
     go true h rec = absurd (let z : _≡_ {A = ℕ} 0 1 = cc in omega arith)
     go false h rec = rec h
 
+-- the place of its count, of each law number
+module _ (rs : List Replacement) (n : ℕ) (few : n < 128) where
+  pub over-none : replacementOf rs n ≡ none → getD (overOf rs) n 0 ≡ 0
+  over-none q = over-at rs n few ∙ ap countPlace (no-part 0 rs n q)
+
+  pub over-count : (s : List ℕ) (r : Replacement) (p : Part) → replacementPart 0 rs n ≡ some p → (t : Stood s r p) → getD (overOf rs) n 0 ≡ t .count
+  over-count s r p q t = over-at rs n few ∙ ap countPlace q ∙ ap (λ (w : Where). placeIn w - 3) (t .stands) ∙ omega arith
+
 -- ---- the payload of each law in force, by what was found
 
 -- the payload of the domain's own law
@@ -164,8 +182,8 @@ module _ (store supplement : List ℕ) (x : Index) (h : Sound store x) (s : List
   d = domainOf store x
 
   module _ (fs : List Frame) (e : framesIn supplement ≡ some fs) (w : AllRead d [] fs s) (i : ℕ) (k : i < x .counts .laws) where
-    over-is : getD (overOf s) i 0 ≡ countPlace (replacementPart 0 s i)
-    over-is = over-at s i (omega (arith, h .laws))
+    few : i < 128
+    few = omega (arith, h .laws)
 
     abbrev frame : ℕ
     frame = getD (x .laws) i 0
@@ -173,7 +191,7 @@ module _ (store supplement : List ℕ) (x : Index) (h : Sound store x) (s : List
     own : replacementOf s i ≡ none → LawStands store supplement x d s i
     unfolding lawOf
     own q =
-        let zero-there : getD (overOf s) i 0 ≡ 0 = over-is ∙ ap countPlace (no-part 0 s i q) in
+        let zero-there : getD (overOf s) i 0 ≡ 0 = over-none s i few q in
         let bytes : payloadOf store (x .laws) supplement (overOf s) i ≡ drop 2 (lawBytes store x i) = payload-own store supplement frame (getD (overOf s) i 0) zero-there in
         record {
           law =
@@ -187,7 +205,7 @@ module _ (store supplement : List ℕ) (x : Index) (h : Sound store x) (s : List
     replacing r q =
         let t = stood supplement i r (suc (length supplement)) 0 s fs e (w .frames-are) q in
         let there = t .1 .1 in
-        let place : getD (overOf s) i 0 ≡ there .count = over-is ∙ ap countPlace (t .1 .0) ∙ ap (λ (y : Where). placeIn y - 3) (there .stands) ∙ omega arith in
+        let place : getD (overOf s) i 0 ≡ there .count = over-count s i few supplement r (t .0) (t .1 .0) there in
         let bytes : payloadOf store (x .laws) supplement (overOf s) i ≡ payloadIn (r .frame)
         = ap (λ (n : ℕ). bytesIn (stretchAt store frame supplement n) store supplement) place ∙ payload-over store supplement frame (there .count) (there .some-place) ∙ there .there in
         let f = found-fits d s i r (w .fit) q in
@@ -229,6 +247,21 @@ supplemented d supplement s e = go (framesIn supplement) refl e
     go : (o : Option (List Frame)) → framesIn supplement ≡ o → known 15 (maybe o none (λ fs. whatWasRead (supplementFrom d [] (map got fs)))) ≡ got s → Supplemented d supplement s
     go none f q = absurd (let z : _≡_ {A = ℕ} 0 1 = cc in omega arith)
     go (some fs) f q = by fs f (supplementFrom d [] (map got fs)) refl q
+
+-- the frame that replaces a law number, by the place of its count
+pub record FrameOver (supplement : List ℕ) (count : ℕ) (f : Frame) : Type 0 where
+  pub some-place : 1 ≤ count
+  pub frame : take (getD supplement count 0 + 2) (drop (count - 1) supplement) ≡ stored f
+  pub short : length (f .payload) ≤ 120
+  pub within : count + 1 + getD supplement count 0 ≤ length supplement
+
+pub frame-over : (d : Domain) (supplement : List ℕ) (s : List Replacement) → supplementIn d supplement ≡ got s → (n : ℕ) → n < 128 → (r : Replacement) → replacementOf s n ≡ some r → FrameOver supplement (getD (overOf s) n 0) (r .frame)
+frame-over d supplement s e n few r q =
+    let m = supplemented d supplement s e in
+    let t = stood supplement n r (suc (length supplement)) 0 s (m .frames-there) (m .are) (m .all .frames-are) q in
+    let there = t .1 .1 in
+    subst (λ (k : ℕ). FrameOver supplement k (r .frame)) (sym (over-count s n few supplement r (t .0) (t .1 .0) there))
+    (record { some-place = there .some-place; frame = there .frame; short = there .short; within = there .within })
 
 pub supplement-15 : (d : Domain) (supplement : List ℕ) (n : ℕ) → supplementIn d supplement ≡ refused n → n ≡ 15
 unfolding supplementIn

@@ -25,11 +25,10 @@ use Rattle.domain.proofs.Rows.{row-at}
 use Rattle.domain.proofs.Stands.{Here, here, no-more}
 use Rattle.domain.proofs.Accepted.{domained, found-got, as-many}
 use Rattle.supplement.specs.declared.under.Under.{Under}
-use Rattle.supplement.specs.Check.{placeIn, countPlace, overOf}
+use Rattle.supplement.specs.Check.{overOf}
 use Rattle.supplement.specs.Under.{underIn}
 use Rattle.supplement.specs.Force.{Stretch, StandsIn, bytesIn, HandedOut, InForce, stretchOf, stretchAt, lawStretch, payloadOf}
-use Rattle.supplement.proofs.OverLaws.{over-at}
-use Rattle.supplement.proofs.Accepted.{UnderIs, Stood, under-ok, under-none, supplemented, stood, no-part}
+use Rattle.supplement.proofs.Accepted.{UnderIs, Stood, under-ok, under-none, supplemented, stood, no-part, over-none, over-count}
 
 -- ---- a place, as the code finds it
 
@@ -108,12 +107,9 @@ pub record PartIs (store laws supplement over : List ℕ) (n : ℕ) (p : Part) :
 
 -- a law that is replaced stands in the supplement, any other in the domain's store
 module _ (store supplement laws : List ℕ) (s : List Replacement) (n : ℕ) (few : n < 128) where
-  over-is : getD (overOf s) n 0 ≡ countPlace (replacementPart 0 s n)
-  over-is = over-at s n few
-
   own-is : (p : Part) → OwnPart store (getD laws n 0) p → replacementOf s n ≡ none → PartIs store laws supplement (overOf s) n p
   own-is p o q =
-      let zero-there : getD (overOf s) n 0 ≡ 0 = over-is ∙ ap countPlace (no-part 0 s n q) in
+      let zero-there : getD (overOf s) n 0 ≡ 0 = over-none s n few q in
       let stretch : lawStretch store laws supplement (overOf s) n ≡ record { stands = inDomain (getD laws n 0 + 2); size = getD store (getD laws n 0 + 1) 0 }
       = ap (λ (b : Bool). if-else b (record { stands = inDomain (getD laws n 0 + 2); size = getD store (getD laws n 0 + 1) 0 }) (record { stands = inSupplement (getD (overOf s) n 0 + 3); size = getD supplement (getD (overOf s) n 0) 0 - 2 })) (eq-eqb (getD (overOf s) n 0) 0 zero-there) in
       record {
@@ -123,7 +119,7 @@ module _ (store supplement laws : List ℕ) (s : List Replacement) (n : ℕ) (fe
 
   replaced-is : (r : Replacement) (p : Part) → Stood supplement r p → replacementPart 0 s n ≡ some p → PartIs store laws supplement (overOf s) n p
   replaced-is r p t q =
-      let place : getD (overOf s) n 0 ≡ t .count = over-is ∙ ap countPlace q ∙ ap (λ (w : Where). placeIn w - 3) (t .stands) ∙ omega arith in
+      let place : getD (overOf s) n 0 ≡ t .count = over-count s n few supplement r p q t in
       let stretch : lawStretch store laws supplement (overOf s) n ≡ record { stands = inSupplement (t .count + 3); size = getD supplement (t .count) 0 - 2 }
       = ap (stretchAt store (getD laws n 0) supplement) place
       ∙ ap (λ (b : Bool). if-else b (record { stands = inDomain (getD laws n 0 + 2); size = getD store (getD laws n 0 + 1) 0 }) (record { stands = inSupplement (t .count + 3); size = getD supplement (t .count) 0 - 2 })) (ne-eqb (t .count) 0 (λ e. omega (arith, t .some-place))) in

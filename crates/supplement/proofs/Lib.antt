@@ -12,6 +12,8 @@ pub mod Accepted
 pub mod ReaderLaws
 -- THERE AND BACK: lines to a store, and its frames to lines.
 pub mod RoundTrip
+-- One supplement laid over another.
+pub mod LaidLaws
 -- What document 02 asks for.
 pub mod BoundLaws
 pub mod EmptyLaws

@@ -1,0 +1,105 @@
+-- What is laid, or only ordered, is again a supplement that the domain accepts. Assumes nothing.
+use Prim.Native.Nat.{ℕ, zero, suc, _+_, _*_, _≤_}
+use native.Mathlib.Omega.{arith}
+use mathlib.Core.Path.{_≡_, refl, sym, ap, _∙_}
+use mathlib.Core.Bool.{false}
+use mathlib.Core.List.{List, [], _∷_, _++_, append-assoc, append-nil, map, map-map}
+use mathlib.Core.Option.{Option, none, some}
+use lib.ListN.{length, replicate, length-append}
+use borrow.Author.Tests.{eq-eqb, ne-eqb, le-leb}
+use Rattle.bmap.specs.Plain.{either, maybe, any, flat, numbers}
+use Rattle.bmap.specs.Refusal.{got, known, Reading, read, atLine}
+use Rattle.bmap.specs.Line.{Frame, stored}
+use Rattle.bmap.specs.Domain.{Domain, Law}
+use Rattle.bmap.specs.Store.{whatWasRead}
+use Rattle.bmap.specs.Supplement.{Replacement, replaces, standsFor, replacementIn, supplementFrom, supplementIn}
+use Rattle.bmap.specs.Laying.{listed, byNumber, bytesOf}
+use Rattle.index.specs.Index.{noLaw}
+use Rattle.domain.proofs.Rows.{any-snoc}
+use Rattle.domain.proofs.RoundTrip.{Fines, no-frames, and-frame, frames-back}
+use Rattle.supplement.proofs.OverLaws.{gives}
+use Rattle.supplement.proofs.CheckLaws.{numbered-some}
+use Rattle.supplement.proofs.Passes.{Fits, FoundFits, frames}
+
+-- ---- a replacement that fits, and whose number is new, is taken
+
+taken : (d : Domain) (earlier : List Replacement) (r : Replacement) → Fits d r → any (gives (replaces r)) earlier ≡ false → replacementIn d earlier (r .frame) ≡ got r
+unfolding replacementIn
+taken d earlier r f new =
+    rw (
+      eq-eqb (r .frame .kind) 0xAF (f .kind),
+      le-leb 3 (length (r .frame .payload)) (f .long),
+      numbered-some (d .laws) (replaces r) noLaw (f .number),
+      f .same,
+      new,
+      f .law,
+    )
+
+-- ---- what was found of each number
+
+-- of so many numbers from one on
+abbrev from : (ℕ → Option Replacement) → ℕ → ℕ → List Replacement
+from found i n = flat (map (λ k. listed (found k)) (numbers i n))
+
+-- none of these has this number or a higher one
+abbrev Below : ℕ → List Replacement → Type 0
+Below i s = (n : ℕ) → i ≤ n → any (gives n) s ≡ false
+
+below-more : (i : ℕ) (s : List Replacement) (r : Replacement) → Below i s → replaces r ≡ i → Below (suc i) (s ++ (r ∷ []))
+below-more i s r h e n k =
+    any-snoc (gives n) s r ∙ ap (λ b. either b (gives n r)) (h n (omega arith)) ∙ ne-eqb (replaces r) n (λ z. omega arith)
+
+module _ (d : Domain) (found : ℕ → Option Replacement) (fit : (n : ℕ) (r : Replacement) → found n ≡ some r → FoundFits d n r) where
+  reads-from : (n i : ℕ) (earlier : List Replacement) → Below i earlier → supplementFrom d earlier (map got (frames (from found i n))) ≡ read (earlier ++ from found i n)
+  unfolding supplementFrom flat numbers
+  reads-from zero i earlier h = ap read (sym (append-nil earlier))
+  reads-from (suc n) i earlier h = go (found i) refl (reads-from n (suc i))
+    where
+      go : (o : Option Replacement) → found i ≡ o
+          → ((s : List Replacement) → Below (suc i) s → supplementFrom d s (map got (frames (from found (suc i) n))) ≡ read (s ++ from found (suc i) n))
+          → supplementFrom d earlier (map got (frames (listed o ++ from found (suc i) n))) ≡ read (earlier ++ (listed o ++ from found (suc i) n))
+      go none q rec = rec earlier (λ k l. h k (omega arith))
+      go (some r) q rec =
+          let f = fit i r q in
+          ap (λ a. atLine (suc (length earlier)) a (λ x. supplementFrom d (earlier ++ (x ∷ [])) (map got (frames (from found (suc i) n)))))
+          (taken d earlier r (f .fits) (h (replaces r) (omega (arith, f .has))))
+          ∙ rec (earlier ++ (r ∷ [])) (below-more i earlier r h (f .has))
+          ∙ ap read (append-assoc earlier (r ∷ []) (from found (suc i) n))
+
+  -- the frames of what was found are read as it
+  pub reads-found : supplementFrom d [] (map got (frames (byNumber found))) ≡ read (byNumber found)
+  unfolding byNumber any
+  reads-found = reads-from 128 0 [] (λ n h. refl)
+
+  module _ (short : (n : ℕ) (r : Replacement) → found n ≡ some r → length (r .frame .payload) ≤ 120) where
+    fines-from : (n i : ℕ) → Fines (frames (from found i n))
+    unfolding flat numbers
+    fines-from zero i = no-frames
+    fines-from (suc n) i = go (found i) refl (fines-from n (suc i))
+      where
+        go : (o : Option Replacement) → found i ≡ o → Fines (frames (from found (suc i) n)) → Fines (frames (listed o ++ from found (suc i) n))
+        go none q rec = rec
+        go (some r) q rec = let k = fit i r q .fits .kind in and-frame (record { some-kind = λ (z : r .frame .kind ≡ 0). omega arith; most = short i r q }) rec
+
+    -- in bytes, with any zeros after, it is a supplement that the domain accepts
+    pub accepts-found : (zeros : ℕ) → supplementIn d (bytesOf (byNumber found) ++ replicate zeros 0) ≡ got (byNumber found)
+    unfolding supplementIn byNumber
+    accepts-found zeros =
+        let s = byNumber found in
+        let bytes : bytesOf s ≡ flat (map stored (frames s)) = ap flat (sym (map-map stored (λ (r : Replacement). r .frame) s)) in
+        rw (bytes, frames-back (frames s) zeros (fines-from 128 0))
+        (ap (λ (r : Reading (List Replacement)). known 15 (whatWasRead r)) reads-found)
+
+    bytes-from : (n i : ℕ) → length (bytesOf (from found i n)) ≤ n * 122
+    unfolding flat numbers
+    bytes-from zero i = omega arith
+    bytes-from (suc n) i = go (found i) refl (bytes-from n (suc i))
+      where
+        go : (o : Option Replacement) → found i ≡ o → length (bytesOf (from found (suc i) n)) ≤ n * 122 → length (bytesOf (listed o ++ from found (suc i) n)) ≤ suc n * 122
+        go none q rec = omega arith
+        go (some r) q rec = omega (arith, short i r q, length-append (stored (r .frame)) (bytesOf (from found (suc i) n)))
+
+    -- which are few enough for any buffer
+    pub few-found : length (bytesOf (byNumber found)) ≤ 128 * 122
+    unfolding byNumber
+    few-found = bytes-from 128 0

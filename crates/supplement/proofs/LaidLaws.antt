@@ -1,25 +1,30 @@
 -- What is laid, or only ordered, is again a supplement that the domain accepts. Assumes nothing.
-use Prim.Native.Nat.{ℕ, zero, suc, _+_, _*_, _≤_}
+use Prim.Native.Nat.{ℕ, zero, suc, _+_, _-_, _*_, _≤_}
 use native.Mathlib.Omega.{arith}
 use mathlib.Core.Path.{_≡_, refl, sym, ap, _∙_}
 use mathlib.Core.Bool.{false}
 use mathlib.Core.List.{List, [], _∷_, _++_, append-assoc, append-nil, map, map-map}
 use mathlib.Core.Option.{Option, none, some}
-use lib.ListN.{length, replicate, length-append}
+use lib.ListN.{length, take, replicate, length-append}
+use lib.Seq.{take-append-seam}
 use borrow.Author.Tests.{eq-eqb, ne-eqb, le-leb}
 use Rattle.bmap.specs.Plain.{either, maybe, any, flat, numbers}
+use Rattle.bmap.specs.Limits.{supplementSize}
 use Rattle.bmap.specs.Refusal.{got, known, Reading, read, atLine}
 use Rattle.bmap.specs.Line.{Frame, stored}
 use Rattle.bmap.specs.Domain.{Domain, Law}
-use Rattle.bmap.specs.Store.{whatWasRead}
-use Rattle.bmap.specs.Supplement.{Replacement, replaces, standsFor, replacementIn, supplementFrom, supplementIn}
-use Rattle.bmap.specs.Laying.{listed, byNumber, bytesOf}
+use Rattle.bmap.specs.Buffer.{padded, Written}
+use Rattle.bmap.specs.Store.{whatWasRead, domainIn}
+use Rattle.bmap.specs.Supplement.{Replacement, replaces, replacementOf, standsFor, replacementIn, supplementFrom, supplementIn}
+use Rattle.bmap.specs.Laying.{listed, byNumber, ordered, winning, laid, bytesOf, laySupplements, orderSupplement}
+use Rattle.bmap.specs.Theorems.{Supplements, Lays, LaidAccepted}
 use Rattle.index.specs.Index.{noLaw}
 use Rattle.domain.proofs.Rows.{any-snoc}
 use Rattle.domain.proofs.RoundTrip.{Fines, no-frames, and-frame, frames-back}
 use Rattle.supplement.proofs.OverLaws.{gives}
 use Rattle.supplement.proofs.CheckLaws.{numbered-some}
-use Rattle.supplement.proofs.Passes.{Fits, FoundFits, frames}
+use Rattle.supplement.proofs.Passes.{Fits, FoundFits, found-fits, frames}
+use Rattle.supplement.proofs.Accepted.{stood, Supplemented, supplemented}
 
 -- ---- a replacement that fits, and whose number is new, is taken
 
@@ -103,3 +108,78 @@ module _ (d : Domain) (found : ℕ → Option Replacement) (fit : (n : ℕ) (r :
     pub few-found : length (bytesOf (byNumber found)) ≤ 128 * 122
     unfolding byNumber
     few-found = bytes-from 128 0
+
+-- ---- what an accepted supplement has of a number
+
+module _ (d : Domain) (supplement : List ℕ) (s : List Replacement) (e : supplementIn d supplement ≡ got s) (n : ℕ) (r : Replacement) (q : replacementOf s n ≡ some r) where
+  there : Supplemented d supplement s
+  there = supplemented d supplement s e
+
+  pub fits-in : FoundFits d n r
+  fits-in = found-fits d s n r (there .all .fit) q
+
+  pub short-in : length (r .frame .payload) ≤ 120
+  short-in = stood supplement n r (suc (length supplement)) 0 s (there .frames-there) (there .are) (there .all .frames-are) q .1 .1 .short
+
+-- ---- ordered
+
+module _ (d : Domain) (supplement : List ℕ) (s : List Replacement) (e : supplementIn d supplement ≡ got s) where
+  pub accepts-ordered : (zeros : ℕ) → supplementIn d (bytesOf (ordered s) ++ replicate zeros 0) ≡ got (ordered s)
+  unfolding ordered
+  accepts-ordered = accepts-found d (replacementOf s) (fits-in d supplement s e) (short-in d supplement s e)
+
+pub ordered-result : (store supplement result : List ℕ) (d : Domain) (s : List Replacement) → domainIn store ≡ got d → supplementIn d supplement ≡ got s → supplementSize ≤ length result
+    → orderSupplement store supplement result ≡ record { answer = got (length (bytesOf (ordered s))); buffer = padded (length result) (bytesOf (ordered s)) }
+unfolding orderSupplement
+ordered-result store supplement result d s g e h = rw (le-leb supplementSize (length result) h, g, e)
+
+-- the result of ordering is accepted as what is ordered
+pub ordered-whole : (store supplement result : List ℕ) (d : Domain) (s : List Replacement) → domainIn store ≡ got d → supplementIn d supplement ≡ got s → supplementSize ≤ length result
+    → supplementIn d (orderSupplement store supplement result .buffer) ≡ got (ordered s)
+ordered-whole store supplement result d s g e h =
+    ap (λ (w : Written). supplementIn d (w .buffer)) (ordered-result store supplement result d s g e h) ∙ accepts-ordered d supplement s e (length result - length (bytesOf (ordered s)))
+
+-- ---- laid
+
+-- what is so of both supplements' is so of what wins
+won : (P : Replacement → Type 0) (upper lower : Option Replacement) → ((r : Replacement) → upper ≡ some r → P r) → ((r : Replacement) → lower ≡ some r → P r)
+    → (r : Replacement) → maybe upper lower some ≡ some r → P r
+won P none lower f g r e = g r e
+won P (some q) lower f g r e = f r e
+
+module _ (d : Domain) (lower upper : List ℕ) (l u : List Replacement) (below : supplementIn d lower ≡ got l) (above : supplementIn d upper ≡ got u) where
+  fits-won : (n : ℕ) (r : Replacement) → winning l u n ≡ some r → FoundFits d n r
+  fits-won n = won (FoundFits d n) (replacementOf u n) (replacementOf l n) (fits-in d upper u above n) (fits-in d lower l below n)
+
+  short-won : (n : ℕ) (r : Replacement) → winning l u n ≡ some r → length (r .frame .payload) ≤ 120
+  short-won n = won (λ (r : Replacement). length (r .frame .payload) ≤ 120) (replacementOf u n) (replacementOf l n) (short-in d upper u above n) (short-in d lower l below n)
+
+  pub accepts-laid : (zeros : ℕ) → supplementIn d (bytesOf (laid l u) ++ replicate zeros 0) ≡ got (laid l u)
+  unfolding laid
+  accepts-laid = accepts-found d (winning l u) fits-won short-won
+
+  pub few-laid : length (bytesOf (laid l u)) ≤ supplementSize
+  unfolding laid
+  few-laid = omega (arith, few-found d (winning l u) fits-won short-won)
+
+pub laid-result : (store lower upper result : List ℕ) (d : Domain) (l u : List Replacement) → Supplements store lower upper d l u → supplementSize ≤ length result
+    → laySupplements store lower upper result ≡ record { answer = got (length (bytesOf (laid l u))); buffer = padded (length result) (bytesOf (laid l u)) }
+unfolding laySupplements
+laid-result store lower upper result d l u s h = rw (le-leb supplementSize (length result) h, s .domain, s .below, s .above)
+
+-- the result of laying is accepted as what is laid, whole and cut to the bytes used
+pub laid-accepted : ((store lower upper : List ℕ) (d : Domain) (l u : List Replacement) → Supplements store lower upper d l u → Lays l u (laid l u)) → LaidAccepted
+laid-accepted lays store lower upper result d l u s h =
+    let is = laid-result store lower upper result d l u s h in
+    let bytes = bytesOf (laid l u) in
+    let zeros = length result - length bytes in
+    let accepts : (zeros : ℕ) → supplementIn d (bytesOf (laid l u) ++ replicate zeros 0) ≡ got (laid l u) = accepts-laid d lower upper l u (s .below) (s .above) in
+    record {
+      lays = lays store lower upper d l u s;
+      fits = few-laid d lower upper l u (s .below) (s .above);
+      answer = ap (λ (w : Written). w .answer) is;
+      whole = ap (λ (w : Written). supplementIn d (w .buffer)) is ∙ accepts zeros;
+      used =
+          ap (λ (w : Written). supplementIn d (take (length bytes) (w .buffer))) is
+          ∙ ap (supplementIn d) (take-append-seam bytes (replicate zeros 0) ∙ sym (append-nil bytes)) ∙ accepts 0;
+    }

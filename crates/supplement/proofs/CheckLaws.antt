@@ -28,7 +28,7 @@ use Rattle.supplement.proofs.OverLaws.{gives, given, not-given, over-at
 
 -- ---- 20: kind and entry, by the bytes of the domain's law
 
-no-entry : (s : Scope) → hasEntry (scopeKind s) ≡ false
+pub no-entry : (s : Scope) → hasEntry (scopeKind s) ≡ false
 no-entry static = refl
 no-entry concurrency = refl
 no-entry goal = refl

@@ -1,30 +1,38 @@
 -- What is laid, or only ordered, is again a supplement that the domain accepts. Assumes nothing.
-use Prim.Native.Nat.{ℕ, zero, suc, _+_, _-_, _*_, _≤_}
+use Prim.Native.Nat.{ℕ, zero, suc, _+_, _-_, _*_, _≤_, _<_}
+use native.Mathlib.Decide.{decLt}
 use native.Mathlib.Omega.{arith}
 use mathlib.Core.Path.{_≡_, refl, sym, ap, _∙_}
-use mathlib.Core.Bool.{false}
+use mathlib.Core.Bool.{Bool, true, false}
 use mathlib.Core.List.{List, [], _∷_, _++_, append-assoc, append-nil, map, map-map}
 use mathlib.Core.Option.{Option, none, some}
+use lib.Dec.{eqb}
 use lib.ListN.{length, take, replicate, length-append}
 use lib.Seq.{take-append-seam}
-use borrow.Author.Tests.{eq-eqb, ne-eqb, le-leb}
-use Rattle.bmap.specs.Plain.{either, maybe, any, flat, numbers}
+use borrow.Author.Tests.{eqb-true, eq-eqb, ne-eqb, le-leb}
+use Rattle.bmap.specs.Plain.{both, either, implies, maybe, any, flat, numbers}
 use Rattle.bmap.specs.Limits.{supplementSize}
-use Rattle.bmap.specs.Refusal.{got, known, Reading, read, atLine}
+use Rattle.bmap.specs.Refusal.{Answer, got, refused, known, then, Reading, read, atLine}
 use Rattle.bmap.specs.Line.{Frame, stored}
-use Rattle.bmap.specs.Domain.{Domain, Law}
+use Rattle.bmap.specs.Domain.{Domain, Law, executable, effect, must}
+use Rattle.bmap.specs.Payload.{byte, scopeKind, lawIn}
+use Rattle.bmap.specs.Accept.{countsOf}
 use Rattle.bmap.specs.Buffer.{padded, Written}
-use Rattle.bmap.specs.Store.{whatWasRead, domainIn}
-use Rattle.bmap.specs.Supplement.{Replacement, replaces, replacementOf, standsFor, replacementIn, supplementFrom, supplementIn}
+use Rattle.bmap.specs.Store.{framesIn, whatWasRead, domainIn}
+use Rattle.bmap.specs.Supplement.{Replacement, replaces, replacementOf, numberIn, kindIn, payloadIn, replaced, lawNumbered, standsFor, replacementIn, supplementFrom, supplementIn}
 use Rattle.bmap.specs.Laying.{listed, byNumber, ordered, winning, laid, bytesOf, laySupplements, orderSupplement}
 use Rattle.bmap.specs.Theorems.{Supplements, Lays, LaidAccepted}
-use Rattle.index.specs.Index.{noLaw}
+use Rattle.bmap.specs.declared.limits.Counts.{Counts}
+use Rattle.bmap.proofs.PlainLaws.{both-true, both-end}
+use Rattle.index.specs.Index.{lawNumber, noLaw}
+use Rattle.domain.proofs.Passed.{Form, is-executable, is-effect, is-must, law-form}
 use Rattle.domain.proofs.Rows.{any-snoc}
 use Rattle.domain.proofs.RoundTrip.{Fines, no-frames, and-frame, frames-back}
+use Rattle.supplement.specs.Check.{hasEntry}
 use Rattle.supplement.proofs.OverLaws.{gives}
-use Rattle.supplement.proofs.CheckLaws.{numbered-some}
+use Rattle.supplement.proofs.CheckLaws.{no-entry, numbered-none, numbered-some}
 use Rattle.supplement.proofs.Passes.{Fits, FoundFits, found-fits, frames}
-use Rattle.supplement.proofs.Accepted.{stood, Supplemented, supplemented}
+use Rattle.supplement.proofs.Accepted.{length-in-force, in-force, stood, Supplemented, supplemented}
 
 -- ---- a replacement that fits, and whose number is new, is taken
 
@@ -183,3 +191,86 @@ laid-accepted lays store lower upper result d l u s h =
           ap (λ (w : Written). supplementIn d (take (length bytes) (w .buffer))) is
           ∙ ap (supplementIn d) (take-append-seam bytes (replicate zeros 0) ∙ sym (append-nil bytes)) ∙ accepts 0;
     }
+
+-- ---- the domain with some laws replaced accepts the same supplements
+
+-- the kind and the entry that a frame's law has
+abbrev alike : Frame → Frame → Bool
+alike f g = both (eqb (kindIn f) (kindIn g)) (implies (hasEntry (kindIn g)) (eqb (byte (payloadIn f) 0) (byte (payloadIn g) 0)))
+
+-- all that stands for the law for which g stands is alike g
+stands-alike : (f g : Frame) (l : Law) → standsFor g l ≡ true → alike f g ≡ standsFor f l
+stands-alike f g (executable e c) h =
+    let t = both-true (eqb (kindIn g) 0xA5) _ h in
+    ap (λ (k : ℕ). both (eqb (kindIn f) k) (implies (hasEntry k) (eqb (byte (payloadIn f) 0) (byte (payloadIn g) 0)))) (eqb-true (kindIn g) 0xA5 (t .0))
+    ∙ ap (λ (x : ℕ). both (eqb (kindIn f) 0xA5) (eqb (byte (payloadIn f) 0) x)) (eqb-true (byte (payloadIn g) 0) e (t .1))
+stands-alike f g (effect e c x y) h =
+    let t = both-true (eqb (kindIn g) 0xA6) _ h in
+    ap (λ (k : ℕ). both (eqb (kindIn f) k) (implies (hasEntry k) (eqb (byte (payloadIn f) 0) (byte (payloadIn g) 0)))) (eqb-true (kindIn g) 0xA6 (t .0))
+    ∙ ap (λ (z : ℕ). both (eqb (kindIn f) 0xA6) (eqb (byte (payloadIn f) 0) z)) (eqb-true (byte (payloadIn g) 0) e (t .1))
+stands-alike f g (must s c) h =
+    ap (λ (k : ℕ). both (eqb (kindIn f) k) (implies (hasEntry k) (eqb (byte (payloadIn f) 0) (byte (payloadIn g) 0)))) (eqb-true (kindIn g) (scopeKind s) h)
+    ∙ ap (λ (b : Bool). both (eqb (kindIn f) (scopeKind s)) (implies b (eqb (byte (payloadIn f) 0) (byte (payloadIn g) 0)))) (no-entry s)
+    ∙ both-end (eqb (kindIn f) (scopeKind s))
+
+-- a frame stands for its own law
+stands-itself : (n : Counts) (g : Frame) (l : Law) → lawIn n (kindIn g) (payloadIn g) ≡ some l → standsFor g l ≡ true
+stands-itself n g l e = go (law-form n (kindIn g) (payloadIn g) l e)
+  where
+    go : Form n (kindIn g) (payloadIn g) l → standsFor g l ≡ true
+    go (is-executable q below c z) = ap (standsFor g) z ∙ rw (eq-eqb (kindIn g) 0xA5 q) (eq-eqb (byte (payloadIn g) 0) (byte (payloadIn g) 0) refl)
+    go (is-effect q c f x z) = ap (standsFor g) z ∙ rw (eq-eqb (kindIn g) 0xA6 q) (eq-eqb (byte (payloadIn g) 0) (byte (payloadIn g) 0) refl)
+    go (is-must s q c z) = ap (standsFor g) z ∙ eq-eqb (kindIn g) (scopeKind s) q
+
+module _ (d : Domain) (supplement : List ℕ) (l : List Replacement) (e : supplementIn d supplement ≡ got l) where
+  counts-kept : countsOf (replaced l d) ≡ countsOf d
+  unfolding replaced
+  counts-kept = ap (λ (n : ℕ). record { agents = d .agents; fluents = length (d .fluents); knowledge = length (d .knowledge); entries = length (d .entries); laws = n }) (length-in-force l d)
+
+  -- a law that stands in for another has its kind and its entry
+  law-kept : (f : Frame) (n : ℕ) → n < length (d .laws) → standsFor f (lawNumber (replaced l d) n) ≡ standsFor f (lawNumber d n)
+  law-kept f n h = ap (standsFor f) (in-force l d n h) ∙ go (replacementOf l n) refl
+    where
+      go : (o : Option Replacement) → replacementOf l n ≡ o → standsFor f (maybe o (lawNumber d n) (λ r. r .law)) ≡ standsFor f (lawNumber d n)
+      go none q = refl
+      go (some r) q =
+          let g = fits-in d supplement l e n r q in
+          sym (stands-alike f (r .frame) (r .law) (stands-itself (countsOf d) (r .frame) (r .law) (g .fits .law)))
+          ∙ stands-alike f (r .frame) (lawNumber d n) (ap (λ (i : ℕ). standsFor (r .frame) (lawNumber d i)) (sym (g .has)) ∙ g .fits .same)
+
+  stands-kept : (f : Frame) (n : ℕ) → maybe (lawNumbered (replaced l d) n) false (standsFor f) ≡ maybe (lawNumbered d n) false (standsFor f)
+  stands-kept f n = elim (decLt n (length (d .laws))) [
+    | yes h ↦
+        ap (λ (o : Option Law). maybe o false (standsFor f)) (numbered-some (replaced l d .laws) n noLaw (omega (arith, length-in-force l d)))
+        ∙ law-kept f n h ∙ sym (ap (λ (o : Option Law). maybe o false (standsFor f)) (numbered-some (d .laws) n noLaw h))
+    | no h ↦
+        ap (λ (o : Option Law). maybe o false (standsFor f)) (numbered-none (replaced l d .laws) n (omega (arith, length-in-force l d)))
+        ∙ sym (ap (λ (o : Option Law). maybe o false (standsFor f)) (numbered-none (d .laws) n (omega arith)))
+  ]
+
+  taken-alike : (earlier : List Replacement) (f : Frame) → replacementIn (replaced l d) earlier f ≡ replacementIn d earlier f
+  unfolding replacementIn
+  taken-alike earlier f = rw (stands-kept f (numberIn f), counts-kept)
+
+  read-alike : (fs : List (Answer Frame)) (earlier : List Replacement) → supplementFrom (replaced l d) earlier fs ≡ supplementFrom d earlier fs
+  unfolding supplementFrom
+  read-alike [] earlier = refl
+  read-alike (a ∷ fs) earlier = first a ∙ go (then a (replacementIn d earlier)) (read-alike fs)
+    where
+      first : (a : Answer Frame) → atLine (suc (length earlier)) (then a (replacementIn (replaced l d) earlier)) (λ r. supplementFrom (replaced l d) (earlier ++ (r ∷ [])) fs)
+          ≡ atLine (suc (length earlier)) (then a (replacementIn d earlier)) (λ r. supplementFrom (replaced l d) (earlier ++ (r ∷ [])) fs)
+      first (refused n) = refl
+      first (got f) = ap (λ b. atLine (suc (length earlier)) b (λ r. supplementFrom (replaced l d) (earlier ++ (r ∷ [])) fs)) (taken-alike earlier f)
+
+      go : (a : Answer Replacement) → ((before : List Replacement) → supplementFrom (replaced l d) before fs ≡ supplementFrom d before fs)
+          → atLine (suc (length earlier)) a (λ r. supplementFrom (replaced l d) (earlier ++ (r ∷ [])) fs) ≡ atLine (suc (length earlier)) a (λ r. supplementFrom d (earlier ++ (r ∷ [])) fs)
+      go (refused n) rec = refl
+      go (got r) rec = rec (earlier ++ (r ∷ []))
+
+  pub accepts-alike : (other : List ℕ) → supplementIn (replaced l d) other ≡ supplementIn d other
+  unfolding supplementIn
+  accepts-alike other = go (framesIn other)
+    where
+      go : (o : Option (List Frame)) → known 15 (maybe o none (λ fs. whatWasRead (supplementFrom (replaced l d) [] (map got fs)))) ≡ known 15 (maybe o none (λ fs. whatWasRead (supplementFrom d [] (map got fs))))
+      go none = refl
+      go (some fs) = ap (λ (r : Reading (List Replacement)). known 15 (whatWasRead r)) (read-alike (map got fs) [])

@@ -24,7 +24,6 @@ use Rattle.index.specs.declared.Index.{Index}
 use Rattle.index.specs.Index.{frameBytes, lawBytes, lawOf, domainOf, Sound, lawNumber, noLaw}
 use Rattle.index.proofs.DomainLaws.{counts-are, law-count, law-number}
 use Rattle.domain.specs.Found.{foundIn}
-use Rattle.domain.proofs.Passed.{Form, is-executable, is-effect, is-must, law-form}
 use Rattle.domain.proofs.Rows.{two-off}
 use Rattle.domain.proofs.Stands.{Here, here, no-more}
 use Rattle.domain.proofs.Accepted.{FoundHere, found-ok, refused-15}
@@ -34,6 +33,7 @@ use Rattle.supplement.specs.Check.{placeIn, countPlace, overOf}
 use Rattle.supplement.specs.Under.{underOf, underIn}
 use Rattle.supplement.specs.Force.{stretchAt, bytesIn, payloadOf}
 use Rattle.supplement.proofs.OverLaws.{over-at}
+use Rattle.supplement.proofs.CheckLaws.{stands-by}
 use Rattle.supplement.proofs.UnderLaws.{under-by, under-not}
 use Rattle.supplement.proofs.Passes.{no-more as fit-none, found-fits, frames, AllRead, all-read}
 
@@ -164,13 +164,8 @@ payload-over store supplement frame over h =
     ap (λ (b : Bool). bytesIn (if-else b (record { stands = inDomain (frame + 2); size = getD store (frame + 1) 0 }) (record { stands = inSupplement (over + 3); size = getD supplement over 0 - 2 })) store supplement) (ne-eqb over 0 (λ e. omega arith))
 
 -- a law that stands for another has its kind
-same-kind : (d : Domain) (kind : ℕ) (p : List ℕ) (f : Frame) (l : Law) → lawIn (countsOf d) kind p ≡ some l → standsFor f l ≡ true → kindIn f ≡ kind
-same-kind d kind p f l e h = go (law-form (countsOf d) kind p l e)
-  where
-    go : Form (countsOf d) kind p l → kindIn f ≡ kind
-    go (is-executable q below c z) = eqb-true (kindIn f) 0xA5 (both-true (eqb (kindIn f) 0xA5) _ (ap (standsFor f) (sym z) ∙ h) .0) ∙ sym q
-    go (is-effect q c g x z) = eqb-true (kindIn f) 0xA6 (both-true (eqb (kindIn f) 0xA6) _ (ap (standsFor f) (sym z) ∙ h) .0) ∙ sym q
-    go (is-must s q c z) = eqb-true (kindIn f) (scopeKind s) (ap (standsFor f) (sym z) ∙ h) ∙ sym q
+same-kind : (n : Counts) (kind : ℕ) (p : List ℕ) (f : Frame) (l : Law) → lawIn n kind p ≡ some l → standsFor f l ≡ true → kindIn f ≡ kind
+same-kind n kind p f l e h = eqb-true (kindIn f) kind (both-true (eqb (kindIn f) kind) _ (stands-by n kind p f l e ∙ h) .0)
 
 -- what is so of law i in force: its number, its payload and its place
 pub record LawStands (store supplement : List ℕ) (x : Index) (d : Domain) (s : List Replacement) (i : ℕ) : Type 0 where
@@ -210,8 +205,7 @@ module _ (store supplement : List ℕ) (x : Index) (h : Sound store x) (s : List
         = ap (λ (n : ℕ). bytesIn (stretchAt store frame supplement n) store supplement) place ∙ payload-over store supplement frame (there .count) (there .some-place) ∙ there .there in
         let f = found-fits d s i r (w .fit) q in
         let kind : kindIn (r .frame) ≡ byte (lawBytes store x i) 0
-        = same-kind d (byte (lawBytes store x i) 0) (drop 2 (lawBytes store x i)) (r .frame) (lawNumber d i)
-        (ap (λ (c : Counts). lawIn c (byte (lawBytes store x i) 0) (drop 2 (lawBytes store x i))) (counts-are store x) ∙ h .law i k ∙ ap some (sym (law-number store x i k)))
+        = same-kind (x .counts) (byte (lawBytes store x i) 0) (drop 2 (lawBytes store x i)) (r .frame) (lawNumber d i) (h .law i k ∙ ap some (sym (law-number store x i k)))
         (ap (λ (n : ℕ). standsFor (r .frame) (lawNumber d n)) (sym (f .has)) ∙ f .fits .same) in
         record {
           law =

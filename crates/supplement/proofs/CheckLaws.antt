@@ -8,16 +8,16 @@ use mathlib.Core.Option.{Option, none, some}
 use lib.Dec.{eqb}
 use lib.ListN.{length, getD, drop}
 use lib.Seq.{getD-drop}
-use borrow.Author.Tests.{eq-eqb, ne-eqb, le-leb, lt-leb}
+use borrow.Author.Tests.{eqb-true, eq-eqb, ne-eqb, le-leb, lt-leb}
 use Rattle.bmap.specs.Plain.{both, implies, maybe, any}
 use Rattle.bmap.specs.Refusal.{Answer, got, known, then}
-use Rattle.bmap.specs.Line.{Frame}
-use Rattle.bmap.specs.Domain.{Domain, Law, must, Scope, static, concurrency, goal}
+use Rattle.bmap.specs.Line.{Frame, supplementKind}
+use Rattle.bmap.specs.Domain.{Domain, Law, executable, effect, must, Scope, static, concurrency, goal}
 use Rattle.bmap.specs.Payload.{byte, scopeKind, lawIn}
 use Rattle.bmap.specs.Accept.{countsOf}
 use Rattle.bmap.specs.Supplement.{Replacement, replaces, numberIn, kindIn, payloadIn, lawNumbered, standsFor, replacementIn, replacementPart}
 use Rattle.bmap.specs.declared.limits.Counts.{Counts}
-use Rattle.bmap.proofs.PlainLaws.{both-end}
+use Rattle.bmap.proofs.PlainLaws.{both-true, both-end}
 use Rattle.index.specs.declared.Index.{Index}
 use Rattle.index.specs.Index.{frameBytes, lawOf, domainOf, Sound, lawNumber, noLaw}
 use Rattle.index.proofs.DomainLaws.{counts-are, law-count, law-number}
@@ -28,7 +28,7 @@ use Rattle.supplement.proofs.OverLaws.{gives, given, not-given, over-at
 
 -- ---- 20: kind and entry, by the bytes of the domain's law
 
-pub no-entry : (s : Scope) → hasEntry (scopeKind s) ≡ false
+no-entry : (s : Scope) → hasEntry (scopeKind s) ≡ false
 no-entry static = refl
 no-entry concurrency = refl
 no-entry goal = refl
@@ -55,21 +55,47 @@ of-executable e = ap hasEntry e
 pub of-effect : {k : ℕ} → k ≡ 0xA6 → hasEntry k ≡ true
 of-effect e = ap hasEntry e
 
-module _ (n : Counts) (frame : List ℕ) (f : Frame) (l : Law) where
-  pub stands-is : lawIn n (byte frame 0) (drop 2 frame) ≡ some l → standsIn frame (f .payload) ≡ standsFor f l
-  stands-is e = go (law-form n (byte frame 0) (drop 2 frame) l e)
-    where
-      -- the entries of both, by their places
-      entries : eqb (byte (f .payload) 2) (byte frame 2) ≡ eqb (byte (payloadIn f) 0) (byte (drop 2 frame) 0)
-      entries = ap (λ (x : ℕ). eqb x (byte frame 2)) (sym (byte-after 2 (f .payload) 0)) ∙ ap (eqb (byte (payloadIn f) 0)) (sym (byte-after 2 frame 0))
+-- the kind and the entry that a frame's law has
+abbrev alike : Frame → Frame → Bool
+alike f g = both (eqb (kindIn f) (kindIn g)) (implies (hasEntry (kindIn g)) (eqb (byte (payloadIn f) 0) (byte (payloadIn g) 0)))
 
-      go : Form n (byte frame 0) (drop 2 frame) l → standsIn frame (f .payload) ≡ standsFor f l
-      go (is-executable q below c z) = ap (λ (k : ℕ). both (eqb (kindIn f) k) (implies (hasEntry k) (eqb (byte (f .payload) 2) (byte frame 2)))) q ∙ ap (both (eqb (kindIn f) 0xA5)) entries ∙ ap (standsFor f) (sym z)
-      go (is-effect q c g x z) = ap (λ (k : ℕ). both (eqb (kindIn f) k) (implies (hasEntry k) (eqb (byte (f .payload) 2) (byte frame 2)))) q ∙ ap (both (eqb (kindIn f) 0xA6)) entries ∙ ap (standsFor f) (sym z)
-      go (is-must s q c z) =
-          ap (λ (k : ℕ). both (eqb (kindIn f) k) (implies (hasEntry k) (eqb (byte (f .payload) 2) (byte frame 2)))) q
-          ∙ ap (λ (t : Bool). both (eqb (kindIn f) (scopeKind s)) (implies t (eqb (byte (f .payload) 2) (byte frame 2)))) (no-entry s)
-          ∙ both-end (eqb (kindIn f) (scopeKind s)) ∙ ap (standsFor f) (sym z)
+-- all that stands for the law for which g stands is alike g
+pub stands-alike : (f g : Frame) (l : Law) → standsFor g l ≡ true → alike f g ≡ standsFor f l
+stands-alike f g (executable e c) h =
+    let t = both-true (eqb (kindIn g) 0xA5) _ h in
+    ap (λ (k : ℕ). both (eqb (kindIn f) k) (implies (hasEntry k) (eqb (byte (payloadIn f) 0) (byte (payloadIn g) 0)))) (eqb-true (kindIn g) 0xA5 (t .0))
+    ∙ ap (λ (x : ℕ). both (eqb (kindIn f) 0xA5) (eqb (byte (payloadIn f) 0) x)) (eqb-true (byte (payloadIn g) 0) e (t .1))
+stands-alike f g (effect e c x y) h =
+    let t = both-true (eqb (kindIn g) 0xA6) _ h in
+    ap (λ (k : ℕ). both (eqb (kindIn f) k) (implies (hasEntry k) (eqb (byte (payloadIn f) 0) (byte (payloadIn g) 0)))) (eqb-true (kindIn g) 0xA6 (t .0))
+    ∙ ap (λ (z : ℕ). both (eqb (kindIn f) 0xA6) (eqb (byte (payloadIn f) 0) z)) (eqb-true (byte (payloadIn g) 0) e (t .1))
+stands-alike f g (must s c) h =
+    ap (λ (k : ℕ). both (eqb (kindIn f) k) (implies (hasEntry k) (eqb (byte (payloadIn f) 0) (byte (payloadIn g) 0)))) (eqb-true (kindIn g) (scopeKind s) h)
+    ∙ ap (λ (b : Bool). both (eqb (kindIn f) (scopeKind s)) (implies b (eqb (byte (payloadIn f) 0) (byte (payloadIn g) 0)))) (no-entry s)
+    ∙ both-end (eqb (kindIn f) (scopeKind s))
+
+-- a frame stands for its own law
+pub stands-itself : (n : Counts) (g : Frame) (l : Law) → lawIn n (kindIn g) (payloadIn g) ≡ some l → standsFor g l ≡ true
+stands-itself n g l e = go (law-form n (kindIn g) (payloadIn g) l e)
+  where
+    go : Form n (kindIn g) (payloadIn g) l → standsFor g l ≡ true
+    go (is-executable q below c z) = ap (standsFor g) z ∙ rw (eq-eqb (kindIn g) 0xA5 q) (eq-eqb (byte (payloadIn g) 0) (byte (payloadIn g) 0) refl)
+    go (is-effect q c f x z) = ap (standsFor g) z ∙ rw (eq-eqb (kindIn g) 0xA6 q) (eq-eqb (byte (payloadIn g) 0) (byte (payloadIn g) 0) refl)
+    go (is-must s q c z) = ap (standsFor g) z ∙ eq-eqb (kindIn g) (scopeKind s) q
+
+-- by a law's kind and payload
+pub stands-by : (n : Counts) (kind : ℕ) (p : List ℕ) (f : Frame) (l : Law) → lawIn n kind p ≡ some l
+    → both (eqb (kindIn f) kind) (implies (hasEntry kind) (eqb (byte (payloadIn f) 0) (byte p 0))) ≡ standsFor f l
+stands-by n kind p f l e =
+    let g : Frame = record { kind = supplementKind; payload = 0 ∷ kind ∷ p } in
+    stands-alike f g l (stands-itself n g l e)
+
+pub stands-is : (n : Counts) (frame : List ℕ) (f : Frame) (l : Law) → lawIn n (byte frame 0) (drop 2 frame) ≡ some l → standsIn frame (f .payload) ≡ standsFor f l
+stands-is n frame f l e =
+    -- the entries of both, by their places
+    let entries : eqb (byte (f .payload) 2) (byte frame 2) ≡ eqb (byte (payloadIn f) 0) (byte (drop 2 frame) 0)
+    = ap (λ (x : ℕ). eqb x (byte frame 2)) (sym (byte-after 2 (f .payload) 0)) ∙ ap (eqb (byte (payloadIn f) 0)) (sym (byte-after 2 frame 0)) in
+    ap (λ (b : Bool). both (eqb (kindIn f) (byte frame 0)) (implies (hasEntry (byte frame 0)) b)) entries ∙ stands-by n (byte frame 0) (drop 2 frame) f l e
 
 -- ---- the law of a number
 

@@ -25,12 +25,11 @@ use Rattle.bmap.specs.Theorems.{Supplements, Lays, LaidAccepted}
 use Rattle.bmap.specs.declared.limits.Counts.{Counts}
 use Rattle.bmap.proofs.PlainLaws.{both-true, both-end}
 use Rattle.index.specs.Index.{lawNumber, noLaw}
-use Rattle.domain.proofs.Passed.{Form, is-executable, is-effect, is-must, law-form}
 use Rattle.domain.proofs.Rows.{any-snoc}
 use Rattle.domain.proofs.RoundTrip.{Fines, no-frames, and-frame, frames-back}
 use Rattle.supplement.specs.Check.{hasEntry}
 use Rattle.supplement.proofs.OverLaws.{gives}
-use Rattle.supplement.proofs.CheckLaws.{no-entry, numbered-none, numbered-some}
+use Rattle.supplement.proofs.CheckLaws.{stands-alike, stands-itself, numbered-none, numbered-some}
 use Rattle.supplement.proofs.Passes.{Fits, FoundFits, found-fits, frames}
 use Rattle.supplement.proofs.Accepted.{length-in-force, in-force, stood, Supplemented, supplemented}
 
@@ -193,34 +192,6 @@ laid-accepted lays store lower upper result d l u s h =
     }
 
 -- ---- the domain with some laws replaced accepts the same supplements
-
--- the kind and the entry that a frame's law has
-abbrev alike : Frame → Frame → Bool
-alike f g = both (eqb (kindIn f) (kindIn g)) (implies (hasEntry (kindIn g)) (eqb (byte (payloadIn f) 0) (byte (payloadIn g) 0)))
-
--- all that stands for the law for which g stands is alike g
-stands-alike : (f g : Frame) (l : Law) → standsFor g l ≡ true → alike f g ≡ standsFor f l
-stands-alike f g (executable e c) h =
-    let t = both-true (eqb (kindIn g) 0xA5) _ h in
-    ap (λ (k : ℕ). both (eqb (kindIn f) k) (implies (hasEntry k) (eqb (byte (payloadIn f) 0) (byte (payloadIn g) 0)))) (eqb-true (kindIn g) 0xA5 (t .0))
-    ∙ ap (λ (x : ℕ). both (eqb (kindIn f) 0xA5) (eqb (byte (payloadIn f) 0) x)) (eqb-true (byte (payloadIn g) 0) e (t .1))
-stands-alike f g (effect e c x y) h =
-    let t = both-true (eqb (kindIn g) 0xA6) _ h in
-    ap (λ (k : ℕ). both (eqb (kindIn f) k) (implies (hasEntry k) (eqb (byte (payloadIn f) 0) (byte (payloadIn g) 0)))) (eqb-true (kindIn g) 0xA6 (t .0))
-    ∙ ap (λ (z : ℕ). both (eqb (kindIn f) 0xA6) (eqb (byte (payloadIn f) 0) z)) (eqb-true (byte (payloadIn g) 0) e (t .1))
-stands-alike f g (must s c) h =
-    ap (λ (k : ℕ). both (eqb (kindIn f) k) (implies (hasEntry k) (eqb (byte (payloadIn f) 0) (byte (payloadIn g) 0)))) (eqb-true (kindIn g) (scopeKind s) h)
-    ∙ ap (λ (b : Bool). both (eqb (kindIn f) (scopeKind s)) (implies b (eqb (byte (payloadIn f) 0) (byte (payloadIn g) 0)))) (no-entry s)
-    ∙ both-end (eqb (kindIn f) (scopeKind s))
-
--- a frame stands for its own law
-stands-itself : (n : Counts) (g : Frame) (l : Law) → lawIn n (kindIn g) (payloadIn g) ≡ some l → standsFor g l ≡ true
-stands-itself n g l e = go (law-form n (kindIn g) (payloadIn g) l e)
-  where
-    go : Form n (kindIn g) (payloadIn g) l → standsFor g l ≡ true
-    go (is-executable q below c z) = ap (standsFor g) z ∙ rw (eq-eqb (kindIn g) 0xA5 q) (eq-eqb (byte (payloadIn g) 0) (byte (payloadIn g) 0) refl)
-    go (is-effect q c f x z) = ap (standsFor g) z ∙ rw (eq-eqb (kindIn g) 0xA6 q) (eq-eqb (byte (payloadIn g) 0) (byte (payloadIn g) 0) refl)
-    go (is-must s q c z) = ap (standsFor g) z ∙ eq-eqb (kindIn g) (scopeKind s) q
 
 module _ (d : Domain) (supplement : List ℕ) (l : List Replacement) (e : supplementIn d supplement ≡ got l) where
   counts-kept : countsOf (replaced l d) ≡ countsOf d

@@ -1,2 +1,4 @@
 -- What is shown of the definitions alone.
+-- K8: lists by law number, and supplements laid over one another.
+pub mod ByNumberLaws
 pub mod LayingLaws

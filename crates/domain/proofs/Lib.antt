@@ -16,6 +16,8 @@ pub mod Held
 pub mod Accepted
 -- Lines into a store, whatever they make.
 pub mod IntoStore
+-- Bytes one after another to the front of a buffer.
+pub mod FrontLaws
 -- The reader, the writer and the frame reader.
 pub mod ReaderLaws
 pub mod WriterLaws

@@ -4,11 +4,10 @@ use native.Mathlib.Decide.{decLe}
 use native.Mathlib.Omega.{arith}
 use mathlib.Core.Path.{_≡_, refl, sym, ap, _∙_}
 use mathlib.Core.Bool.{true, false}
-use mathlib.Core.List.{List, [], _∷_, _++_, append-assoc, append-nil, map}
+use mathlib.Core.List.{List, [], _∷_, _++_, map}
 use mathlib.Core.Option.{Option, none, some}
 use lib.Dec.{leb}
-use lib.ListN.{length, getD, take, drop, length-append, length-drop, take-append-drop, drop-of-length-le}
-use lib.Seq.{length-take-le, take-at, drop-at, drop-drop}
+use lib.ListN.{length, getD, take, drop, length-append}
 use borrow.Author.Tests.{le-leb, lt-leb}
 use Rattle.bmap.specs.Plain.{if-else, maybe, flat}
 use Rattle.bmap.specs.Refusal.{Answer, got, refused, then, isGot}
@@ -17,7 +16,6 @@ use Rattle.bmap.specs.Domain.{Domain}
 use Rattle.bmap.specs.Buffer.{over, written}
 use Rattle.bmap.specs.Store.{frameAt, zeros, framesFrom, textOf, domainIn, writeDomain}
 use Rattle.line.specs.Write.{lineWritten}
-use Rattle.line.proofs.Lists.{part-to-end}
 use Rattle.line.proofs.WriteLaws.{length-line}
 use Rattle.domain.specs.Write.{linesFrom, linesIn}
 use Rattle.domain.specs.declared.found.Found.{Found}
@@ -26,6 +24,7 @@ use Rattle.domain.proofs.Stands.{no-more}
 use Rattle.domain.proofs.Held.{cut, Framed}
 use Rattle.domain.proofs.Accepted.{domained, refused-15, found-got, found-not}
 use Rattle.domain.proofs.IntoStore.{lent, renewed, lent-length}
+use Rattle.domain.proofs.FrontLaws.{Fronts, fronts-first, fronts-done, fronts-room, fronts-next}
 
 -- ---- acceptance
 
@@ -119,23 +118,16 @@ module _ (s : List ℕ) (at looks left : ℕ) (h : Enough s at looks) where
 pub record Writes (s text₀ text : List ℕ) (at used : ℕ) : Type 0 where
   pub looks : ℕ
   pub enough : Enough s at looks
-  pub lines : linesIn s ≡ take used text ++ linesFrom looks s at
-  pub kept : drop used text ≡ drop used text₀
-  pub same : length text ≡ length text₀
-  pub inside : used ≤ length text
-  pub room : length (linesIn s) ≤ length text
+  pub front : Fronts (linesIn s) text₀ text used (linesFrom looks s at)
 
 pub writes-first : (s text : List ℕ) → length (linesIn s) ≤ length text → Writes s text text 0 0
 unfolding linesIn
-writes-first s text h = record { looks = suc (length s); enough = fits-start s; lines = refl; kept = refl; same = refl; inside = omega arith; room = h }
+writes-first s text h = record { looks = suc (length s); enough = fits-start s; front = fronts-first (linesIn s) text h }
 
 module _ {s text₀ text : List ℕ} {at used : ℕ} (w : Writes s text₀ text at used) where
   -- the end
   pub writes-done : frameAt s at ≡ none → (used ≡ length (linesIn s)) × (text ≡ over (linesIn s) text₀)
-  writes-done e =
-      let l : linesIn s ≡ take used text = w .lines ∙ ap (λ r. take used text ++ r) (lines-end s at (w .looks) (w .enough) e) ∙ append-nil (take used text) in
-      let n : length (linesIn s) ≡ used = ap length l ∙ length-take-le used text (w .inside) in
-      (sym n, sym (take-append-drop used text) ∙ ap (λ r. take used text ++ r) (w .kept) ∙ ap (λ r. r ++ drop used text₀) (sym l) ∙ ap (λ (k : ℕ). linesIn s ++ drop k text₀) (sym n))
+  writes-done e = fronts-done (w .front) (lines-end s at (w .looks) (w .enough) e)
 
   module _ (size : ℕ) (f : Framed s at size) where
     abbrev line : List ℕ
@@ -144,60 +136,29 @@ module _ {s text₀ text : List ℕ} {at used : ℕ} (w : Writes s text₀ text 
     long : length line ≡ 2 * size + 1
     long = line-length s at (w .looks) (w .enough) size f
 
-    all-lines : linesIn s ≡ (take used text ++ line) ++ linesFrom (w .looks - 1) s (at + size)
-    all-lines =
-        w .lines ∙ ap (λ r. take used text ++ r) (lines-more s at (w .looks) (w .enough) size f)
-        ∙ sym (append-assoc (take used text) line (linesFrom (w .looks - 1) s (at + size)))
+    abbrev after : List ℕ
+    after = linesFrom (w .looks - 1) s (at + size)
 
     -- there is room for the line
     pub writes-room : used + (2 * size + 1) ≤ length text
-    writes-room =
-        omega (
-          arith,
-          w .room,
-          ap length all-lines,
-          length-append (take used text ++ line) (linesFrom (w .looks - 1) s (at + size)),
-          length-append (take used text) line,
-          length-take-le used text (w .inside),
-          long,
-        )
+    writes-room = fronts-room (w .front) line after (2 * size + 1) long (lines-more s at (w .looks) (w .enough) size f)
 
     module _ (p : List ℕ) (e : p ≡ lineWritten (getD s at 0) (take (at + size - (at + 2)) (drop (at + 2) s)) (lent text used) .buffer) where
-      put : p ≡ line ++ drop (length line) (lent text used)
+      put : p ≡ over line (lent text used)
       unfolding lineWritten
       put =
           e
           ∙ rw (
             le-leb (length (take (at + size - (at + 2)) (drop (at + 2) s))) 120 (omega (arith, f .is, f .most)),
-            le-leb (length line) (length (lent text used)) (omega (arith, long, writes-room, lent-length text used (w .inside))),
+            le-leb (length line) (length (lent text used)) (omega (arith, long, writes-room, lent-length text used (w .front .inside))),
           )
 
-      pub writes-renewed : renewed text used p ≡ (take used text ++ line) ++ drop (used + (2 * size + 1)) text
-      writes-renewed =
-          let none-left : drop (length text - used) (drop used text) ≡ [] = drop-of-length-le (drop used text) {i = length text - used} (omega (arith, length-drop used text)) in
-          let part : drop (length line) (lent text used) ≡ drop (used + (2 * size + 1)) text
-          = ap (drop (length line)) (part-to-end text used) ∙ drop-drop (length line) used text ∙ ap (λ k. drop (used + k) text) long in
-          ap (λ r. take used text ++ (p ++ r)) none-left
-          ∙ ap (λ r. take used text ++ r) (append-nil p ∙ put ∙ ap (λ r. line ++ r) part)
-          ∙ sym (append-assoc (take used text) line (drop (used + (2 * size + 1)) text))
-
       pub writes-next : length (renewed text used p) ≡ length text → Writes s text₀ (renewed text used p) (at + size) (used + (2 * size + 1))
-      writes-next same =
-          let n : length (take used text ++ line) ≡ used + (2 * size + 1) = length-append (take used text) line ∙ omega (arith, length-take-le used text (w .inside), long) in
-          record {
-            looks = w .looks - 1;
-            enough = enough-more s at (w .looks) (w .enough) size f;
-            lines =
-                all-lines
-                ∙ ap (λ r. r ++ linesFrom (w .looks - 1) s (at + size))
-                (sym (ap (take (used + (2 * size + 1))) writes-renewed ∙ take-at (take used text ++ line) (drop (used + (2 * size + 1)) text) (used + (2 * size + 1)) n));
-            kept =
-                ap (drop (used + (2 * size + 1))) writes-renewed ∙ drop-at (take used text ++ line) (drop (used + (2 * size + 1)) text) (used + (2 * size + 1)) n
-                ∙ sym (drop-drop (2 * size + 1) used text) ∙ ap (drop (2 * size + 1)) (w .kept) ∙ drop-drop (2 * size + 1) used text₀;
-            same = same ∙ w .same;
-            inside = omega (arith, same, writes-room);
-            room = omega (arith, same, w .room);
-          }
+      writes-next same = record {
+        looks = w .looks - 1;
+        enough = enough-more s at (w .looks) (w .enough) size f;
+        front = fronts-next (w .front) line after (2 * size + 1) long (lines-more s at (w .looks) (w .enough) size f) p put same;
+      }
 
 -- ---- the writer around them
 

@@ -34,7 +34,7 @@ enum-told : tie.Need-enum-told Inv-loop μ-loop
 enum-told c = search needs
 
 same-length : tie.Need-same-length Inv-loop μ-loop
-same-length c = c .before .before .before .loop .inv .same
+same-length c = c .before .before .before .loop .inv .front .same
 
 returns : tie.Need-returns Inv-loop μ-loop
 returns c =
@@ -60,10 +60,10 @@ part-put-line-end : tie.Need-part-put-line-end Inv-loop μ-loop
 part-put-line-end c = let g = good (c .before .before) in omega (arith, g .two, g .within)
 
 sub-put-line-2 : tie.Need-sub-put-line-2 Inv-loop μ-loop
-sub-put-line-2 c = let l = c .before .before .before .before .before .before in omega (arith, l .loop .inv .inside)
+sub-put-line-2 c = let l = c .before .before .before .before .before .before in omega (arith, l .loop .inv .front .inside)
 
 part-put-line-start-2 : tie.Need-part-put-line-start-2 Inv-loop μ-loop
-part-put-line-start-2 c = let l = c .before .before .before .before .before .before in omega (arith, l .loop .inv .inside)
+part-put-line-start-2 c = let l = c .before .before .before .before .before .before in omega (arith, l .loop .inv .front .inside)
 
 part-put-line-end-2 : tie.Need-part-put-line-end-2 Inv-loop μ-loop
 part-put-line-end-2 c = search needs
@@ -81,7 +81,7 @@ add-used-2 : tie.Need-add-used-2 Inv-loop μ-loop
 add-used-2 c =
     let z = c .before .before .before .before .before .before .before in
     let l = z .before .before .before in
-    omega (arith, writes-room (l .loop .inv) (z .size .given .0 .0) (good z), l .loop .inv .same, l .before .before .before .good)
+    omega (arith, writes-room (l .loop .inv) (z .size .given .0 .0) (good z), l .loop .inv .front .same, l .before .before .before .good)
 
 loop-less : tie.Need-loop-less Inv-loop μ-loop
 loop-less c = let g = good (c .before .before .before .before .before .before .before) in omega (arith, g .two, g .within)
@@ -91,7 +91,7 @@ loop-again c =
     let z = c .before .before .before .before .before .before .before in
     let l = z .before .before .before in
     let p = c .before .before .put-line in
-    writes-next (l .loop .inv) (z .size .given .0 .0) (good z) (p .last .1 .1 .0) (p .ensures .1) (length-back (l .loop .text) (p .last .1 .1 .0) (l .loop .used) (l .loop .inv .inside) (p .kept .1 .1 .0))
+    writes-next (l .loop .inv) (z .size .given .0 .0) (good z) (p .last .1 .1 .0) (p .ensures .1) (length-back (l .loop .text) (p .last .1 .1 .0) (l .loop .used) (l .loop .inv .front .inside) (p .kept .1 .1 .0))
 
 pub write-lines-spec : {M : Type 1} → statement M
 write-lines-spec =

@@ -14,8 +14,7 @@ use Rattle.bmap.specs.Limits.{mostPayload}
 use Rattle.bmap.specs.Refusal.{Answer, got, refused, known, then, Reading, read, refusedAt}
 use Rattle.bmap.specs.Line.{Frame, stored}
 use Rattle.bmap.specs.Domain.{Domain, Law}
-use Rattle.bmap.specs.Payload.{byte, scopeKind, lawIn}
-use Rattle.bmap.specs.Accept.{countsOf}
+use Rattle.bmap.specs.Payload.{byte, lawIn}
 use Rattle.bmap.specs.Store.{frameAt, zeros, framesFrom, framesIn, whatWasRead, domainIn}
 use Rattle.bmap.specs.Supplement.{Replacement, replaces, replacementOf, inForceFrom, replaced, kindIn, payloadIn, standsFor, supplementFrom, supplementIn, Where, inDomain, inSupplement, Part, replacementPart}
 use Rattle.bmap.proofs.PlainLaws.{both-true}

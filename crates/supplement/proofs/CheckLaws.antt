@@ -55,22 +55,20 @@ of-executable e = ap hasEntry e
 pub of-effect : {k : ℕ} → k ≡ 0xA6 → hasEntry k ≡ true
 of-effect e = ap hasEntry e
 
--- the kind and the entry that a frame's law has
-abbrev alike : Frame → Frame → Bool
-alike f g = both (eqb (kindIn f) (kindIn g)) (implies (hasEntry (kindIn g)) (eqb (byte (payloadIn f) 0) (byte (payloadIn g) 0)))
+-- whether a frame's law has this kind and, where the kind has one, this entry
+abbrev pub has : Frame → ℕ → ℕ → Bool
+has f kind entry = both (eqb (kindIn f) kind) (implies (hasEntry kind) (eqb (byte (payloadIn f) 0) entry))
 
--- all that stands for the law for which g stands is alike g
-pub stands-alike : (f g : Frame) (l : Law) → standsFor g l ≡ true → alike f g ≡ standsFor f l
+-- what stands for a law has kind and entry of any frame that stands for it
+pub stands-alike : (f g : Frame) (l : Law) → standsFor g l ≡ true → has f (kindIn g) (byte (payloadIn g) 0) ≡ standsFor f l
 stands-alike f g (executable e c) h =
     let t = both-true (eqb (kindIn g) 0xA5) _ h in
-    ap (λ (k : ℕ). both (eqb (kindIn f) k) (implies (hasEntry k) (eqb (byte (payloadIn f) 0) (byte (payloadIn g) 0)))) (eqb-true (kindIn g) 0xA5 (t .0))
-    ∙ ap (λ (x : ℕ). both (eqb (kindIn f) 0xA5) (eqb (byte (payloadIn f) 0) x)) (eqb-true (byte (payloadIn g) 0) e (t .1))
+    ap (λ (k : ℕ). has f k (byte (payloadIn g) 0)) (eqb-true (kindIn g) 0xA5 (t .0)) ∙ ap (has f 0xA5) (eqb-true (byte (payloadIn g) 0) e (t .1))
 stands-alike f g (effect e c x y) h =
     let t = both-true (eqb (kindIn g) 0xA6) _ h in
-    ap (λ (k : ℕ). both (eqb (kindIn f) k) (implies (hasEntry k) (eqb (byte (payloadIn f) 0) (byte (payloadIn g) 0)))) (eqb-true (kindIn g) 0xA6 (t .0))
-    ∙ ap (λ (z : ℕ). both (eqb (kindIn f) 0xA6) (eqb (byte (payloadIn f) 0) z)) (eqb-true (byte (payloadIn g) 0) e (t .1))
+    ap (λ (k : ℕ). has f k (byte (payloadIn g) 0)) (eqb-true (kindIn g) 0xA6 (t .0)) ∙ ap (has f 0xA6) (eqb-true (byte (payloadIn g) 0) e (t .1))
 stands-alike f g (must s c) h =
-    ap (λ (k : ℕ). both (eqb (kindIn f) k) (implies (hasEntry k) (eqb (byte (payloadIn f) 0) (byte (payloadIn g) 0)))) (eqb-true (kindIn g) (scopeKind s) h)
+    ap (λ (k : ℕ). has f k (byte (payloadIn g) 0)) (eqb-true (kindIn g) (scopeKind s) h)
     ∙ ap (λ (b : Bool). both (eqb (kindIn f) (scopeKind s)) (implies b (eqb (byte (payloadIn f) 0) (byte (payloadIn g) 0)))) (no-entry s)
     ∙ both-end (eqb (kindIn f) (scopeKind s))
 
@@ -85,7 +83,7 @@ stands-itself n g l e = go (law-form n (kindIn g) (payloadIn g) l e)
 
 -- by a law's kind and payload
 pub stands-by : (n : Counts) (kind : ℕ) (p : List ℕ) (f : Frame) (l : Law) → lawIn n kind p ≡ some l
-    → both (eqb (kindIn f) kind) (implies (hasEntry kind) (eqb (byte (payloadIn f) 0) (byte p 0))) ≡ standsFor f l
+    → has f kind (byte p 0) ≡ standsFor f l
 stands-by n kind p f l e =
     let g : Frame = record { kind = supplementKind; payload = 0 ∷ kind ∷ p } in
     stands-alike f g l (stands-itself n g l e)

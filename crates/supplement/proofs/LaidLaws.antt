@@ -6,28 +6,25 @@ use mathlib.Core.Path.{_≡_, refl, sym, ap, _∙_}
 use mathlib.Core.Bool.{Bool, true, false}
 use mathlib.Core.List.{List, [], _∷_, _++_, append-assoc, append-nil, map, map-map}
 use mathlib.Core.Option.{Option, none, some}
-use lib.Dec.{eqb}
-use lib.ListN.{length, take, replicate, length-append}
+use lib.Dec.{ltb}
+use lib.ListN.{length, getD, take, replicate, length-append}
 use lib.Seq.{take-append-seam}
-use borrow.Author.Tests.{eqb-true, eq-eqb, ne-eqb, le-leb}
-use Rattle.bmap.specs.Plain.{both, either, implies, maybe, any, flat, numbers}
+use borrow.Author.Tests.{eq-eqb, ne-eqb, le-leb}
+use Rattle.bmap.specs.Plain.{either, if-else, maybe, any, flat, numbers}
 use Rattle.bmap.specs.Limits.{supplementSize}
-use Rattle.bmap.specs.Refusal.{Answer, got, refused, known, then, Reading, read, atLine}
+use Rattle.bmap.specs.Refusal.{Answer, got, refused, need, known, then, Reading, read, atLine}
 use Rattle.bmap.specs.Line.{Frame, stored}
-use Rattle.bmap.specs.Domain.{Domain, Law, executable, effect, must}
-use Rattle.bmap.specs.Payload.{byte, scopeKind, lawIn}
+use Rattle.bmap.specs.Domain.{Domain, Law}
 use Rattle.bmap.specs.Accept.{countsOf}
 use Rattle.bmap.specs.Buffer.{padded, Written}
 use Rattle.bmap.specs.Store.{framesIn, whatWasRead, domainIn}
-use Rattle.bmap.specs.Supplement.{Replacement, replaces, replacementOf, numberIn, kindIn, payloadIn, replaced, lawNumbered, standsFor, replacementIn, supplementFrom, supplementIn}
+use Rattle.bmap.specs.Supplement.{Replacement, replaces, replacementOf, numberIn, payloadIn, replaced, lawNumbered, standsFor, replacementIn, supplementFrom, supplementIn, inSupplement, Part, lawParts, replacementPart, noPart, lawInForce}
 use Rattle.bmap.specs.Laying.{listed, byNumber, ordered, winning, laid, bytesOf, laySupplements, orderSupplement}
 use Rattle.bmap.specs.Theorems.{Supplements, Lays, LaidAccepted}
-use Rattle.bmap.specs.declared.limits.Counts.{Counts}
-use Rattle.bmap.proofs.PlainLaws.{both-true, both-end}
 use Rattle.index.specs.Index.{lawNumber, noLaw}
 use Rattle.domain.proofs.Rows.{any-snoc}
+use Rattle.domain.proofs.Accepted.{domained}
 use Rattle.domain.proofs.RoundTrip.{Fines, no-frames, and-frame, frames-back}
-use Rattle.supplement.specs.Check.{hasEntry}
 use Rattle.supplement.proofs.OverLaws.{gives}
 use Rattle.supplement.proofs.CheckLaws.{stands-alike, stands-itself, numbered-none, numbered-some}
 use Rattle.supplement.proofs.Passes.{Fits, FoundFits, found-fits, frames}
@@ -127,6 +124,10 @@ module _ (d : Domain) (supplement : List ℕ) (s : List Replacement) (e : supple
 
   pub short-in : length (r .frame .payload) ≤ 120
   short-in = stood supplement n r (suc (length supplement)) 0 s (there .frames-there) (there .are) (there .all .frames-are) q .1 .1 .short
+
+  -- no domain has more laws
+  pub low-in : (store : List ℕ) → domainIn store ≡ got d → n < 128
+  low-in store g = omega (arith, fits-in .has, fits-in .fits .number, domained store d g .all .stands .few .laws)
 
 -- ---- ordered
 
@@ -245,3 +246,49 @@ module _ (d : Domain) (supplement : List ℕ) (l : List Replacement) (e : supple
       go : (o : Option (List Frame)) → known 15 (maybe o none (λ fs. whatWasRead (supplementFrom (replaced l d) [] (map got fs)))) ≡ known 15 (maybe o none (λ fs. whatWasRead (supplementFrom d [] (map got fs))))
       go none = refl
       go (some fs) = ap (λ (r : Reading (List Replacement)). known 15 (whatWasRead r)) (read-alike (map got fs) [])
+
+-- ---- the law that is handed out hangs on the number's replacement
+
+-- the bytes of its part
+part-bytes : (at : ℕ) (s : List Replacement) (n : ℕ) (own : Part) → maybe (replacementPart at s n) own (λ p. p) .bytes ≡ maybe (replacementOf s n) (own .bytes) (λ r. payloadIn (r .frame))
+unfolding replacementPart replacementOf
+part-bytes at [] n own = refl
+part-bytes at (r ∷ s) n own = go (gives n r) (part-bytes (at + length (stored (r .frame))) s n own)
+  where
+    go : (b : Bool)
+        → maybe (replacementPart (at + length (stored (r .frame))) s n) own (λ p. p) .bytes ≡ maybe (replacementOf s n) (own .bytes) (λ q. payloadIn (q .frame))
+        → maybe (if-else b (some (record { stands = inSupplement (at + 4); bytes = payloadIn (r .frame) })) (replacementPart (at + length (stored (r .frame))) s n)) own (λ p. p) .bytes
+        ≡ maybe (if-else b (some r) (replacementOf s n)) (own .bytes) (λ q. payloadIn (q .frame))
+    go true rec = refl
+    go false rec = rec
+
+abbrev pub bytesAsked : List ℕ → List ℕ → ℕ → Answer (List ℕ)
+bytesAsked store supplement n = then (lawInForce store supplement n) (λ p. got (p .bytes))
+
+module _ (store : List ℕ) (d : Domain) (g : domainIn store ≡ got d) (n : ℕ) where
+  asked-is : (supplement : List ℕ) (s : List Replacement) → supplementIn d supplement ≡ got s
+      → bytesAsked store supplement n ≡ need (ltb n (length (d .laws))) 20 (got (maybe (replacementOf s n) (getD (maybe (framesIn store) [] (lawParts 0)) n noPart .bytes) (λ r. payloadIn (r .frame))))
+  unfolding lawInForce
+  asked-is supplement s e = rw (g, e) (go (ltb n (length (d .laws))))
+    where
+      own : Part
+      own = getD (maybe (framesIn store) [] (lawParts 0)) n noPart
+
+      go : (b : Bool) → then (need b 20 (got (maybe (replacementPart 0 s n) own (λ p. p)))) (λ p. got (p .bytes)) ≡ need b 20 (got (maybe (replacementOf s n) (own .bytes) (λ r. payloadIn (r .frame))))
+      go true = ap got (part-bytes 0 s n own)
+      go false = refl
+
+  -- two that have the same replacement of a number hand out the same law
+  pub asked-alike : (supplement other : List ℕ) (s t : List Replacement) → supplementIn d supplement ≡ got s → supplementIn d other ≡ got t → replacementOf s n ≡ replacementOf t n
+      → bytesAsked store supplement n ≡ bytesAsked store other n
+  asked-alike supplement other s t e f q =
+      asked-is supplement s e
+      ∙ ap (λ (o : Option Replacement). need (ltb n (length (d .laws))) 20 (got (maybe o (getD (maybe (framesIn store) [] (lawParts 0)) n noPart .bytes) (λ r. payloadIn (r .frame))))) q
+      ∙ sym (asked-is other t f)
+
+-- so ordering changes no law that is handed out
+pub ordered-asked : (store supplement result : List ℕ) (d : Domain) (s : List Replacement) → domainIn store ≡ got d → supplementIn d supplement ≡ got s → supplementSize ≤ length result
+    → ((n : ℕ) → replacementOf (ordered s) n ≡ replacementOf s n)
+    → (n : ℕ) → bytesAsked store (orderSupplement store supplement result .buffer) n ≡ bytesAsked store supplement n
+ordered-asked store supplement result d s g e h same n =
+    asked-alike store d g n (orderSupplement store supplement result .buffer) supplement (ordered s) s (ordered-whole store supplement result d s g e h) e (same n)

@@ -255,7 +255,7 @@ pub data Spells : List Frame → Type 0 where
   none-spelt : Spells []
   and-spelt : {f : Frame} {fs : List Frame} → Spelt f → Spells fs → Spells (f ∷ fs)
 
--- its bytes stand from its place on
+-- a frame's bytes stand from its place on
 pub frame-off : (s : List ℕ) (at : ℕ) (f : Frame) → Here s at f → drop at s ≡ stored f ++ drop (at + length (stored f)) s
 frame-off s at f h =
     let n = length (f .payload) in

@@ -1,4 +1,5 @@
--- What is laid, or only ordered, is again a supplement that the domain accepts. Assumes nothing.
+-- What is laid, or only ordered, is again a supplement that the domain accepts; the domain with laws replaced accepts the same ones; the
+-- law that is handed out hangs on its number's replacement alone. Assumes nothing.
 use Prim.Native.Nat.{ℕ, zero, suc, _+_, _-_, _*_, _≤_, _<_}
 use native.Mathlib.Decide.{decLt}
 use native.Mathlib.Omega.{arith}
@@ -47,7 +48,7 @@ taken d earlier r f new =
 -- ---- what was found of each number
 
 -- of so many numbers from one on
-abbrev from : (ℕ → Option Replacement) → ℕ → ℕ → List Replacement
+abbrev pub from : (ℕ → Option Replacement) → ℕ → ℕ → List Replacement
 from found i n = flat (map (λ k. listed (found k)) (numbers i n))
 
 -- none of these has this number or a higher one
@@ -99,19 +100,20 @@ module _ (d : Domain) (found : ℕ → Option Replacement) (fit : (n : ℕ) (r :
         rw (bytes, frames-back (frames s) zeros (fines-from 128 0))
         (ap (λ (r : Reading (List Replacement)). known 15 (whatWasRead r)) reads-found)
 
-    bytes-from : (n i : ℕ) → length (bytesOf (from found i n)) ≤ n * 122
-    unfolding flat numbers
-    bytes-from zero i = omega arith
-    bytes-from (suc n) i = go (found i) refl (bytes-from n (suc i))
-      where
-        go : (o : Option Replacement) → found i ≡ o → length (bytesOf (from found (suc i) n)) ≤ n * 122 → length (bytesOf (listed o ++ from found (suc i) n)) ≤ suc n * 122
-        go none q rec = omega arith
-        go (some r) q rec = omega (arith, short i r q, length-append (stored (r .frame)) (bytesOf (from found (suc i) n)))
+-- it has few enough bytes for any buffer
+module _ (found : ℕ → Option Replacement) (short : (n : ℕ) (r : Replacement) → found n ≡ some r → length (r .frame .payload) ≤ 120) where
+  pub few-from : (n i : ℕ) → length (bytesOf (from found i n)) ≤ n * 122
+  unfolding flat numbers
+  few-from zero i = omega arith
+  few-from (suc n) i = go (found i) refl (few-from n (suc i))
+    where
+      go : (o : Option Replacement) → found i ≡ o → length (bytesOf (from found (suc i) n)) ≤ n * 122 → length (bytesOf (listed o ++ from found (suc i) n)) ≤ suc n * 122
+      go none q rec = omega arith
+      go (some r) q rec = omega (arith, short i r q, length-append (stored (r .frame)) (bytesOf (from found (suc i) n)))
 
-    -- which are few enough for any buffer
-    pub few-found : length (bytesOf (byNumber found)) ≤ 128 * 122
-    unfolding byNumber
-    few-found = bytes-from 128 0
+  pub few-found : length (bytesOf (byNumber found)) ≤ 128 * 122
+  unfolding byNumber
+  few-found = few-from 128 0
 
 -- ---- what an accepted supplement has of a number
 
@@ -168,7 +170,7 @@ module _ (d : Domain) (lower upper : List ℕ) (l u : List Replacement) (below :
 
   pub few-laid : length (bytesOf (laid l u)) ≤ supplementSize
   unfolding laid
-  few-laid = omega (arith, few-found d (winning l u) fits-won short-won)
+  few-laid = omega (arith, few-found (winning l u) short-won)
 
 pub laid-result : (store lower upper result : List ℕ) (d : Domain) (l u : List Replacement) → Supplements store lower upper d l u → supplementSize ≤ length result
     → laySupplements store lower upper result ≡ record { answer = got (length (bytesOf (laid l u))); buffer = padded (length result) (bytesOf (laid l u)) }

@@ -136,7 +136,7 @@ module _ (store supplement laws : List ℕ) (s : List Replacement) (n : ℕ) (fe
 abbrev partIn : List ℕ → List Replacement → ℕ → Part
 partIn store s n = maybe (replacementPart 0 s n) (getD (maybe (framesIn store) [] (lawParts 0)) n noPart) (λ part. part)
 
-then-refused : {A B C : Type 0} (a : Answer A) (f : A → Answer B) (g : A → B → Answer C) (m : ℕ) → then a f ≡ refused m → then a (λ x. then (f x) (g x)) ≡ refused m
+pub then-refused : {A B C : Type 0} (a : Answer A) (f : A → Answer B) (g : A → B → Answer C) (m : ℕ) → then a f ≡ refused m → then a (λ x. then (f x) (g x)) ≡ refused m
 then-refused (refused k) f g m e = let z : k ≡ m = cc in ap refused z
 then-refused (got x) f g m e = ap (λ b. then b (g x)) e
 

@@ -12,8 +12,10 @@ pub mod Accepted
 pub mod ReaderLaws
 -- THERE AND BACK: lines to a store, and its frames to lines.
 pub mod RoundTrip
--- One supplement laid over another.
+-- One supplement laid over another: the frames put, and that the result is accepted.
+pub mod PuttingLaws
 pub mod LaidLaws
+pub mod LayLaws
 -- What document 02 asks for.
 pub mod BoundLaws
 pub mod EmptyLaws

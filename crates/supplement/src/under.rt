@@ -45,7 +45,7 @@ fn refused(index: Index) -> Under
 }
 
 // By the domain's index: one look at each frame.
-fn places_of(store: &[u8], index: Index, supplement: &[u8]) -> Under
+pub(crate) fn places_of(store: &[u8], index: Index, supplement: &[u8]) -> Under
     requires { ⌜ Sound (now store) index ⌝ }
     ensures { λ r. ⌜ r ≡ underOf index (supplementIn (domainOf (now (store .entry)) index) (now (supplement .entry))) ⌝ }
 {

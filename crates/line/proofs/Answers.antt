@@ -10,6 +10,10 @@ module _ {A B C : Type 0} where
   then-then (got a) f g = refl
   then-then (refused n) f g = refl
 
+pub then-same : {A B : Type 0} (y : Answer A) (f g : A → Answer B) → ((a : A) → f a ≡ g a) → then y f ≡ then y g
+then-same (got a) f g same = same a
+then-same (refused n) f g same = refl
+
 pub need-refused : {A : Type 0} (b : Bool) (n : ℕ) → need {A = A} b n (refused n) ≡ refused n
 need-refused true n = refl
 need-refused false n = refl

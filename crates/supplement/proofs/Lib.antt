@@ -20,4 +20,6 @@ pub mod LayLaws
 pub mod BoundLaws
 pub mod EmptyLaws
 pub mod JudgedLaws
+pub mod WithinLaws
+pub mod LayingTheorems
 pub mod Theorems

@@ -1,4 +1,4 @@
--- What is laid, or only ordered, is again a supplement that the domain accepts; the domain with laws replaced accepts the same ones; the
+-- What is laid is again a supplement that the domain accepts; the domain with laws replaced accepts the same ones; the
 -- law that is handed out hangs on its number's replacement alone. Assumes nothing.
 use Prim.Native.Nat.{ℕ, zero, suc, _+_, _-_, _*_, _≤_, _<_}
 use native.Mathlib.Decide.{decLt}
@@ -20,11 +20,11 @@ use Rattle.bmap.specs.Accept.{countsOf}
 use Rattle.bmap.specs.Buffer.{padded, Written}
 use Rattle.bmap.specs.Store.{framesIn, whatWasRead, domainIn}
 use Rattle.bmap.specs.Supplement.{Replacement, replaces, replacementOf, numberIn, payloadIn, replaced, lawNumbered, standsFor, replacementIn, supplementFrom, supplementIn, inSupplement, Part, lawParts, replacementPart, noPart, lawInForce}
-use Rattle.bmap.specs.Laying.{listed, byNumber, ordered, winning, laid, bytesOf, laySupplements, orderSupplement}
+use Rattle.bmap.specs.Laying.{listed, byNumber, winning, laid, bytesOf, laySupplements}
 use Rattle.bmap.specs.Theorems.{Supplements, Lays, LaidAccepted}
 use Rattle.index.specs.Index.{lawNumber, noLaw}
+use Rattle.theorems.proofs.ByNumberLaws.{from}
 use Rattle.domain.proofs.Rows.{any-snoc}
-use Rattle.domain.proofs.Accepted.{domained}
 use Rattle.domain.proofs.RoundTrip.{Fines, no-frames, and-frame, frames-back}
 use Rattle.supplement.proofs.OverLaws.{gives}
 use Rattle.supplement.proofs.CheckLaws.{stands-alike, stands-itself, numbered-none, numbered-some}
@@ -46,10 +46,6 @@ taken d earlier r f new =
     )
 
 -- ---- what was found of each number
-
--- of so many numbers from one on
-abbrev pub from : (ℕ → Option Replacement) → ℕ → ℕ → List Replacement
-from found i n = flat (map (λ k. listed (found k)) (numbers i n))
 
 -- none of these has this number or a higher one
 abbrev Below : ℕ → List Replacement → Type 0
@@ -128,26 +124,6 @@ module _ (d : Domain) (supplement : List ℕ) (s : List Replacement) (e : supple
   short-in = stood supplement n r (suc (length supplement)) 0 s (there .frames-there) (there .are) (there .all .frames-are) q .1 .1 .short
 
   -- no domain has more laws
-  pub low-in : (store : List ℕ) → domainIn store ≡ got d → n < 128
-  low-in store g = omega (arith, fits-in .has, fits-in .fits .number, domained store d g .all .stands .few .laws)
-
--- ---- ordered
-
-module _ (d : Domain) (supplement : List ℕ) (s : List Replacement) (e : supplementIn d supplement ≡ got s) where
-  pub accepts-ordered : (zeros : ℕ) → supplementIn d (bytesOf (ordered s) ++ replicate zeros 0) ≡ got (ordered s)
-  unfolding ordered
-  accepts-ordered = accepts-found d (replacementOf s) (fits-in d supplement s e) (short-in d supplement s e)
-
-pub ordered-result : (store supplement result : List ℕ) (d : Domain) (s : List Replacement) → domainIn store ≡ got d → supplementIn d supplement ≡ got s → supplementSize ≤ length result
-    → orderSupplement store supplement result ≡ record { answer = got (length (bytesOf (ordered s))); buffer = padded (length result) (bytesOf (ordered s)) }
-unfolding orderSupplement
-ordered-result store supplement result d s g e h = rw (le-leb supplementSize (length result) h, g, e)
-
--- the result of ordering is accepted as what is ordered
-pub ordered-whole : (store supplement result : List ℕ) (d : Domain) (s : List Replacement) → domainIn store ≡ got d → supplementIn d supplement ≡ got s → supplementSize ≤ length result
-    → supplementIn d (orderSupplement store supplement result .buffer) ≡ got (ordered s)
-ordered-whole store supplement result d s g e h =
-    ap (λ (w : Written). supplementIn d (w .buffer)) (ordered-result store supplement result d s g e h) ∙ accepts-ordered d supplement s e (length result - length (bytesOf (ordered s)))
 
 -- ---- laid
 
@@ -178,8 +154,8 @@ unfolding laySupplements
 laid-result store lower upper result d l u s h = rw (le-leb supplementSize (length result) h, s .domain, s .below, s .above)
 
 -- the result of laying is accepted as what is laid, whole and cut to the bytes used
-pub laid-accepted : ((store lower upper : List ℕ) (d : Domain) (l u : List Replacement) → Supplements store lower upper d l u → Lays l u (laid l u)) → LaidAccepted
-laid-accepted lays store lower upper result d l u s h =
+pub laid-again : ((store lower upper : List ℕ) (d : Domain) (l u : List Replacement) → Supplements store lower upper d l u → Lays l u (laid l u)) → LaidAccepted
+laid-again lays store lower upper result d l u s h =
     let is = laid-result store lower upper result d l u s h in
     let bytes = bytesOf (laid l u) in
     let zeros = length result - length bytes in
@@ -287,10 +263,3 @@ module _ (store : List ℕ) (d : Domain) (g : domainIn store ≡ got d) (n : ℕ
       asked-is supplement s e
       ∙ ap (λ (o : Option Replacement). need (ltb n (length (d .laws))) 20 (got (maybe o (getD (maybe (framesIn store) [] (lawParts 0)) n noPart .bytes) (λ r. payloadIn (r .frame))))) q
       ∙ sym (asked-is other t f)
-
--- so ordering changes no law that is handed out
-pub ordered-asked : (store supplement result : List ℕ) (d : Domain) (s : List Replacement) → domainIn store ≡ got d → supplementIn d supplement ≡ got s → supplementSize ≤ length result
-    → ((n : ℕ) → replacementOf (ordered s) n ≡ replacementOf s n)
-    → (n : ℕ) → bytesAsked store (orderSupplement store supplement result .buffer) n ≡ bytesAsked store supplement n
-ordered-asked store supplement result d s g e h same n =
-    asked-alike store d g n (orderSupplement store supplement result .buffer) supplement (ordered s) s (ordered-whole store supplement result d s g e h) e (same n)

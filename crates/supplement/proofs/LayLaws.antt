@@ -2,15 +2,15 @@
 use Prim.Native.Nat.{ℕ, zero, suc, _+_, _≤_, _<_}
 use native.Mathlib.Omega.{arith}
 use mathlib.Core.Path.{_≡_, refl, sym, ap, _∙_}
-use mathlib.Core.Bool.{Bool, true, false}
-use mathlib.Core.List.{List, [], _∷_, _++_, append-assoc, append-nil, map}
+use mathlib.Core.Bool.{true, false}
+use mathlib.Core.List.{List, [], _∷_, _++_, append-nil, map}
 use mathlib.Core.Option.{Option, none, some}
 use lib.ListN.{length, getD, take, drop}
 use lib.Seq.{take-at}
 use borrow.Author.Tests.{lt-leb, le-leb}
 use Rattle.bmap.specs.Plain.{maybe, flat, numbers}
 use Rattle.bmap.specs.Limits.{supplementSize}
-use Rattle.bmap.specs.Refusal.{Answer, got, refused, need, then}
+use Rattle.bmap.specs.Refusal.{Answer, got, refused, then}
 use Rattle.bmap.specs.Line.{stored}
 use Rattle.bmap.specs.Domain.{Domain}
 use Rattle.bmap.specs.Buffer.{padded, over}
@@ -18,6 +18,7 @@ use Rattle.bmap.specs.Store.{domainIn}
 use Rattle.bmap.specs.Supplement.{Replacement, replacementOf, supplementIn}
 use Rattle.bmap.specs.Laying.{listed, byNumber, winning, laid, bytesOf, bothLaid, laySupplements}
 use Rattle.bmap.specs.Theorems.{Supplements}
+use Rattle.theorems.proofs.ByNumberLaws.{from}
 use Rattle.index.specs.declared.Index.{Index}
 use Rattle.index.specs.Index.{domainOf}
 use Rattle.supplement.specs.declared.under.Under.{Under}
@@ -27,7 +28,7 @@ use Rattle.supplement.specs.Laid.{frameWith, winner, winnerOf, framesLai
 use Rattle.supplement.proofs.Accepted.{over-none, frame-over, supplement-15, UnderIs, under-none}
 use Rattle.supplement.proofs.ForceLaws.{then-refused}
 use Rattle.supplement.proofs.PuttingLaws.{no-frame-with, frame-with, lower-wins, upper-wins}
-use Rattle.supplement.proofs.LaidLaws.{from, few-laid, laid-result}
+use Rattle.supplement.proofs.LaidLaws.{few-laid, laid-result}
 
 -- ---- the frame of a law number, by the place of its count
 

@@ -1,31 +1,28 @@
 -- K8: what document 02 asks to be shown of laying, of stores, from what is so of lists of replacements. Assumes nothing.
-use Prim.Native.Nat.{ℕ, _+_, _≤_}
+use Prim.Native.Nat.{ℕ, _≤_}
 use native.Mathlib.Omega.{arith}
 use mathlib.Core.Path.{_≡_, refl, sym, ap, _∙_}
-use mathlib.Core.Bool.{Bool, true, false}
-use mathlib.Core.List.{List, [], _∷_}
-use mathlib.Core.Option.{Option, some}
-use lib.Dec.{eqb, leb, ltb}
+use mathlib.Core.List.{List, []}
+use lib.Dec.{leb}
 use lib.IntN.{ℤ}
-use lib.ListN.{length, getD, replicate}
+use lib.ListN.{length, replicate}
 use borrow.Author.Tests.{leb-true}
-use Rattle.bmap.specs.Plain.{if-else, maybe}
 use Rattle.bmap.specs.Limits.{supplementSize, levelsSize}
 use Rattle.bmap.specs.Refusal.{Answer, got, refused, need, then}
-use Rattle.bmap.specs.Line.{stored}
 use Rattle.bmap.specs.Domain.{Domain}
 use Rattle.bmap.specs.Buffer.{Written}
-use Rattle.bmap.specs.Store.{framesIn, domainIn}
+use Rattle.bmap.specs.Store.{domainIn}
 use Rattle.bmap.specs.Sheet.{sheetOf}
 use Rattle.bmap.specs.Judge.{judge}
 use Rattle.bmap.specs.Verdict.{Judgement, judgement}
-use Rattle.bmap.specs.Supplement.{Replacement, replaces, replacementOf, payloadIn, replaced, supplementIn, judgeUnder, inSupplement, Part, lawParts, replacementPart, noPart, lawInForce}
+use Rattle.bmap.specs.Supplement.{Replacement, replaced, supplementIn, judgeUnder}
 use Rattle.bmap.specs.Laying.{ordered, laid, intoResult, laySupplements, orderSupplement}
 use Rattle.bmap.specs.Theorems.{Supplements, LaidAccepted, OrderedOrders, LayingAssociates, EmptyOnlyOrders, OverItself, ApartCommutes, JudgedUnderBoth}
 use Rattle.line.proofs.Answers.{then-same, need-got, then-got-inv}
-use Rattle.theorems.proofs.LayingLaws.{laid-associates, laid-empty, laid-itself, laid-apart, ordered-keeps, rising-ordered, replaced-ordered, replaced-laid}
+use Rattle.theorems.proofs.LayingLaws.{laid-associates, laid-empty, laid-itself, laid-apart, laid-lays, ordered-keeps, rising-ordered, replaced-ordered, replaced-laid}
 use Rattle.supplement.proofs.EmptyLaws.{zeros-accepted}
 use Rattle.supplement.proofs.WithinLaws.{few-laws, accepted-within}
+use Rattle.supplement.proofs.LaidLaws.{laid-again, accepts-alike, asked-alike}
 
 -- ---- what a call answers, by the replacements
 
@@ -95,30 +92,6 @@ judged-under : (store supplement : List ℕ) (d : Domain) (s : List Replacement)
 unfolding judgeUnder
 judged-under store supplement d s g e sheet levels = rw (g, e) refl
 
--- the bytes of a law that is handed out are those of the replacement, where there is one
-part-bytes : (at : ℕ) (s : List Replacement) (n : ℕ) (own : Part) → maybe (replacementPart at s n) own (λ p. p) .bytes ≡ maybe (replacementOf s n) (own .bytes) (λ r. payloadIn (r .frame))
-unfolding replacementPart replacementOf
-part-bytes at [] n own = refl
-part-bytes at (r ∷ s) n own = go (eqb (replaces r) n) (part-bytes (at + length (stored (r .frame))) s n own)
-  where
-    go : (t : Bool) → maybe (replacementPart (at + length (stored (r .frame))) s n) own (λ p. p) .bytes ≡ maybe (replacementOf s n) (own .bytes) (λ r. payloadIn (r .frame))
-        → maybe (if-else t (some (record { stands = inSupplement (at + 4); bytes = payloadIn (r .frame) })) (replacementPart (at + length (stored (r .frame))) s n)) own (λ p. p) .bytes
-        ≡ maybe (if-else t (some r) (replacementOf s n)) (own .bytes) (λ r. payloadIn (r .frame))
-    go true h = refl
-    go false h = h
-
-abbrev bytesInForce : List ℕ → Domain → ℕ → Option Replacement → Answer (List ℕ)
-bytesInForce store d n o = need (ltb n (length (d .laws))) 20 (got (maybe o (getD (maybe (framesIn store) [] (lawParts 0)) n noPart .bytes) (λ r. payloadIn (r .frame))))
-
-asked-of : (store supplement : List ℕ) (d : Domain) (s : List Replacement) → domainIn store ≡ got d → supplementIn d supplement ≡ got s → (n : ℕ)
-    → then (lawInForce store supplement n) (λ p. got (p .bytes)) ≡ bytesInForce store d n (replacementOf s n)
-unfolding lawInForce
-asked-of store supplement d s g e n = rw (g, e) (go (ltb n (length (d .laws))) (getD (maybe (framesIn store) [] (lawParts 0)) n noPart))
-  where
-    go : (t : Bool) (own : Part) → then (need t 20 (got (maybe (replacementPart 0 s n) own (λ p. p)))) (λ p. got (p .bytes)) ≡ need t 20 (got (maybe (replacementOf s n) (own .bytes) (λ r. payloadIn (r .frame))))
-    go true own = ap got (part-bytes 0 s n own)
-    go false own = refl
-
 -- a call that lays had both accepted, and room
 record Answered (store lower upper result : List ℕ) : Type 0 where
   d : Domain
@@ -143,57 +116,58 @@ answered store lower upper result m e =
 
 -- ---- of what is accepted again
 
-module _ (laid-accepted : LaidAccepted) where
-  -- THEOREM. What ordering is, and that it changes no law in force.
-  pub ordered-orders : OrderedOrders
-  ordered-orders store supplement result d s g e room =
-      let same = ordered-keeps s (accepted-within store supplement d s g e) in
-      let laws = replaced-ordered s d (few-laws store d g) in
-      let whole : supplementIn d (orderSupplement store supplement result .buffer) ≡ got (ordered s)
-      = ap (λ (w : Written). supplementIn d (w .buffer)) (sym (over-itself .calls store supplement result))
-      ∙ laid-accepted store supplement supplement result d s s (record { domain = g; below = e; above = e }) room .whole ∙ ap got (laid-itself s) in
-      record {
-        same = same;
-        rising = rising-ordered s;
-        laws = laws;
-        whole = whole;
-        asked = λ n.
-            asked-of store (orderSupplement store supplement result .buffer) d (ordered s) g whole n
-            ∙ ap (bytesInForce store d n) (same n)
-            ∙ sym (asked-of store supplement d s g e n);
-        judged = λ sheet levels.
-            judged-under store (orderSupplement store supplement result .buffer) d (ordered s) g whole sheet levels
-            ∙ ap (λ (x : Domain). judgedBy (d .agents) x sheet levels) laws
-            ∙ sym (judged-under store supplement d s g e sheet levels);
-      }
+-- THEOREM. What is laid is again a supplement that the domain accepts.
+pub laid-accepted : LaidAccepted
+laid-accepted = laid-again (λ store lower upper d l u both.
+    laid-lays l u (accepted-within store lower d l (both .domain) (both .below)) (accepted-within store upper d u (both .domain) (both .above)))
 
-  -- THEOREM. "laying three gives the same whichever pair is laid first".
-  pub laying-associates : LayingAssociates
-  laying-associates = record {
-    supplements = laid-associates;
-    calls = λ store a b c first second result m n one two.
-        let x = answered store a b first m one in
-        let y = answered store b c second n two in
-        let same : y .d ≡ x .d = (let z = sym (y .both .domain) ∙ x .both .domain in cc) in
-        let above : supplementIn (x .d) c ≡ got (y .u) = ap (λ (d : Domain). supplementIn d c) (sym same) ∙ y .both .above in
-        let lower = laid-accepted store a b first (x .d) (x .l) (x .u) (x .both) (x .room) .whole in
-        let upper = laid-accepted store b c second (x .d) (x .u) (y .u) (record { domain = x .both .domain; below = x .both .above; above = above }) (y .room) .whole in
-        both-laid result (record { domain = x .both .domain; below = lower; above = above })
-        ∙ ap (λ (s : List Replacement). left result (got s)) (laid-associates (x .l) (x .u) (y .u))
-        ∙ sym (both-laid result (record { domain = x .both .domain; below = x .both .below; above = upper }));
-  }
+-- THEOREM. What ordering is, and that it changes no law in force.
+pub ordered-orders : OrderedOrders
+ordered-orders store supplement result d s g e room =
+    let same = ordered-keeps s (accepted-within store supplement d s g e) in
+    let laws = replaced-ordered s d (few-laws store d g) in
+    let whole : supplementIn d (orderSupplement store supplement result .buffer) ≡ got (ordered s)
+    = ap (λ (w : Written). supplementIn d (w .buffer)) (sym (over-itself .calls store supplement result))
+    ∙ laid-accepted store supplement supplement result d s s (record { domain = g; below = e; above = e }) room .whole ∙ ap got (laid-itself s) in
+    record {
+      same = same;
+      rising = rising-ordered s;
+      laws = laws;
+      whole = whole;
+      asked = λ n.
+          asked-alike store d g n (orderSupplement store supplement result .buffer) supplement (ordered s) s whole e (same n);
+      judged = λ sheet levels.
+          judged-under store (orderSupplement store supplement result .buffer) d (ordered s) g whole sheet levels
+          ∙ ap (λ (x : Domain). judgedBy (d .agents) x sheet levels) laws
+          ∙ sym (judged-under store supplement d s g e sheet levels);
+    }
 
-  -- THEOREM. "Judging a domain under the combined supplement equals judging the domain, first replaced by the lower and then by the
-  -- upper": where a supplement that the domain accepts changes nothing in what it accepts.
-  pub judged-under-both : ((d : Domain) (lower : List ℕ) (l : List Replacement) → supplementIn d lower ≡ got l → (other : List ℕ) → supplementIn (replaced l d) other ≡ supplementIn d other)
-      → JudgedUnderBoth
-  judged-under-both alike store lower upper result d l u both room =
-      let laws = replaced-laid l u d (few-laws store d (both .domain)) in
-      let whole = laid-accepted store lower upper result d l u both room .whole in
-      record {
-        alike = alike d lower l (both .below);
-        laws = laws;
-        judged = λ sheet levels.
-            judged-under store (laySupplements store lower upper result .buffer) d (laid l u) (both .domain) whole sheet levels
-            ∙ ap (λ (x : Domain). judgedBy (d .agents) x sheet levels) laws;
-      }
+-- THEOREM. "laying three gives the same whichever pair is laid first".
+pub laying-associates : LayingAssociates
+laying-associates = record {
+  supplements = laid-associates;
+  calls = λ store a b c first second result m n one two.
+      let x = answered store a b first m one in
+      let y = answered store b c second n two in
+      let same : y .d ≡ x .d = (let z = sym (y .both .domain) ∙ x .both .domain in cc) in
+      let above : supplementIn (x .d) c ≡ got (y .u) = ap (λ (d : Domain). supplementIn d c) (sym same) ∙ y .both .above in
+      let lower = laid-accepted store a b first (x .d) (x .l) (x .u) (x .both) (x .room) .whole in
+      let upper = laid-accepted store b c second (x .d) (x .u) (y .u) (record { domain = x .both .domain; below = x .both .above; above = above }) (y .room) .whole in
+      both-laid result (record { domain = x .both .domain; below = lower; above = above })
+      ∙ ap (λ (s : List Replacement). left result (got s)) (laid-associates (x .l) (x .u) (y .u))
+      ∙ sym (both-laid result (record { domain = x .both .domain; below = x .both .below; above = upper }));
+}
+
+-- THEOREM. "Judging a domain under the combined supplement equals judging the domain, first replaced by the lower and then by the
+-- upper".
+pub judged-under-both : JudgedUnderBoth
+judged-under-both store lower upper result d l u both room =
+    let laws = replaced-laid l u d (few-laws store d (both .domain)) in
+    let whole = laid-accepted store lower upper result d l u both room .whole in
+    record {
+      alike = accepts-alike d lower l (both .below);
+      laws = laws;
+      judged = λ sheet levels.
+          judged-under store (laySupplements store lower upper result .buffer) d (laid l u) (both .domain) whole sheet levels
+          ∙ ap (λ (x : Domain). judgedBy (d .agents) x sheet levels) laws;
+    }

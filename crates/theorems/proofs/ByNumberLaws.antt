@@ -4,7 +4,7 @@ use native.Mathlib.Omega.{arith}
 use native.Mathlib.Decide.{decLt}
 use mathlib.Core.Path.{_≡_, refl, sym, ap, _∙_}
 use mathlib.Core.Bool.{Bool, true, false}
-use mathlib.Core.List.{List, [], _∷_, _++_, map}
+use mathlib.Core.List.{List, _++_, map}
 use mathlib.Core.Option.{Option, none, some}
 use lib.Dec.{eqb}
 use lib.ListN.{length, getD}
@@ -23,12 +23,12 @@ abbrev pub Numbered : (ℕ → Option Replacement) → Type 0
 Numbered found = (n : ℕ) → Has n (found n)
 
 -- the upper where there is one
-abbrev pub over : {A : Type 0} → Option A → Option A → Option A
-over upper lower = maybe upper lower some
+abbrev pub upperOr : {A : Type 0} → Option A → Option A → Option A
+upperOr upper lower = maybe upper lower some
 
-pub over-none : {A : Type 0} (a : Option A) → over a none ≡ a
-over-none none = refl
-over-none (some a) = refl
+pub upper-or-none : {A : Type 0} (a : Option A) → upperOr a none ≡ a
+upper-or-none none = refl
+upper-or-none (some a) = refl
 
 -- ---- what is found of one number, and others after it
 
@@ -36,7 +36,7 @@ abbrev Least : ℕ → List Replacement → Type 0
 Least i s = (j : ℕ) → j < length s → i ≤ getD (map replaces s) j 0
 
 find-listed : (i n : ℕ) (o : Option Replacement) (rest : List Replacement) → Has i o
-    → replacementOf (listed o ++ rest) n ≡ if-else (eqb i n) (over o (replacementOf rest n)) (replacementOf rest n)
+    → replacementOf (listed o ++ rest) n ≡ if-else (eqb i n) (upperOr o (replacementOf rest n)) (replacementOf rest n)
 unfolding replacementOf
 find-listed i n none rest its = go (eqb i n)
   where
@@ -59,7 +59,7 @@ rising-listed i (some r) rest its least rising (suc j) (suc k) p q = rising j k 
 -- ---- by number
 
 -- of the m numbers from i on
-abbrev from : (ℕ → Option Replacement) → ℕ → ℕ → List Replacement
+abbrev pub from : (ℕ → Option Replacement) → ℕ → ℕ → List Replacement
 from found i m = flat (map (λ n. listed (found n)) (numbers i m))
 
 module _ (found : ℕ → Option Replacement) (its : Numbered found) where
@@ -80,7 +80,7 @@ module _ (found : ℕ → Option Replacement) (its : Numbered found) where
         | yes h ↦ rw (ne-eqb i n (λ z. omega arith)) (from-found m (suc i) n (omega arith) (omega arith))
         | no h ↦
             let z : i ≡ n = omega arith in
-            rw (eq-eqb i n z, from-none m (suc i) n (λ k. absurd (omega arith))) (over-none (found i) ∙ ap found z)
+            rw (eq-eqb i n z, from-none m (suc i) n (λ k. absurd (omega arith))) (upper-or-none (found i) ∙ ap found z)
       ]
 
   pub found-by-number : (n : ℕ) → n < mostLaws → replacementOf (byNumber found) n ≡ found n

@@ -15,7 +15,7 @@ use Rattle.bmap.specs.Domain.{Domain, Law}
 use Rattle.bmap.specs.Supplement.{Replacement, replaces, replacementOf, inForceFrom, replaced}
 use Rattle.bmap.specs.Laying.{ordered, winning, laid}
 use Rattle.bmap.specs.Theorems.{Rising, Lays, Apart}
-use Rattle.theorems.proofs.ByNumberLaws.{Has, Numbered, over, over-none, found-by-number, kept-by-number, rising-by-number, by-number-same}
+use Rattle.theorems.proofs.ByNumberLaws.{Has, Numbered, upperOr, upper-or-none, found-by-number, kept-by-number, rising-by-number, by-number-same}
 
 -- ---- what a supplement, and the winning one of two, finds
 
@@ -31,7 +31,7 @@ numbered-in (q ∷ s) n r e = go (eqb (replaces q) n) refl (numbered-in s n) r e
 pub numbered-winning : (l u : List Replacement) → Numbered (winning l u)
 numbered-winning l u n r e = go (replacementOf u n) (numbered-in u n) r e
   where
-    go : (o : Option Replacement) → Has n o → Has n (over o (replacementOf l n))
+    go : (o : Option Replacement) → Has n o → Has n (upperOr o (replacementOf l n))
     go none above r k = numbered-in l n r k
     go (some q) above r k = above r k
 
@@ -54,36 +54,36 @@ rising-laid l u = rising-by-number (winning l u) (numbered-winning l u)
 -- ---- the four laws of laying
 
 module _ {A : Type 0} where
-  over-assoc : (a b c : Option A) → over a (over b c) ≡ over (over a b) c
-  over-assoc none b c = refl
-  over-assoc (some a) b c = refl
+  upper-or-assoc : (a b c : Option A) → upperOr a (upperOr b c) ≡ upperOr (upperOr a b) c
+  upper-or-assoc none b c = refl
+  upper-or-assoc (some a) b c = refl
 
-  over-self : (a : Option A) → over a a ≡ a
-  over-self none = refl
-  over-self (some a) = refl
+  upper-or-self : (a : Option A) → upperOr a a ≡ a
+  upper-or-self none = refl
+  upper-or-self (some a) = refl
 
-  over-apart : (a b : Option A) → (a ≡ none) ⊎ (b ≡ none) → over b a ≡ over a b
-  over-apart a b (inl e) = rw e (over-none b)
-  over-apart a b (inr e) = rw e (sym (over-none a))
+  upper-or-apart : (a b : Option A) → (a ≡ none) ⊎ (b ≡ none) → upperOr b a ≡ upperOr a b
+  upper-or-apart a b (inl e) = rw e (upper-or-none b)
+  upper-or-apart a b (inr e) = rw e (sym (upper-or-none a))
 
 pub laid-associates : (a b c : List Replacement) → laid (laid a b) c ≡ laid a (laid b c)
 unfolding laid
 laid-associates a b c = by-number-same (winning (laid a b) c) (winning a (laid b c)) (λ n h.
-    ap (over (replacementOf c n)) (found-laid a b n h)
-    ∙ over-assoc (replacementOf c n) (replacementOf b n) (replacementOf a n)
-    ∙ ap (λ (o : Option Replacement). over o (replacementOf a n)) (sym (found-laid b c n h)))
+    ap (upperOr (replacementOf c n)) (found-laid a b n h)
+    ∙ upper-or-assoc (replacementOf c n) (replacementOf b n) (replacementOf a n)
+    ∙ ap (λ (o : Option Replacement). upperOr o (replacementOf a n)) (sym (found-laid b c n h)))
 
 pub laid-empty : (s : List Replacement) → (laid s [] ≡ ordered s) × (laid [] s ≡ ordered s)
 unfolding laid ordered replacementOf
-laid-empty s = (refl, by-number-same (winning [] s) (replacementOf s) (λ n h. over-none (replacementOf s n)))
+laid-empty s = (refl, by-number-same (winning [] s) (replacementOf s) (λ n h. upper-or-none (replacementOf s n)))
 
 pub laid-itself : (s : List Replacement) → laid s s ≡ ordered s
 unfolding laid ordered
-laid-itself s = by-number-same (winning s s) (replacementOf s) (λ n h. over-self (replacementOf s n))
+laid-itself s = by-number-same (winning s s) (replacementOf s) (λ n h. upper-or-self (replacementOf s n))
 
 pub laid-apart : (a b : List Replacement) → Apart a b → laid a b ≡ laid b a
 unfolding laid
-laid-apart a b apart = by-number-same (winning a b) (winning b a) (λ n h. over-apart (replacementOf a n) (replacementOf b n) (apart n))
+laid-apart a b apart = by-number-same (winning a b) (winning b a) (λ n h. upper-or-apart (replacementOf a n) (replacementOf b n) (apart n))
 
 -- ---- where no number is beyond the laws
 
@@ -108,7 +108,7 @@ unfolding inForceFrom
 in-force-ordered s [] n h = refl
 in-force-ordered s (x ∷ laws) n h = rw (found-ordered s n (omega arith), in-force-ordered s laws (suc n) (omega arith)) refl
 
-in-turn : (upper lower : Option Replacement) (x : Law) → maybe (over upper lower) x (λ r. r .law) ≡ maybe upper (maybe lower x (λ r. r .law)) (λ r. r .law)
+in-turn : (upper lower : Option Replacement) (x : Law) → maybe (upperOr upper lower) x (λ r. r .law) ≡ maybe upper (maybe lower x (λ r. r .law)) (λ r. r .law)
 in-turn none lower x = refl
 in-turn (some r) lower x = refl
 

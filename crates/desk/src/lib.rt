@@ -28,4 +28,5 @@ pub use program::waroth_low_water;
 pub use sheets::waroth_read_sheet;
 pub use sheets::waroth_write_sheet;
 pub use supplements::waroth_law;
+pub use supplements::waroth_lay;
 pub use supplements::waroth_read_supplement;

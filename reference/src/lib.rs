@@ -1,5 +1,6 @@
-//! A reader and writer of domains and sheets, a reader of supplements, a judge,
-//! an editing session and two programs, in plain Rust. See README.md for what it is for.
+//! A reader and writer of domains and sheets, supplements read and laid one over
+//! another, a judge, an editing session and two programs, in plain Rust. See
+//! README.md for what it is for.
 
 pub mod domain;
 pub mod generate;
@@ -20,4 +21,4 @@ pub use judge::{judge, judge_under, Judged, Verdict};
 pub use session::Session;
 pub use sheet::{read_sheet, write_sheet};
 pub use store::{accepted, counts, read_domain, write_domain, FrameReader};
-pub use supplement::{law_in_force, read_supplement, LawInForce};
+pub use supplement::{law_in_force, lay, read_supplement, LawInForce};

@@ -8,8 +8,8 @@ use crate::store::{self, FrameReader};
 
 pub const REPLACEMENT: u8 = 0xAF;
 
-/// Bytes that the supplement reader asks of its buffer. Each law is replaced
-/// once at most, so the frames always fit.
+/// Bytes that reading and laying ask of their buffer. Each law is replaced once
+/// at most, so the frames always fit.
 pub const SUPPLEMENT_BYTES: usize = 16_000;
 
 /// A domain while laws of it are replaced.
@@ -71,6 +71,33 @@ pub fn read_supplement(store: &[u8], text: &[u8], buffer: &mut [u8]) -> Result<u
 pub fn replace<T: Target>(domain: &mut Domain<T>, supplement: &[u8]) -> Option<()> {
     let mut replacing = Replacing::start(domain);
     store::take_all(supplement, |frame| replacing.add(frame))
+}
+
+/// Lays one supplement over another of the same domain: of each law number that
+/// either has one frame, the upper one's where both have it, in the order of the
+/// numbers. Returns the bytes used. Refusals 10, and 15 for the domain's store or
+/// for either supplement's; both leave the result as it is.
+pub fn lay(store: &[u8], lower: &[u8], upper: &[u8], result: &mut [u8]) -> Result<usize, u8> {
+    if result.len() < SUPPLEMENT_BYTES {
+        return Err(refusal::BUFFER);
+    }
+    let mut domain = store::check(store).ok_or(refusal::STORE)?;
+    let mut frames: [&[u8]; Domain::MAX_LAWS] = [&[]; Domain::MAX_LAWS];
+    for supplement in [lower, upper] {
+        // A law that was replaced keeps its kind and entry, so that the upper one
+        // is accepted just where the domain itself accepts it.
+        replace(&mut domain, supplement).ok_or(refusal::STORE)?;
+        for frame in FrameReader::over(supplement) {
+            frames[usize::from(frame[2])] = frame;
+        }
+    }
+    let mut used = 0;
+    for frame in frames {
+        result[used..][..frame.len()].copy_from_slice(frame);
+        used += frame.len();
+    }
+    result[used..].fill(0);
+    Ok(used)
 }
 
 /// Where the payload of a law in force stands.

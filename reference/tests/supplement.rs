@@ -1,52 +1,25 @@
 //! Supplements: document 02, K7, sentence after sentence.
 
+mod common;
+
+use common::{judged, judged_alone, read, read_frames};
 use waroth_reference::generate::draft::{frame, law, replacement, sheet_text, text_of, Draft};
 use waroth_reference::generate::laws::{constant, node, wrapped};
 use waroth_reference::generate::random::Random;
 use waroth_reference::generate::shapes::sized;
 use waroth_reference::generate::sheets;
 use waroth_reference::generate::supplements::{longest_of_both, stand_in, LONGEST_LAW};
-use waroth_reference::judge::{judge, judge_under, Judged, Verdict, LEVELS};
+use waroth_reference::judge::{judge_under, Judged, Verdict, LEVELS};
 use waroth_reference::line::write_line;
 use waroth_reference::program::{Program, OUTPUT_BYTES};
 use waroth_reference::store::frame_at;
 use waroth_reference::supplement::SUPPLEMENT_BYTES;
-use waroth_reference::{law_in_force, plain, read_supplement, LawInForce};
+use waroth_reference::{law_in_force, read_supplement, LawInForce};
 
 /// The reader's answer over the pool, whose laws are A5 of entry 0, A5 of entry
 /// 1, A6 of entry 0, A6 of entry 1 and A9.
 fn pool(text: &str) -> Result<usize, (u8, usize)> {
     read(&Draft::pool(), text.as_bytes()).map(|bytes| bytes.len())
-}
-
-/// The supplement's bytes; what is lent behind them is zero, all of it where
-/// the text is refused.
-fn read(draft: &Draft, text: &[u8]) -> Result<Vec<u8>, (u8, usize)> {
-    let mut buffer = vec![0xEE; SUPPLEMENT_BYTES + 5];
-    let read = read_supplement(&draft.store(), text, &mut buffer);
-    let rest = buffer.split_off(read.unwrap_or(0));
-    assert!(rest.iter().all(|&byte| byte == 0));
-    read.map(|_| buffer)
-}
-
-fn read_frames(draft: &Draft, frames: &[Vec<u8>]) -> Result<Vec<u8>, (u8, usize)> {
-    read(draft, &text_of(frames))
-}
-
-/// The verdict under a supplement, and all levels.
-fn judged(draft: &Draft, supplement: &[u8], sheet: &[u8]) -> (Judged, Vec<i16>) {
-    let mut levels = vec![-777; LEVELS];
-    let judged = judge_under(&draft.bytes(), supplement, sheet, &mut levels);
-    (judged.expect("no refusal"), levels)
-}
-
-/// What the two judges say without one.
-fn judged_alone(draft: &Draft, sheet: &[u8]) -> (Judged, Vec<i16>) {
-    let (mut levels, mut others) = (vec![-777; LEVELS], vec![-777; LEVELS]);
-    let judged = judge(&draft.bytes(), sheet, &mut levels);
-    assert_eq!(plain::judge(&draft.bytes(), sheet, &mut others), judged);
-    assert!(levels == others);
-    (judged.expect("no refusal"), levels)
 }
 
 fn verdict(draft: &Draft, supplement: &[Vec<u8>], sheet: &[u8]) -> (Verdict, usize) {
@@ -352,10 +325,7 @@ fn the_longest_supplement() {
     let bytes = read_frames(&draft, &frames).expect("a supplement");
     assert_eq!(bytes.len(), 128 * 122);
     assert!(bytes.len() <= SUPPLEMENT_BYTES);
-    let mut replaced = draft.clone();
-    for line in &frames {
-        replaced = replaced.with_law(line[2].into(), &frame(line[3], &line[4..]));
-    }
+    let replaced = draft.clone().replaced_by(&frames);
     let sheet = vec![0; 16 * 64];
     assert!(judged(&draft, &bytes, &sheet) == judged_alone(&replaced, &sheet));
     frames.push(frames[0].clone());

@@ -151,6 +151,13 @@ impl Draft {
         self
     }
 
+    /// The domain with its laws replaced as a supplement's lines say.
+    pub fn replaced_by(self, lines: &[Vec<u8>]) -> Self {
+        lines.iter().fold(self, |draft, line| {
+            draft.with_law(line[2].into(), &frame(line[3], &line[4..]))
+        })
+    }
+
     /// Every entry may always be taken up.
     pub fn free(mut self) -> Self {
         for entry in 0..self.entries.len() {

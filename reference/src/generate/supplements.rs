@@ -32,12 +32,17 @@ fn shuffled(r: &mut Random, laws: usize) -> Vec<usize> {
     numbers
 }
 
+/// The laws of these numbers replaced by random ones.
+fn all_replaced(r: &mut Random, draft: &Draft, numbers: &[usize]) -> Lines {
+    let lines = numbers.iter();
+    lines.map(|&number| replaced(r, draft, number)).collect()
+}
+
 /// A random supplement, now and then an empty one.
 pub fn supplement(r: &mut Random, draft: &Draft) -> Lines {
     let numbers = shuffled(r, draft.laws());
     let count = r.below(numbers.len() + 1);
-    let lines = numbers[..count].iter();
-    lines.map(|&number| replaced(r, draft, number)).collect()
+    all_replaced(r, draft, &numbers[..count])
 }
 
 /// A random domain and a supplement of one line or more.
@@ -63,6 +68,49 @@ pub fn behind(r: &mut Random, draft: &Draft) -> (Draft, Lines) {
         }
     }
     (other, lines)
+}
+
+/// The same domain by two supplements: of each line the lower one has it, or the
+/// upper one has it and the lower one none or another of its number.
+pub fn behind_two(r: &mut Random, draft: &Draft) -> (Draft, [Lines; 2]) {
+    let (other, lines) = behind(r, draft);
+    let (mut lower, mut upper) = (Lines::new(), Lines::new());
+    for line in lines {
+        match r.below(3) {
+            0 => lower.push(line),
+            1 => upper.push(line),
+            _ => {
+                lower.push(replaced(r, draft, line[2].into()));
+                upper.push(line);
+            }
+        }
+    }
+    (other, [lower, upper])
+}
+
+/// How the law numbers of two supplements meet.
+#[derive(Clone, Copy, PartialEq, Eq, Debug)]
+pub enum Meeting {
+    Disjoint,
+    /// Each has some of its own beside the common ones.
+    Overlapping,
+    Equal,
+}
+
+/// A random domain, and two supplements of one line or more for it.
+pub fn two(r: &mut Random, meeting: Meeting) -> (Draft, [Lines; 2]) {
+    let (draft, _) = with_kind(r, 0);
+    let numbers = shuffled(r, draft.laws());
+    let first = r.from_to(1, numbers.len() - 2);
+    let second = r.from_to(first + 1, numbers.len() - 1);
+    let (lower, upper) = match meeting {
+        Meeting::Disjoint => (&numbers[..first], &numbers[first..second]),
+        Meeting::Overlapping => (&numbers[..second], &numbers[first..]),
+        Meeting::Equal => (&numbers[..second], &numbers[..second]),
+    };
+    let mut lines = [lower, upper].map(|numbers| all_replaced(r, &draft, numbers));
+    lines[1].reverse();
+    (draft, lines)
 }
 
 /// Where a line stands among others.
@@ -114,7 +162,7 @@ pub fn with_line(
     let mut others = shuffled(r, draft.laws());
     others.retain(|&other| other != number);
     others.truncate(r.from_to(2, 5));
-    let mut lines: Lines = others.iter().map(|&n| replaced(r, &draft, n)).collect();
+    let mut lines = all_replaced(r, &draft, &others);
     let at = match place {
         Place::First => 0,
         Place::Middle => r.from_to(1, lines.len() - 1),
@@ -403,14 +451,18 @@ fn long_law(r: &mut Random, size: usize, by: usize) -> (Draft, Lines) {
 }
 
 /// Lines for every law, in any order.
-fn every_law(r: &mut Random, draft: Draft, size: Option<usize>) -> (Draft, Lines) {
+fn every_law(r: &mut Random, draft: Draft) -> (Draft, Lines) {
     let numbers = shuffled(r, draft.laws());
-    let line = |number| match size {
-        Some(size) => given_sized(r, &draft, number, size),
-        None => replaced(r, &draft, number),
-    };
-    let lines = numbers.into_iter().map(line).collect();
+    let lines = all_replaced(r, &draft, &numbers);
     (draft, lines)
+}
+
+/// Every law replaced by the longest that may stand in for it, in any order.
+pub fn longest_lines(r: &mut Random, draft: &Draft) -> Lines {
+    let numbers = shuffled(r, draft.laws()).into_iter();
+    numbers
+        .map(|number| given_sized(r, draft, number, LONGEST_LAW))
+        .collect()
 }
 
 /// 128 laws and little else.
@@ -431,7 +483,7 @@ fn twice(r: &mut Random, spoil: fn(&mut Vec<u8>)) -> (Draft, Lines) {
     numbers.retain(|&other| other != number);
     numbers.truncate(r.below(4));
     numbers.insert(0, number);
-    let mut lines: Lines = numbers.iter().map(|&n| replaced(r, &draft, n)).collect();
+    let mut lines = all_replaced(r, &draft, &numbers);
     let mut again = match r.one_in(2) {
         true => lines[0].clone(),
         false => replaced(r, &draft, number),
@@ -467,7 +519,7 @@ pub const WHOLE: &[Whole] = &[
     }),
     ("129 lines", OTHER_LAW, |r| {
         let draft = many_laws(r);
-        let (draft, mut lines) = every_law(r, draft, None);
+        let (draft, mut lines) = every_law(r, draft);
         let again = r.pick(&lines).clone();
         lines.push(again);
         (draft, lines)
@@ -486,11 +538,11 @@ pub const WHOLE: &[Whole] = &[
     }),
     ("edge: every law replaced", 0, |r| {
         let draft = Draft::random(r);
-        every_law(r, draft, None)
+        every_law(r, draft)
     }),
     ("edge: 128 lines", 0, |r| {
         let draft = many_laws(r);
-        every_law(r, draft, None)
+        every_law(r, draft)
     }),
     ("edge: 128 lines of 120 bytes", 0, full),
     ("edge: law of 118 bytes by 118", 0, |r| {
@@ -518,11 +570,13 @@ pub const WHOLE: &[Whole] = &[
 /// input.
 pub fn full(r: &mut Random) -> (Draft, Lines) {
     let draft = many_laws(r);
-    every_law(r, draft, Some(LONGEST_LAW))
+    let lines = longest_lines(r, &draft);
+    (draft, lines)
 }
 
 /// The longest domain, and all of its laws replaced by the longest.
 pub fn longest_of_both(r: &mut Random) -> (Draft, Lines) {
     let draft = longest(r);
-    every_law(r, draft, Some(LONGEST_LAW))
+    let lines = longest_lines(r, &draft);
+    (draft, lines)
 }

@@ -2,8 +2,12 @@
 
 use crate::desk;
 use crate::lent::Lent;
-use waroth_reference::generate::{program_name, Answer, Call, Case, Outcome};
+use waroth_reference::generate::{
+    handed_on, program_name, Answer, Call, Case, Outcome, SupplementCall,
+};
 use waroth_reference::Session;
+
+const WRITTEN: &str = "a buffer that was lent to be read was written";
 
 /// The answers and every buffer after the call; what was lent only to be read has to be as it was.
 pub fn run_library(case: &Case) -> Result<Outcome, String> {
@@ -81,19 +85,26 @@ pub fn run_library(case: &Case) -> Result<Outcome, String> {
             sheet,
             levels,
         } => {
-            let mut levels = Lent::of(levels);
-            let answer = desk::judge_under(store, supplement, sheet, levels.part());
-            outcome.answers.push(("judge_under", answer));
-            outcome.levels.push(levels.back()?);
+            judge_under(store, supplement, sheet, levels, &mut outcome)?;
         }
         Case::Laws {
             store,
             supplement,
             numbers,
+        } => laws(store, supplement, numbers, &mut outcome),
+        Case::Supplements {
+            store,
+            supplements,
+            calls,
         } => {
-            for &number in numbers {
-                let answer = desk::law(store, supplement, number);
-                outcome.answers.push(("law", answer));
+            let mut held = supplements.clone();
+            for call in calls {
+                let before = held.clone();
+                let laid = over(call, store, &held, &mut outcome)?;
+                if held != before {
+                    return Err(WRITTEN.into());
+                }
+                held.extend(laid);
             }
         }
         Case::Session { session, calls } => {
@@ -117,7 +128,7 @@ pub fn run_library(case: &Case) -> Result<Outcome, String> {
     }
     match given == *case {
         true => Ok(outcome),
-        false => Err("a buffer that was lent to be read was written".into()),
+        false => Err(WRITTEN.into()),
     }
 }
 
@@ -144,6 +155,62 @@ fn frames(store: &[u8], outcome: &mut Outcome) {
         outcome.answers.push(("frames", answer));
         start += size;
     }
+}
+
+fn judge_under(
+    store: &[u8],
+    supplement: &[u8],
+    sheet: &[u8],
+    levels: &[i16],
+    outcome: &mut Outcome,
+) -> Result<(), String> {
+    let mut levels = Lent::of(levels);
+    let answer = desk::judge_under(store, supplement, sheet, levels.part());
+    outcome.answers.push(("judge_under", answer));
+    outcome.levels.push(levels.back()?);
+    Ok(())
+}
+
+fn laws(store: &[u8], supplement: &[u8], numbers: &[usize], outcome: &mut Outcome) {
+    for &number in numbers {
+        let answer = desk::law(store, supplement, number);
+        outcome.answers.push(("law", answer));
+    }
+}
+
+/// A call over the supplements held, and what it adds to them.
+fn over(
+    call: &SupplementCall,
+    store: &[u8],
+    held: &[Vec<u8>],
+    outcome: &mut Outcome,
+) -> Result<Option<Vec<u8>>, String> {
+    match call {
+        SupplementCall::Lay {
+            lower,
+            upper,
+            result,
+            whole,
+        } => {
+            let mut result = Lent::of(result);
+            let answer = desk::lay(store, &held[*lower], &held[*upper], result.part());
+            let result = result.back()?;
+            let laid = handed_on(&answer, result.clone(), *whole);
+            outcome.answers.push(("lay", answer));
+            outcome.laid.push(result);
+            return Ok(Some(laid));
+        }
+        SupplementCall::Judge {
+            supplement,
+            sheet,
+            levels,
+        } => judge_under(store, &held[*supplement], sheet, levels, outcome)?,
+        SupplementCall::Laws {
+            supplement,
+            numbers,
+        } => laws(store, &held[*supplement], numbers, outcome),
+    }
+    Ok(None)
 }
 
 fn make(call: &Call, session: &mut Session, outcome: &mut Outcome) -> Result<(), String> {

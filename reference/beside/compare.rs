@@ -57,6 +57,8 @@ fn difference(case: &Case, expected: &Outcome) -> Option<String> {
     let (answers, about) = (found.answers.len(), format!("{case:?}"));
     let (what, at) = if found.bytes != expected.bytes {
         ("byte", first(&found.bytes, &expected.bytes))
+    } else if found.laid != expected.laid {
+        ("result", first(&found.laid, &expected.laid))
     } else if found.levels != expected.levels {
         ("levels", first(&found.levels, &expected.levels))
     } else {

@@ -61,6 +61,16 @@ extern "C" {
         replacing: usize,
         law: usize,
     ) -> u64;
+    fn waroth_lay(
+        store: *const u8,
+        length: usize,
+        lower: *const u8,
+        lower_length: usize,
+        upper: *const u8,
+        upper_length: usize,
+        result: *mut u8,
+        room: usize,
+    ) -> u64;
     fn waroth_open(session: *mut Session, store: *const u8, length: usize) -> u64;
     fn waroth_enter(session: *mut Session, names: *const u8, length: usize) -> u64;
     fn waroth_strike(session: *mut Session) -> u64;
@@ -258,6 +268,21 @@ pub fn judge_under(store: &[u8], supplement: &[u8], sheet: &[u8], levels: &mut [
 pub fn law(store: &[u8], supplement: &[u8], law: usize) -> Answer {
     let (replacing, from) = (supplement.len(), supplement.as_ptr());
     found(unsafe { waroth_law(store.as_ptr(), store.len(), from, replacing, law) })
+}
+
+pub fn lay(store: &[u8], lower: &[u8], upper: &[u8], result: &mut [u8]) -> Answer {
+    written(unsafe {
+        waroth_lay(
+            store.as_ptr(),
+            store.len(),
+            lower.as_ptr(),
+            lower.len(),
+            upper.as_ptr(),
+            upper.len(),
+            result.as_mut_ptr(),
+            result.len(),
+        )
+    })
 }
 
 pub fn open(session: &mut Session, store: &[u8]) -> Answer {

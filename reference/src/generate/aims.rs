@@ -2,9 +2,10 @@
 //! paper's table names, every kind of fault, and the edges of every limit.
 
 use super::calls::CALLS;
-use super::case::{Call, Case};
+use super::case::{Call, Case, SupplementCall};
 use super::draft::{sheet_text, text_of, Draft};
 use super::faults::{Lines, LINE_FAULTS};
+use super::laying::{self, LAYING, WRONG};
 use super::low_water::LOW_WATER;
 use super::random::Random;
 use super::sheets::{self, SESSION_FAULTS};
@@ -41,6 +42,8 @@ pub enum Expect {
     Law(LawInForce),
     /// So many bytes or steps.
     Count(usize),
+    /// The last two layings leave the same bytes in results of one length.
+    Same,
     /// The program's call prints nothing.
     Silent,
     /// The last call is not refused.
@@ -174,6 +177,35 @@ pub fn over_both(r: &mut Random, store: Vec<u8>, supplement: Vec<u8>) -> Case {
     }
 }
 
+/// The call that lays one supplement of a list over another, with room for the
+/// result.
+pub fn laying(r: &mut Random, lower: usize, upper: usize) -> SupplementCall {
+    SupplementCall::Lay {
+        lower,
+        upper,
+        result: enough(r, SUPPLEMENT_BYTES),
+        whole: r.one_in(2),
+    }
+}
+
+/// One supplement laid over another, the only call.
+pub fn laid(r: &mut Random, store: Vec<u8>, lower: Vec<u8>, upper: Vec<u8>) -> Case {
+    laid_into(enough(r, SUPPLEMENT_BYTES), store, lower, upper)
+}
+
+pub fn laid_into(result: Vec<u8>, store: Vec<u8>, lower: Vec<u8>, upper: Vec<u8>) -> Case {
+    Case::Supplements {
+        store,
+        supplements: vec![lower, upper],
+        calls: vec![SupplementCall::Lay {
+            lower: 0,
+            upper: 1,
+            result,
+            whole: true,
+        }],
+    }
+}
+
 /// Some call on the session; edits are in order as far as that can be known.
 fn any_call(r: &mut Random, session: &Session) -> Call {
     let agents = session.agents.clamp(1, 16) as usize;
@@ -295,6 +327,17 @@ impl Aims {
             let supplement = stored_supplement(r, lines.concat());
             over_both(r, store, supplement)
         });
+        self.add(format!("lay: {label}"), expect, move |r| {
+            let (draft, lines) = make(r);
+            let store = stored(r, draft.bytes());
+            let supplement = stored_supplement(r, lines.concat());
+            let other = supplements::supplement(r, &draft).concat();
+            let other = stored_supplement(r, other);
+            match r.one_in(2) {
+                true => laid(r, store, supplement, other),
+                false => laid(r, store, other, supplement),
+            }
+        });
     }
 
     /// The same as a part of the second program's input.
@@ -311,7 +354,8 @@ impl Aims {
     }
 
     /// A trial, before the judge, as a session and as a program's input; and
-    /// with laws that only the supplement has.
+    /// with laws that only a supplement has, or two that are laid one over the
+    /// other.
     fn trial(&mut self, (label, expect, make): Trial) {
         let make = Rc::new(make);
         let again = make.clone();
@@ -348,6 +392,23 @@ impl Aims {
                 supplement: stored_supplement(r, lines.concat()),
                 sheet,
                 levels: enough_levels(r),
+            }
+        });
+        let again = make.clone();
+        self.add(format!("lay and judge_under: {label}"), expect, move |r| {
+            let (draft, sheet) = again(r);
+            let (other, lines) = supplements::behind_two(r, &draft);
+            let judging = SupplementCall::Judge {
+                supplement: 2,
+                sheet,
+                levels: enough_levels(r),
+            };
+            Case::Supplements {
+                store: stored(r, other.bytes()),
+                supplements: lines
+                    .map(|lines| stored_supplement(r, lines.concat()))
+                    .to_vec(),
+                calls: vec![laying(r, 0, 1), judging],
             }
         });
         self.add(format!("low_water: {label}"), expect, move |r| {
@@ -434,8 +495,19 @@ pub fn aims() -> Vec<Aim> {
             on(session, call)
         });
     }
-    for &(label, expect, make) in CALLS.iter().chain(LOW_WATER) {
+    for &(label, expect, make) in CALLS.iter().chain(LOW_WATER).chain(LAYING) {
         aims.add(label.to_string(), expect, make);
+    }
+    for &(label, spoil) in WRONG {
+        aims.add(format!("lay: {label}"), Refused(STORE), move |r| {
+            let result = enough(r, SUPPLEMENT_BYTES);
+            laying::wrong(r, spoil, result)
+        });
+        let label = format!("lay: order: {label} and no room");
+        aims.add(label, Refused(BUFFER), move |r| {
+            let result = too_short(r, SUPPLEMENT_BYTES);
+            laying::wrong(r, spoil, result)
+        });
     }
     trials().into_iter().for_each(|trial| aims.trial(trial));
     aims.0

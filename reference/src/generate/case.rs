@@ -1,5 +1,5 @@
-//! A case: one public call, or a series of session calls, with all that it is
-//! given; and what comes of it.
+//! A case: one public call, or a series of calls on a session or on supplements,
+//! with all that it is given; and what comes of it.
 
 use crate::domain::Counts;
 use crate::judge::{self, Judged};
@@ -19,6 +19,29 @@ pub enum Call {
     Undo,
     Redo,
     Verdict { store: Vec<u8>, levels: Vec<i16> },
+}
+
+/// A call that takes supplements of one domain, each named by its place in a
+/// list.
+#[derive(Clone, PartialEq, Eq, Debug)]
+pub enum SupplementCall {
+    /// Lays one over another and puts the result behind the last of the list.
+    Lay {
+        lower: usize,
+        upper: usize,
+        result: Vec<u8>,
+        /// The whole buffer is handed on, else only the bytes used.
+        whole: bool,
+    },
+    Judge {
+        supplement: usize,
+        sheet: Vec<u8>,
+        levels: Vec<i16>,
+    },
+    Laws {
+        supplement: usize,
+        numbers: Vec<usize>,
+    },
 }
 
 /// Buffers to be written are given with the contents they have before the call.
@@ -79,6 +102,12 @@ pub enum Case {
         supplement: Vec<u8>,
         numbers: Vec<usize>,
     },
+    /// Calls one after another over a domain and these supplements.
+    Supplements {
+        store: Vec<u8>,
+        supplements: Vec<Vec<u8>>,
+        calls: Vec<SupplementCall>,
+    },
     /// Calls one after another on the session given.
     Session {
         session: Box<Session>,
@@ -121,6 +150,8 @@ pub struct Outcome {
     pub answers: Vec<(&'static str, Answer)>,
     /// Store, text or sheet buffer that was lent to be written.
     pub bytes: Vec<u8>,
+    /// The result after each laying.
+    pub laid: Vec<Vec<u8>>,
     /// Levels after each call that was lent some.
     pub levels: Vec<Vec<i16>>,
     /// The session after each call.
@@ -213,20 +244,21 @@ pub fn run_reference(case: &Case) -> Outcome {
             sheet,
             levels,
         } => {
-            let mut levels = levels.clone();
-            let judged = judge::judge_under(store, supplement, sheet, &mut levels);
-            let answer = plain(judged, Answer::Judged);
-            outcome.answers.push(("judge_under", answer));
-            outcome.levels.push(levels);
+            judge_under(store, supplement, sheet, levels, &mut outcome);
         }
         Case::Laws {
             store,
             supplement,
             numbers,
+        } => laws(store, supplement, numbers, &mut outcome),
+        Case::Supplements {
+            store,
+            supplements,
+            calls,
         } => {
-            for &number in numbers {
-                let law = supplement::law_in_force(store, supplement, number);
-                outcome.answers.push(("law", plain(law, Answer::Law)));
+            let mut supplements = supplements.clone();
+            for call in calls {
+                over(call, store, &mut supplements, &mut outcome);
             }
         }
         Case::Session { session, calls } => {
@@ -270,6 +302,71 @@ fn frames(store: &[u8], outcome: &mut Outcome) {
         no_more += bytes.is_empty() as usize;
         let answer = Answer::Frame { start, bytes };
         outcome.answers.push(("frames", answer));
+    }
+}
+
+fn judge_under(
+    store: &[u8],
+    supplement: &[u8],
+    sheet: &[u8],
+    levels: &[i16],
+    outcome: &mut Outcome,
+) {
+    let mut levels = levels.to_vec();
+    let judged = judge::judge_under(store, supplement, sheet, &mut levels);
+    let answer = plain(judged, Answer::Judged);
+    outcome.answers.push(("judge_under", answer));
+    outcome.levels.push(levels);
+}
+
+fn laws(store: &[u8], supplement: &[u8], numbers: &[usize], outcome: &mut Outcome) {
+    for &number in numbers {
+        let law = supplement::law_in_force(store, supplement, number);
+        outcome.answers.push(("law", plain(law, Answer::Law)));
+    }
+}
+
+/// What is handed on of a laying's result: all of it, or the bytes used, which
+/// are none where it was refused.
+pub fn handed_on(answer: &Answer, mut result: Vec<u8>, whole: bool) -> Vec<u8> {
+    match answer {
+        _ if whole => {}
+        Answer::Count(used) => result.truncate(*used),
+        _ => result.clear(),
+    }
+    result
+}
+
+fn over(
+    call: &SupplementCall,
+    store: &[u8],
+    supplements: &mut Vec<Vec<u8>>,
+    outcome: &mut Outcome,
+) {
+    match call {
+        SupplementCall::Lay {
+            lower,
+            upper,
+            result,
+            whole,
+        } => {
+            let mut result = result.clone();
+            let (lower, upper) = (&supplements[*lower], &supplements[*upper]);
+            let used = supplement::lay(store, lower, upper, &mut result);
+            let answer = plain(used, Answer::Count);
+            supplements.push(handed_on(&answer, result.clone(), *whole));
+            outcome.answers.push(("lay", answer));
+            outcome.laid.push(result);
+        }
+        SupplementCall::Judge {
+            supplement,
+            sheet,
+            levels,
+        } => judge_under(store, &supplements[*supplement], sheet, levels, outcome),
+        SupplementCall::Laws {
+            supplement,
+            numbers,
+        } => laws(store, &supplements[*supplement], numbers, outcome),
     }
 }
 

@@ -18,6 +18,7 @@ pub const ORDERS: &[(&str, &[u8])] = &[
     ("read_supplement", &[10, 15, 1, 2, 3, 20, 4]),
     ("judge_under", &[10, 15, 8, 9]),
     ("law", &[15, 20]),
+    ("lay", &[10, 15]),
     ("open", &[15]),
     ("enter", &[17, 14, 8, 9]),
     ("strike", &[17, 14, 11]),
@@ -130,6 +131,17 @@ fn found(answers: &[(&str, Answer)]) -> [usize; 2] {
     [count(false), count(true)]
 }
 
+/// Whether the last two calls were layings that left the same bytes and say so.
+fn same(outcome: &Outcome) -> bool {
+    let [.., (_, first), (_, second)] = &outcome.answers[..] else {
+        return false;
+    };
+    let [.., one, other] = &outcome.laid[..] else {
+        return false;
+    };
+    first == second && one == other
+}
+
 #[derive(Default)]
 pub struct Coverage {
     cases: usize,
@@ -193,6 +205,7 @@ impl Coverage {
         };
         let met = answer.is_some_and(|answer| match (expect, sense(answer)) {
             (Expect::Laws { own, replaced }, _) => [own, replaced] == found(&outcome.answers),
+            (Expect::Same, Sense::Count(_)) => same(outcome),
             (Expect::Refused(wanted), Sense::Refused(number)) => wanted == number,
             (Expect::Broken(wanted), Sense::Broken { kind, step, states }) => {
                 (wanted, step) == (kind, states)

@@ -9,9 +9,10 @@ use super::aims::{
 use super::calls::CallAim;
 use super::case::Case;
 use super::draft::{frame, replacement, sheet_text, text_of, Draft};
+use super::faults::Lines;
 use super::random::Random;
 use super::sheets;
-use super::supplements::{full, longest_of_both, many_laws, some_lines, stand_in, LONGEST_LAW};
+use super::supplements::{all_replaced, full, longest_of_both, many_laws, some_lines, LONGEST_LAW};
 use crate::line::MAX_FRAME;
 use crate::program::{Program, MAX_INPUT, OUTPUT_BYTES};
 use crate::refusal::*;
@@ -19,25 +20,35 @@ use crate::store::STORE_BYTES;
 use crate::supplement::{LawInForce, SUPPLEMENT_BYTES};
 
 /// The pool's goal replaced by one that is always met, and its line.
-const FREE_GOAL: &[u8] = &[0xAF, 3, 4, 0xA9, 0x2A];
+pub(super) const FREE_GOAL: &[u8] = &[0xAF, 3, 4, 0xA9, 0x2A];
 const FREE_GOAL_LINE: &[u8] = b"AF0304A92A\n";
 
 /// A sheet that the pool accepts, and one that it accepts without its goal.
 const ACCEPTED: &[u8] = &[1, 0, 0, 2];
-const LOW: &[u8] = &[1, 0, 1, 0];
+pub(super) const LOW: &[u8] = &[1, 0, 1, 0];
 
 /// Bytes and zeros, an odd number together.
-fn odd(r: &mut Random, mut bytes: Vec<u8>) -> Vec<u8> {
+pub(super) fn odd(r: &mut Random, mut bytes: Vec<u8>) -> Vec<u8> {
     let more = 2 * r.below(60) + 1 - bytes.len() % 2;
     bytes.resize(bytes.len() + more, 0);
     bytes
 }
 
 /// Bytes that are neither a domain's store nor a supplement's.
-fn neither(r: &mut Random) -> Vec<u8> {
+pub(super) fn neither(r: &mut Random) -> Vec<u8> {
     let length = *r.pick(&[1, 2, 30, 1000]);
     let mut bytes = r.likely_bytes(length);
     bytes[0] = r.from_to(1, 0x9F) as u8;
+    bytes
+}
+
+/// No longer the frames that it was: other bytes, cut off, or a byte after.
+pub(super) fn spoilt(r: &mut Random, mut bytes: Vec<u8>) -> Vec<u8> {
+    match r.below(3) {
+        0 => bytes = neither(r),
+        1 => drop(bytes.pop()),
+        _ => bytes.extend([0, r.from_to(1, 255) as u8]),
+    }
     bytes
 }
 
@@ -60,7 +71,7 @@ fn asking(r: &mut Random, draft: &Draft, supplement: Vec<u8>, numbers: Vec<usize
 
 /// Numbers that no law has, among them ones that are a law's if cut to fewer
 /// bits.
-const BEYOND: &[usize] = &[
+pub(super) const BEYOND: &[usize] = &[
     256,
     257,
     1 << 16,
@@ -73,33 +84,37 @@ const BEYOND: &[usize] = &[
     usize::MAX,
 ];
 
-/// Every number of a byte and those beyond, over a domain of 128 laws of which
+/// Every number of a byte and those beyond.
+pub(super) fn with_beyond() -> Vec<usize> {
+    (0..256).chain(BEYOND.iter().copied()).collect()
+}
+
+/// All of these numbers, over a domain of 128 laws of which
 /// so many are replaced.
 fn every_number(r: &mut Random, replaced: usize) -> Case {
     let draft = many_laws(r);
-    let supplement: Vec<_> = (0..replaced)
-        .rev()
-        .flat_map(|number| replacement(number, &stand_in(r, &draft, number)))
-        .collect();
-    let numbers = (0..256).chain(BEYOND.iter().copied()).collect();
-    asking(r, &draft, supplement, numbers)
+    let lines = all_replaced(r, &draft, (0..replaced).rev());
+    asking(r, &draft, lines.concat(), with_beyond())
+}
+
+/// Lines for those of five laws that the mask has.
+pub(super) fn of_mask(r: &mut Random, draft: &Draft, mask: u8) -> Lines {
+    let numbers = (0..5).filter(|number| (mask >> number) & 1 == 1);
+    all_replaced(r, draft, numbers)
 }
 
 /// The five laws of a domain of each kind; those of the mask are replaced.
 fn each_kind(r: &mut Random, mask: u8) -> Case {
     let draft = Draft::of_each_kind();
-    let lines = (0..5).filter(|number| (mask >> number) & 1 == 1);
-    let supplement: Vec<_> = lines
-        .flat_map(|number| replacement(number, &stand_in(r, &draft, number)))
-        .collect();
-    asking(r, &draft, supplement, (0..6).collect())
+    let lines = of_mask(r, &draft, mask);
+    asking(r, &draft, lines.concat(), (0..6).collect())
 }
 
-const fn laws(own: usize, replaced: usize) -> Expect {
+pub(super) const fn laws(own: usize, replaced: usize) -> Expect {
     Laws { own, replaced }
 }
 
-const fn law_at(replaced: bool, place: usize, size: usize) -> Expect {
+pub(super) const fn law_at(replaced: bool, place: usize, size: usize) -> Expect {
     Law(LawInForce {
         replaced,
         place,
@@ -142,14 +157,8 @@ pub const LOW_WATER: &[CallAim] = &[
     }),
     ("read_supplement: no domain", Refused(STORE), |r| {
         let (draft, lines) = some_lines(r);
-        let mut store = draft.bytes();
-        match r.below(3) {
-            0 => store = neither(r),
-            1 => drop(store.pop()),
-            _ => store.extend([0, r.from_to(1, 255) as u8]),
-        }
         Case::ReadSupplement {
-            store,
+            store: spoilt(r, draft.bytes()),
             text: text_of(&lines),
             buffer: enough(r, SUPPLEMENT_BYTES),
         }

@@ -4,7 +4,7 @@ use super::aims::{
     enough, enough_levels, on, over_store, printing, printing_by, stored, stored_supplement,
     too_short, Aim,
 };
-use super::case::{Call, Case};
+use super::case::{Call, Case, SupplementCall};
 use super::draft::{sheet_text, text_of, Draft};
 use super::random::Random;
 use super::{sheets, supplements};
@@ -278,6 +278,43 @@ fn mostly_own(r: &mut Random, draft: &Draft) -> Vec<u8> {
     }
 }
 
+/// Layings, verdicts and laws in force over supplements and over what was laid.
+fn supplement_calls(r: &mut Random) -> Case {
+    let draft = Draft::random(r);
+    let mut held = r.from_to(1, 3);
+    let supplements = (0..held).map(|_| any_supplement(r, &draft)).collect();
+    let mut calls = Vec::new();
+    for _ in 0..r.from_to(1, 5) {
+        let supplement = r.below(held);
+        calls.push(match r.below(8) {
+            0 => SupplementCall::Judge {
+                supplement,
+                sheet: sheets::sheet(r, &draft),
+                levels: levels(r),
+            },
+            1 => SupplementCall::Laws {
+                supplement,
+                numbers: (0..draft.laws() + 1).collect(),
+            },
+            _ => {
+                let upper = r.below(held);
+                held += 1;
+                SupplementCall::Lay {
+                    lower: supplement,
+                    upper,
+                    result: buffer(r, SUPPLEMENT_BYTES),
+                    whole: r.one_in(2),
+                }
+            }
+        });
+    }
+    Case::Supplements {
+        store: mostly_own(r, &draft),
+        supplements,
+        calls,
+    }
+}
+
 /// A call that takes a supplement's text or store, or the program that does.
 fn under(r: &mut Random) -> Case {
     let draft = Draft::random(r);
@@ -338,7 +375,7 @@ fn verdict(r: &mut Random, aims: &[Aim]) -> Case {
 
 /// A random case of any call.
 pub fn any(r: &mut Random, aims: &[Aim]) -> Case {
-    match r.below(25) {
+    match r.below(26) {
         0 | 1 => Case::ReadDomain {
             text: domain_text(r),
             store: buffer(r, STORE_BYTES),
@@ -367,6 +404,7 @@ pub fn any(r: &mut Random, aims: &[Aim]) -> Case {
         14 | 15 => single(r),
         16 | 17 => verdict(r, aims),
         18 | 19 => program(r, aims),
-        _ => under(r),
+        20..=24 => under(r),
+        _ => supplement_calls(r),
     }
 }

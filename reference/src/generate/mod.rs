@@ -7,6 +7,7 @@ pub mod coverage;
 pub mod draft;
 pub mod faults;
 pub mod laws;
+pub mod laying;
 pub mod low_water;
 mod mix;
 pub mod random;
@@ -17,7 +18,9 @@ pub mod texts;
 pub mod verdicts;
 
 pub use aims::{Aim, Expect};
-pub use case::{program_name, run_reference, Answer, Call, Case, Outcome};
+pub use case::{
+    handed_on, program_name, run_reference, Answer, Call, Case, Outcome, SupplementCall,
+};
 pub use coverage::Coverage;
 
 use random::Random;

@@ -33,16 +33,20 @@ fn shuffled(r: &mut Random, laws: usize) -> Vec<usize> {
 }
 
 /// The laws of these numbers replaced by random ones.
-fn all_replaced(r: &mut Random, draft: &Draft, numbers: &[usize]) -> Lines {
-    let lines = numbers.iter();
-    lines.map(|&number| replaced(r, draft, number)).collect()
+pub fn all_replaced(
+    r: &mut Random,
+    draft: &Draft,
+    numbers: impl IntoIterator<Item = usize>,
+) -> Lines {
+    let lines = numbers.into_iter();
+    lines.map(|number| replaced(r, draft, number)).collect()
 }
 
 /// A random supplement, now and then an empty one.
 pub fn supplement(r: &mut Random, draft: &Draft) -> Lines {
-    let numbers = shuffled(r, draft.laws());
-    let count = r.below(numbers.len() + 1);
-    all_replaced(r, draft, &numbers[..count])
+    let mut numbers = shuffled(r, draft.laws());
+    numbers.truncate(r.below(numbers.len() + 1));
+    all_replaced(r, draft, numbers)
 }
 
 /// A random domain and a supplement of one line or more.
@@ -108,7 +112,7 @@ pub fn two(r: &mut Random, meeting: Meeting) -> (Draft, [Lines; 2]) {
         Meeting::Overlapping => (&numbers[..second], &numbers[first..]),
         Meeting::Equal => (&numbers[..second], &numbers[..second]),
     };
-    let mut lines = [lower, upper].map(|numbers| all_replaced(r, &draft, numbers));
+    let mut lines = [lower, upper].map(|numbers| all_replaced(r, &draft, numbers.to_vec()));
     lines[1].reverse();
     (draft, lines)
 }
@@ -162,7 +166,7 @@ pub fn with_line(
     let mut others = shuffled(r, draft.laws());
     others.retain(|&other| other != number);
     others.truncate(r.from_to(2, 5));
-    let mut lines = all_replaced(r, &draft, &others);
+    let mut lines = all_replaced(r, &draft, others);
     let at = match place {
         Place::First => 0,
         Place::Middle => r.from_to(1, lines.len() - 1),
@@ -453,7 +457,7 @@ fn long_law(r: &mut Random, size: usize, by: usize) -> (Draft, Lines) {
 /// Lines for every law, in any order.
 fn every_law(r: &mut Random, draft: Draft) -> (Draft, Lines) {
     let numbers = shuffled(r, draft.laws());
-    let lines = all_replaced(r, &draft, &numbers);
+    let lines = all_replaced(r, &draft, numbers);
     (draft, lines)
 }
 
@@ -483,7 +487,7 @@ fn twice(r: &mut Random, spoil: fn(&mut Vec<u8>)) -> (Draft, Lines) {
     numbers.retain(|&other| other != number);
     numbers.truncate(r.below(4));
     numbers.insert(0, number);
-    let mut lines = all_replaced(r, &draft, &numbers);
+    let mut lines = all_replaced(r, &draft, numbers);
     let mut again = match r.one_in(2) {
         true => lines[0].clone(),
         false => replaced(r, &draft, number),

@@ -47,7 +47,7 @@ enum {
 /* The least size of each buffer that is lent to be written. */
 enum {
     WAROTH_STORE = 36000,                                /* bytes: a domain is read into it */
-    WAROTH_SUPPLEMENT = 16000,                           /* bytes: a supplement is read into it */
+    WAROTH_SUPPLEMENT = 16000,                           /* bytes: a supplement is read or laid into it */
     WAROTH_SHEET = WAROTH_STEPS * WAROTH_AGENTS,         /* bytes: a sheet is read into it */
     WAROTH_LEVELS = (WAROTH_STEPS + 1) * WAROTH_FLUENTS, /* numbers: levels */
     WAROTH_OUTPUT = (WAROTH_STEPS + 1) * WAROTH_STATE_LINE + WAROTH_LAST_LINE /* bytes: a program's output */
@@ -66,7 +66,7 @@ enum { WAROTH_INPUT = 60000 };
  *                                                                                             waroth_redo   20,992 */
 enum {
     WAROTH_STACK_TEXTS = 8192,        /* domains and sheets */
-    WAROTH_STACK_SUPPLEMENTS = 16384, /* waroth_read_supplement, waroth_law */
+    WAROTH_STACK_SUPPLEMENTS = 16384, /* waroth_read_supplement, waroth_law, waroth_lay */
     WAROTH_STACK_VERDICTS = 65536,    /* waroth_judge, waroth_judge_under, waroth_verdict */
     WAROTH_STACK_ANSWER = 131072,     /* waroth_answer, waroth_low_water */
     WAROTH_STACK_SESSIONS = 32768     /* sessions, but for the verdict */
@@ -137,7 +137,8 @@ static inline uint32_t waroth_line(uint64_t answer)
     return waroth_refusal(answer) == 0 ? 0 : (uint32_t)answer & 0x7FFFFFFF;
 }
 
-/* Of the answer of a domain's or a supplement's reader or of a writer: the bytes used or written, 0 where it refuses. */
+/* Of the answer of a domain's or a supplement's reader, of waroth_lay or of a writer: the bytes used or written, 0 where it
+ * refuses. */
 static inline uint32_t waroth_count(uint64_t answer)
 {
     return waroth_refusal(answer) == 0 ? (uint32_t)answer : 0;
@@ -247,6 +248,16 @@ uint64_t waroth_read_supplement(const uint8_t *store, size_t store_size, const u
  * both stores may have any size, and size 0, with any pointer but null, is a supplement that replaces nothing.
  * Refusals: 15 for either store, 20. */
 uint64_t waroth_law(const uint8_t *store, size_t store_size, const uint8_t *supplement, size_t supplement_size, size_t law);
+
+/* Lays one supplement over another of the same domain, into a buffer of at least WAROTH_SUPPLEMENT bytes: a law number that
+ * either has is kept, with the upper one's law where both have it. The three stores that are read may have any size, and a
+ * supplement of size 0, with any pointer but null, or of zeros only is empty: laid over another or under it, it only puts it
+ * in order. Count: the bytes used; 0 where both are empty.
+ * Refusals: 10, 15 for the domain's store or either supplement's.
+ * The result: the frames end to end in the order of the law numbers, zeros after: a supplement of the same domain, which may
+ * be laid in turn, whole or its bytes used. After a refusal it is as it was. */
+uint64_t waroth_lay(const uint8_t *store, size_t store_size, const uint8_t *lower, size_t lower_size, const uint8_t *upper,
+                    size_t upper_size, uint8_t *result, size_t result_size);
 
 /* ---- Sheets */
 

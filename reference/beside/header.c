@@ -25,10 +25,21 @@ static const char sheet[] = "B1020100\nB1020002\n";
 /* The first crew lets out less, and the goal asks for less. */
 static const char low_water[] = "AF0C02A6002A001311000010000A\nAF0904A92511000010010E\n";
 
+/* Another office's, over that one: the second crew lets out less, and the goal asks for less still. */
+static const char dredging[] = "AF0904A92511000010010A\nAF0C03A6012A0013110000100002\n";
+
+/* The two in one, by law number. */
+static const char combined[] =
+    "AF0C02A6002A001311000010000A\n"
+    "AF0C03A6012A0013110000100002\n"
+    "AF0904A92511000010010A\n";
+
 enum { LINES = 10, DOMAIN_SIZE = sizeof domain - 1, NAMES = 2, SHEET_SIZE = sizeof sheet - 1 };
 enum { LOW_WATER_SIZE = sizeof low_water - 1, LOW_WATER_BYTES = (LOW_WATER_SIZE - 2) / 2, LAWS = 5 };
+enum { COMBINED_BYTES = (sizeof combined - 1 - 3) / 2, LONGER = WAROTH_SUPPLEMENT + 1 };
 
 static uint8_t store[WAROTH_STORE], supplement[WAROTH_SUPPLEMENT], names[WAROTH_SHEET];
+static uint8_t lower[WAROTH_SUPPLEMENT], upper[WAROTH_SUPPLEMENT], expected[LONGER], result[LONGER];
 static uint8_t text[WAROTH_DOMAIN_TEXT], output[WAROTH_OUTPUT];
 static int16_t levels[WAROTH_LEVELS];
 static struct waroth_session session;
@@ -247,6 +258,71 @@ static int judgements_under(void)
     return 0;
 }
 
+static uint64_t read_into(uint8_t *buffer, const char *lines)
+{
+    return waroth_read_supplement(store, WAROTH_STORE, bytes(lines), strlen(lines), buffer, WAROTH_SUPPLEMENT);
+}
+
+/* Lays as many bytes of one as said over as many of the other, in a longer buffer than is asked for. */
+static uint64_t laid(const uint8_t *below, size_t below_size, const uint8_t *above, size_t above_size)
+{
+    memset(result, 0xEE, sizeof result);
+    return waroth_lay(store, WAROTH_STORE, below, below_size, above, above_size, result, sizeof result);
+}
+
+static int lays(uint64_t answer, uint32_t count)
+{
+    return counts(answer, count) && answer == count && memcmp(result, expected, sizeof result) == 0;
+}
+
+/* A refused laying has no line and leaves the result as it was. */
+static int refuses_to_lay(uint64_t answer, unsigned number)
+{
+    size_t i;
+    for (i = 0; i < sizeof result; i++)
+        if (result[i] != 0xEE)
+            return 0;
+    return refuses_at(answer, number, 0);
+}
+
+static int layings(void)
+{
+    uint64_t answer;
+    memset(expected, 0, sizeof expected);
+    EXPECT(lays(laid(lower, 0, upper, 0), 0));
+    EXPECT(counts(read_into(lower, low_water), LOW_WATER_BYTES) && counts(read_into(upper, dredging), LOW_WATER_BYTES));
+    EXPECT(counts(laid(upper, LOW_WATER_BYTES, lower, 0), LOW_WATER_BYTES) && result[2] == 3 && result[16] == LAWS - 1);
+    EXPECT(counts(read_into(expected, combined), COMBINED_BYTES));
+    EXPECT(lays(laid(lower, WAROTH_SUPPLEMENT, upper, WAROTH_SUPPLEMENT), COMBINED_BYTES));
+    EXPECT(lays(laid(lower, LOW_WATER_BYTES, upper, LOW_WATER_BYTES), COMBINED_BYTES));
+    answer = waroth_law(store, WAROTH_STORE, result, sizeof result, LAWS - 1);
+    EXPECT(stands(answer, 1, 32, 7) && result[38] == 0x0A);
+    answer = waroth_judge_under(store, WAROTH_STORE, result, sizeof result, both, NAMES, levels, WAROTH_LEVELS);
+    EXPECT(judges(answer, WAROTH_CONFLICT, 1, 3, 1));
+    answer = waroth_judge_under(store, WAROTH_STORE, result, COMBINED_BYTES, names, 2 * NAMES, levels, WAROTH_LEVELS);
+    EXPECT(judges(answer, WAROTH_ACCEPTED, 0, 0, 3) && levels[0] == 300 && levels[1] == 290 && levels[2] == 288);
+    /* Once in order it stays: the empty one over it and under it, and it over itself, one store lent twice. */
+    memcpy(lower, result, sizeof lower);
+    EXPECT(lays(laid(lower, WAROTH_SUPPLEMENT, store + WAROTH_STORE - 1, 1), COMBINED_BYTES));
+    EXPECT(lays(laid(store, 0, lower, COMBINED_BYTES), COMBINED_BYTES));
+    EXPECT(lays(laid(lower, WAROTH_SUPPLEMENT, lower, COMBINED_BYTES), COMBINED_BYTES));
+    EXPECT(lays(laid(lower, COMBINED_BYTES, upper, LOW_WATER_BYTES), COMBINED_BYTES));
+    return 0;
+}
+
+/* Over the two that were laid above. */
+static int refused_layings(void)
+{
+    memset(result, 0xEE, sizeof result);
+    EXPECT(refuses_to_lay(waroth_lay(store, 0, lower, 3, upper, 3, result, WAROTH_SUPPLEMENT - 1), WAROTH_NO_ROOM));
+    EXPECT(refuses_to_lay(waroth_lay(store, 0, lower, 3, upper, 3, result, 0), WAROTH_NO_ROOM));
+    EXPECT(refuses_to_lay(waroth_lay(store, 0, lower, 0, upper, 0, result, sizeof result), WAROTH_NOT_DOMAIN));
+    EXPECT(refuses_to_lay(laid(lower, 3, upper, WAROTH_SUPPLEMENT), WAROTH_NOT_DOMAIN));
+    EXPECT(refuses_to_lay(laid(lower, WAROTH_SUPPLEMENT, upper, 3), WAROTH_NOT_DOMAIN));
+    EXPECT(refuses_to_lay(laid(lower, WAROTH_SUPPLEMENT, store, WAROTH_STORE), WAROTH_NOT_DOMAIN));
+    return 0;
+}
+
 /* Domains that are refused by the numbers that the river does not meet. */
 static int refusals(void)
 {
@@ -381,9 +457,10 @@ static int session_verdicts(void)
 
 int main(void)
 {
-    static int (*const parts[])(void) = {refusals,    kinds,  domains,         refused_supplements,
-                                         supplements, sheets, judgements,      judgements_under,
-                                         programs,    edits,  session_verdicts};
+    static int (*const parts[])(void) = {refusals,    kinds,           domains,    refused_supplements,
+                                         supplements, sheets,          judgements, judgements_under,
+                                         layings,     refused_layings, programs,   edits,
+                                         session_verdicts};
     size_t part;
     for (part = 0; part < sizeof parts / sizeof parts[0]; part++) {
         int line = parts[part]();

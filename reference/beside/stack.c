@@ -13,7 +13,7 @@ enum { STACK = 1 << 19, PAINT = 0xA5 };
 static unsigned char stack[STACK];
 static ucontext_t here, there;
 
-static uint8_t store[WAROTH_STORE], supplement[WAROTH_SUPPLEMENT], names[WAROTH_SHEET];
+static uint8_t store[WAROTH_STORE], supplement[WAROTH_SUPPLEMENT], result[WAROTH_SUPPLEMENT], names[WAROTH_SHEET];
 static uint8_t text[WAROTH_DOMAIN_TEXT], output[WAROTH_OUTPUT];
 static int16_t levels[WAROTH_LEVELS];
 static struct waroth_session session;
@@ -37,6 +37,11 @@ static void read_supplement(void)
     answer = waroth_read_supplement(store, sizeof store, replacing.text, replacing.size, supplement, sizeof supplement);
 }
 static void law(void) { answer = waroth_law(store, sizeof store, supplement, sizeof supplement, 0); }
+static void lay(void)
+{
+    answer = waroth_lay(store, sizeof store, supplement, sizeof supplement, supplement, sizeof supplement, result,
+                        sizeof result);
+}
 static void read_sheet(void) { answer = waroth_read_sheet(sheet.text, sheet.size, agents, names, sizeof names); }
 static void write_sheet(void) { answer = waroth_write_sheet(names, steps * agents, agents, text, sizeof text); }
 static void judge(void) { answer = waroth_judge(store, sizeof store, names, steps * agents, levels, WAROTH_LEVELS); }
@@ -67,6 +72,7 @@ static struct call {
     {frame, "waroth_frame", WAROTH_STACK_TEXTS, 0},
     {read_supplement, "waroth_read_supplement", WAROTH_STACK_SUPPLEMENTS, 0},
     {law, "waroth_law", WAROTH_STACK_SUPPLEMENTS, 0},
+    {lay, "waroth_lay", WAROTH_STACK_SUPPLEMENTS, 0},
     {read_sheet, "waroth_read_sheet", WAROTH_STACK_TEXTS, 0},
     {write_sheet, "waroth_write_sheet", WAROTH_STACK_TEXTS, 0},
     {judge, "waroth_judge", WAROTH_STACK_VERDICTS, 0},
@@ -144,7 +150,7 @@ int stack_tried(struct part of_domain, struct part of_supplement, struct part of
     agents = waroth_agents(answer);
     refused(frame);
     refused(write_domain);
-    if (refused(read_supplement) != 0 || refused(law) != 0)
+    if (refused(read_supplement) != 0 || refused(law) != 0 || refused(lay) != 0)
         return 0;
     if (refused(read_sheet) != 0)
         return 0;

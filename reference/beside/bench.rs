@@ -8,7 +8,7 @@
 mod desk;
 mod inputs;
 
-use inputs::Input;
+use inputs::{Input, Two};
 use std::hint::black_box;
 use std::time::{Duration, Instant};
 use waroth_reference::generate::draft::sheet_text;
@@ -17,7 +17,7 @@ use waroth_reference::judge::{Judged, Verdict, LEVELS};
 use waroth_reference::sheet::SHEET_BYTES;
 use waroth_reference::store::STORE_BYTES;
 use waroth_reference::supplement::SUPPLEMENT_BYTES;
-use waroth_reference::{judge, judge_under, plain, read_domain, read_sheet};
+use waroth_reference::{judge, judge_under, lay, plain, read_domain, read_sheet};
 
 const RUNS: usize = 9;
 const RUN: Duration = Duration::from_millis(60);
@@ -81,12 +81,18 @@ fn verdicts(input: &Input) {
     println!("{name:42} {library:12.0} {second:12.0} {tuned:8.2} {plain:12.0} {straight:8.2}");
 }
 
+/// A supplement as its reader leaves it.
+fn in_store(lines: &[Vec<u8>]) -> Vec<u8> {
+    let mut supplement = lines.concat();
+    supplement.resize(SUPPLEMENT_BYTES, 0);
+    supplement
+}
+
 /// Verdicts under a supplement that gives so many laws again: the judgement is the one without it.
 fn verdicts_under(input: &Input, laws: usize) {
     let (store, sheet) = (input.draft.store(), &input.sheet);
     let lines = inputs::repeated(&input.draft, laws);
-    let mut supplement = lines.concat();
-    supplement.resize(SUPPLEMENT_BYTES, 0);
+    let supplement = in_store(&lines);
     let mut levels = [(); 3].map(|()| vec![0; LEVELS]);
     let [ours, theirs, without] = &mut levels;
     let judged = judge_under(&store, &supplement, sheet, theirs).expect("a sheet that is judged");
@@ -173,6 +179,26 @@ fn edits() {
     assert!(session == other, "the sessions differ");
 }
 
+/// One supplement laid over another.
+fn layings(two: &Two) {
+    let store = two.draft.store();
+    let (lower, upper) = (in_store(&two.lower), in_store(&two.upper));
+    let (mut result, mut other) = (vec![1; SUPPLEMENT_BYTES], vec![2; SUPPLEMENT_BYTES]);
+    let used = lay(&store, &lower, &upper, &mut other).expect("two supplements");
+    let answer = desk::lay(&store, &lower, &upper, &mut result);
+    assert_eq!(answer, Answer::Count(used));
+    assert!(result == other, "the results differ");
+    compared(
+        &format!("laying: {}", two.name),
+        || {
+            black_box(desk::lay(black_box(&store), &lower, &upper, &mut result));
+        },
+        || {
+            let _ = black_box(lay(black_box(&store), &lower, &upper, &mut other));
+        },
+    );
+}
+
 fn main() {
     println!(
         "{:42} {:>12} {:>12} {:>8} {:>12} {:>8}",
@@ -186,6 +212,9 @@ fn main() {
     domain_texts(&inputs::long_text());
     sheet_texts(&full);
     edits();
+    for two in [inputs::few_laws(), inputs::longest_laws()] {
+        layings(&two);
+    }
     println!(
         "{:42} {:>12} {:>12} {:>8} {:>12} {:>8}",
         "verdicts under a supplement, a second", "library", "second", "ratio", "without", "ratio"

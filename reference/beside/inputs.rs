@@ -1,10 +1,11 @@
-//! What the benchmark runs on: accepted domains, and sheets of 64 steps for them that are accepted.
+//! What the benchmark runs on: accepted domains, and sheets of 64 steps for them that are accepted; and two supplements.
 
 use waroth_reference::generate::draft::{law, replacement, Draft};
+use waroth_reference::generate::faults::Lines;
 use waroth_reference::generate::laws::{constant, node, wrapped};
 use waroth_reference::generate::random::Random;
 use waroth_reference::generate::shapes::longest;
-use waroth_reference::generate::supplements::LONGEST_LAW;
+use waroth_reference::generate::supplements::{longest_lines, LONGEST_LAW};
 
 const STEPS: usize = 64;
 
@@ -111,6 +112,40 @@ pub fn long_laws() -> Input {
         name: "118 bytes each, 64 steps",
         draft,
         sheet: vec![0; STEPS],
+    }
+}
+
+/// A domain and two supplements for it.
+pub struct Two {
+    pub name: &'static str,
+    pub draft: Draft,
+    pub lower: Lines,
+    pub upper: Lines,
+}
+
+/// Three laws of the pool over two, one of them of both.
+pub fn few_laws() -> Two {
+    let draft = Draft::pool();
+    let again = |number| replacement(number, draft.law(number));
+    let (lower, upper) = ([4, 2].map(again).to_vec(), [3, 0, 4].map(again).to_vec());
+    Two {
+        name: "3 laws over 2, pool",
+        draft,
+        lower,
+        upper,
+    }
+}
+
+/// The longest supplement over another, for the longest domain.
+pub fn longest_laws() -> Two {
+    let mut r = Random::seeded(9);
+    let draft = longest(&mut r);
+    let [lower, upper] = [(); 2].map(|()| longest_lines(&mut r, &draft));
+    Two {
+        name: "128 laws of 118 bytes over 128",
+        draft,
+        lower,
+        upper,
     }
 }
 

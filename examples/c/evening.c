@@ -2,12 +2,14 @@
  * and then a sheet's, as the program takes them. It is read and judged; then the sheet is entered into a session and a
  * step amended, and that is undone and redone, with the verdict each time. If a second file is named, it has a
  * supplement's lines: instead of the session, every law in force is asked for, and the sheet judged under the supplement.
- * Nothing is allocated: the header names the size of every buffer.
+ * A third has those of a supplement that is laid over it first. Nothing is allocated: the header names the size of every
+ * buffer.
  *
  *     rt staticlib desk
  *     cc -std=c11 -I include examples/c/evening.c target/staticlib/libdesk.a -o evening
  *     ./evening examples/pool/accepted.hex
  *     ./evening examples/pool/accepted.hex examples/c/low_water.af
+ *     ./evening examples/pool/accepted.hex examples/c/low_water.af examples/c/dredging.af
  *
  * The exit code is 0 if the file's sheet is accepted, under the supplement where there is one, 1 if it is broken, 2 if
  * something is refused or cannot be read. */
@@ -20,7 +22,9 @@ enum { IS_ACCEPTED, IS_BROKEN, IS_REFUSED };
 
 static uint8_t input[WAROTH_INPUT + 1]; /* a byte more, to see that there are too many */
 static uint8_t store[WAROTH_STORE];
-static uint8_t supplement[WAROTH_SUPPLEMENT];
+static uint8_t ours[WAROTH_SUPPLEMENT];     /* the second file's */
+static uint8_t theirs[WAROTH_SUPPLEMENT];   /* the third's */
+static uint8_t combined[WAROTH_SUPPLEMENT]; /* theirs over ours */
 static uint8_t names[WAROTH_SHEET];
 static uint8_t text[WAROTH_SHEET_TEXT];
 static int16_t levels[WAROTH_LEVELS];
@@ -156,12 +160,41 @@ static size_t sheet_place(size_t size, unsigned *lines_before)
     return size;
 }
 
-/* ---- The supplement */
+/* ---- The supplements: each buffer has WAROTH_SUPPLEMENT bytes */
+
+/* A file's, read into a buffer; 0 where that is done. */
+static int read_supplement(const char *name, uint8_t *buffer)
+{
+    size_t size;
+    uint64_t answer;
+    int end = read_file(name, &size);
+    if (end != 0)
+        return end;
+    answer = waroth_read_supplement(store, sizeof store, input, size, buffer, WAROTH_SUPPLEMENT);
+    if ((end = refused_line("supplement", answer, 0)) != 0)
+        return end;
+    printf("a supplement of %u bytes\n", (unsigned)waroth_count(answer));
+    return 0;
+}
+
+/* A second file's laid over it; 0 where that is done. */
+static int lay_over(const char *name)
+{
+    uint64_t answer;
+    int end = read_supplement(name, theirs);
+    if (end != 0)
+        return end;
+    answer = waroth_lay(store, sizeof store, ours, sizeof ours, theirs, sizeof theirs, combined, sizeof combined);
+    if ((end = refused("laid over it", answer)) != 0)
+        return end;
+    printf("laid over it: %u bytes\n", (unsigned)waroth_count(answer));
+    return 0;
+}
 
 /* The law in force of this number: its payload, where it stands. */
-static void print_law(unsigned number)
+static void print_law(const uint8_t *supplement, unsigned number)
 {
-    uint64_t answer = waroth_law(store, sizeof store, supplement, sizeof supplement, number);
+    uint64_t answer = waroth_law(store, sizeof store, supplement, WAROTH_SUPPLEMENT, number);
     const uint8_t *payload = (waroth_replaced(answer) ? supplement : store) + waroth_place(answer);
     size_t byte;
     if (refused("law", answer) != 0)
@@ -172,23 +205,17 @@ static void print_law(unsigned number)
     printf("\n");
 }
 
-/* The file's supplement read, every law in force, and one that is not there; the names of a sheet judged under it. */
-static int judge_under(const char *name, unsigned laws, unsigned fluents, size_t names_size)
+/* Every law in force under a supplement, and one that is not there; the names of a sheet judged under it. */
+static int judge_under(const uint8_t *supplement, unsigned laws, unsigned fluents, size_t names_size)
 {
-    size_t size;
     unsigned number;
-    uint64_t answer;
-    int end = read_file(name, &size);
-    if (end != 0)
-        return end;
-    answer = waroth_read_supplement(store, sizeof store, input, size, supplement, sizeof supplement);
-    if ((end = refused_line("supplement", answer, 0)) != 0)
-        return end;
-    printf("a supplement of %u bytes:\n", (unsigned)waroth_count(answer));
+    printf("the laws in force under it:\n");
     for (number = 0; number <= laws; number++)
-        print_law(number);
-    answer = waroth_judge_under(store, sizeof store, supplement, sizeof supplement, names, names_size, levels, WAROTH_LEVELS);
-    return print_judgement("the same sheet under it", answer, fluents);
+        print_law(supplement, number);
+    return print_judgement("the same sheet under it",
+                           waroth_judge_under(store, sizeof store, supplement, WAROTH_SUPPLEMENT, names, names_size, levels,
+                                              WAROTH_LEVELS),
+                           fluents);
 }
 
 /* ---- The session */
@@ -233,8 +260,8 @@ int main(int argc, char **argv)
     unsigned lines_before, agents, fluents, laws, steps;
     uint64_t answer;
     int end;
-    if (argc != 2 && argc != 3) {
-        fprintf(stderr, "usage: evening FILE [SUPPLEMENT], files of hex lines\n");
+    if (argc < 2 || argc > 4) {
+        fprintf(stderr, "usage: evening FILE [SUPPLEMENT [UPPER]], files of hex lines\n");
         return IS_REFUSED;
     }
     if ((end = read_file(argv[1], &size)) != 0)
@@ -258,8 +285,13 @@ int main(int argc, char **argv)
     /* Exactly the names of these steps, not the whole buffer. */
     answer = waroth_judge(store, sizeof store, names, (size_t)steps * agents, levels, WAROTH_LEVELS);
     end = print_judgement("the file's sheet", answer, fluents);
-    if (argc == 3)
-        return judge_under(argv[2], laws, fluents, (size_t)steps * agents);
-    edit(agents, fluents, steps);
-    return end;
+    if (argc == 2) {
+        edit(agents, fluents, steps);
+        return end;
+    }
+    if ((end = read_supplement(argv[2], ours)) != 0)
+        return end;
+    if (argc == 4 && (end = lay_over(argv[3])) != 0)
+        return end;
+    return judge_under(argc == 4 ? combined : ours, laws, fluents, (size_t)steps * agents);
 }

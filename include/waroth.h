@@ -255,7 +255,8 @@ uint64_t waroth_law(const uint8_t *store, size_t store_size, const uint8_t *supp
  * in order. Count: the bytes used; 0 where both are empty.
  * Refusals: 10, 15 for the domain's store or either supplement's.
  * The result: the frames end to end in the order of the law numbers, zeros after: a supplement of the same domain, which may
- * be laid in turn, whole or its bytes used. After a refusal it is as it was. */
+ * be laid in turn, whole or its bytes used. Judging under it is judging the domain with its laws replaced by the lower one's
+ * and then by the upper one's. After a refusal it is as it was. */
 uint64_t waroth_lay(const uint8_t *store, size_t store_size, const uint8_t *lower, size_t lower_size, const uint8_t *upper,
                     size_t upper_size, uint8_t *result, size_t result_size);
 
@@ -284,7 +285,7 @@ uint64_t waroth_judge(const uint8_t *store, size_t store_size, const uint8_t *sh
 
 /* The same under a supplement, whose store may have any size: as if the domain had its laws replaced. Answers as
  * waroth_judge, and just so where the supplement is empty (size 0, with any pointer but null, or zeros only).
- * Of a supplement that was read, the bytes used (waroth_count) are enough, and quicker than the whole buffer with its zeros.
+ * Of a supplement that was read or laid, the bytes used (waroth_count) are enough, and quicker than the whole buffer with its zeros.
  * Refusals: 10, 15 for either store, 8, 9. The levels: as waroth_judge. */
 uint64_t waroth_judge_under(const uint8_t *store, size_t store_size, const uint8_t *supplement, size_t supplement_size,
                             const uint8_t *sheet, size_t sheet_size, int16_t *levels, size_t levels_size);

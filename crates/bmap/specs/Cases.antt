@@ -1,11 +1,11 @@
 -- The cases of document 01: those marked with a star in one list, the others in a second; beside them what they leave open, and the
 -- sentences of document 02. One statement.
-use Prim.Native.Nat.{ℕ, _+_, _-_}
+use Prim.Native.Nat.{ℕ, _+_}
 use mathlib.Core.Path.{_≡_, refl}
 use mathlib.Core.Bool.{false}
 use mathlib.Core.List.{List, [], _∷_, _++_}
 use lib.IntN.{ℤ, pos, negsuc}
-use lib.ListN.{replicate}
+use lib.ListN.{take, replicate}
 use Rattle.bmap.specs.Plain.{any, all, flat, numbers, text}
 use Rattle.bmap.specs.Number.{Valued, value, no-value, bounded, operate, signedWord}
 use Rattle.bmap.specs.Tree.{fluent, namedE, namedC, allowedE, allowedC}
@@ -14,7 +14,7 @@ use Rattle.bmap.specs.Code.{codeOf, parseE, parseC}
 use Rattle.bmap.specs.Line.{linesOf, digit, bytes, framed, decode, digitFor, hex, lineFor}
 use Rattle.bmap.specs.Domain.{Names, occursIn, knownTo, readable}
 use Rattle.bmap.specs.Payload.{maskFits, agentsFit, fluentFits, knowledgeFits, entryFits, executableIn, effectIn, mustIn, lawIn, itemIn}
-use Rattle.bmap.specs.Refusal.{Answer, Reading, read, refusedAt, got, refused}
+use Rattle.bmap.specs.Refusal.{Answer, Reading, read, refusedAt, got, refused, orElse, then}
 use Rattle.bmap.specs.Accept.{inOrder, room, fresh, checked, accept, complete, takenFrom}
 use Rattle.bmap.specs.Sheet.{stepOf, stepsFrom, stepsIn, readSheet, rows, sheetOf}
 use Rattle.bmap.specs.Buffer.{Filled, Written}
@@ -23,7 +23,7 @@ use Rattle.bmap.specs.Verdict.{Judgement, judgeSheet}
 use Rattle.bmap.specs.Judge.{Judged, accepted, broken, eachFrom, history, holds, carries, placed, permits, permitted, mayOccur, sets, settled, levelAfter, stateAfter, inRange, landed, step, carried, ran, judge}
 use Rattle.bmap.specs.Session.{enter, strike, amend, edited, replayed, standingSheet, edit, undo, redo, verdict, Call, editing, undoing, redoing, Reply, done, turn, after, replies, loggedAll, layout, Changed, openSession}
 use Rattle.bmap.specs.Supplement.{replacementOf, inForceFrom, replaced, replacementIn, supplementFrom, readSupplement, supplementIn, judgeUnder, inDomain, inSupplement, Part, lawParts, replacementPart, lawInForce}
-use Rattle.bmap.specs.Laying.{byNumber, ordered, laid, laySupplements, orderSupplement}
+use Rattle.bmap.specs.Laying.{byNumber, ordered, laid, bytesOf, bothLaid, laySupplements, orderSupplement}
 use Rattle.bmap.specs.Program.{digitsOf, spaced, stateLines, split, output, lowWater}
 use Rattle.bmap.specs.River.{p, judgedUnder, gives}
 use Rattle.bmap.specs.declared.Operation.the-variants.{Product, Quotient, Remainder}
@@ -407,58 +407,85 @@ ours = noGoal ++ mayAlways
 abbrev dredging : List ℕ
 dredging = noSuchGoal ++ setsTo299
 
-abbrev lays : List ℕ → List ℕ → ℕ → List ℕ → Case
-lays lower upper used bytes = record { Of = Written; left = laySupplements store lower upper lent; right = record { answer = got used; buffer = bytes ++ replicate (16_000 - used) 0 } }
+-- the bytes that a call puts into its result; that zeros follow to the end, and what a refusal leaves, are cases of the whole buffer
+abbrev laidBytes : List ℕ → List ℕ → List ℕ → Answer (List ℕ)
+laidBytes domain lower upper = then (bothLaid domain lower upper) (λ s. got (bytesOf s))
 
--- a refusal leaves the result buffer "untouched"
-abbrev layingRefused : List ℕ → List ℕ → List ℕ → List ℕ → ℕ → Case
-layingRefused domain lower upper result number = record { Of = Written; left = laySupplements domain lower upper result; right = record { answer = refused number; buffer = result } }
+abbrev lays : List ℕ → List ℕ → List ℕ → Case
+lays lower upper bytes = record { Of = Answer (List ℕ); left = laidBytes store lower upper; right = got bytes }
+
+abbrev notLaid : List ℕ → List ℕ → List ℕ → Case
+notLaid domain lower upper = record { Of = Answer (List ℕ); left = laidBytes domain lower upper; right = refused 15 }
 
 -- P with its laws 0 and 4 replaced by ours
 abbrev oursInForce : List ℕ
 oursInForce = text "A10102\nA20600C80140012C\nA303000003\nA403010001\nA403020002\nA502002A\nA50801241100001000DC\nA60A002A001311000010000E\nA60A012A0013110000100006\nA9012A\n"
 
--- what a call leaves, laid again
+-- laid again, asked and judged under
 abbrev onTop : List ℕ → List ℕ → List ℕ
-onTop lower upper = laySupplements store lower upper lent .buffer
+onTop lower upper = orElse [] (laidBytes store lower upper)
+
+-- a domain whose law 4 is an A5, and a supplement that it accepts
+abbrev fiveMay : List ℕ
+fiveMay = 161 ∷ 1 ∷ 1 ∷ 162 ∷ 6 ∷ 0 ∷ 0 ∷ 0 ∷ 9 ∷ 0 ∷ 1 ∷ 164 ∷ 3 ∷ 1 ∷ 0 ∷ 1 ∷ flat (replicate 5 (165 ∷ 2 ∷ 0 ∷ 42 ∷ []))
+
+abbrev fifthMay : List ℕ
+fifthMay = 175 ∷ 4 ∷ 4 ∷ 165 ∷ 0 ∷ 42 ∷ []
+
+-- a domain of 128 laws, the first an A5, and the last replaced
+abbrev mostLawsThere : List ℕ
+mostLawsThere = take 20 fiveMay ++ flat (replicate 127 (169 ∷ 1 ∷ 42 ∷ []))
+
+abbrev lastLaw : List ℕ
+lastLaw = 175 ∷ 3 ∷ 127 ∷ 169 ∷ 42 ∷ []
 
 abbrev pub layings : List Case
 layings =
     -- "keeps each law number of either, the upper one winning; the result is ordered by law number"
-    lays ours dredging 22 (mayAlways ++ setsTo299 ++ noSuchGoal)
-    ∷ lays dredging ours 21 (mayAlways ++ setsTo299 ++ noGoal)
-    -- "zeros after" to the end of a longer buffer, "its bytes used returned"
-    ∷ record { Of = Written; left = laySupplements store ours dredging (replicate 16_003 7); right = record { answer = got 22; buffer = mayAlways ++ setsTo299 ++ noSuchGoal ++ replicate 15_981 0 } }
+    lays ours dredging (mayAlways ++ setsTo299 ++ noSuchGoal)
+    ∷ lays dredging ours (mayAlways ++ setsTo299 ++ noGoal)
+    -- the first and the last law number
+    ∷ record { Of = Answer (List ℕ); left = laidBytes mostLawsThere lastLaw mayAlways; right = got (mayAlways ++ lastLaw) }
+    -- "zeros after", to the end of a longer buffer too, "its bytes used returned"
+    ∷ record { Of = Written; left = laySupplements store ours dredging lent; right = record { answer = got 22; buffer = mayAlways ++ setsTo299 ++ noSuchGoal ++ replicate 15_978 0 } }
+    ∷ record { Of = Written; left = laySupplements store [] [] (replicate 16_003 7); right = record { answer = got 0; buffer = replicate 16_003 0 } }
     -- "laying three gives the same whichever pair is laid first"
-    ∷ lays (onTop ours dredging) noGoal 21 (mayAlways ++ setsTo299 ++ noGoal)
-    ∷ lays ours (onTop dredging noGoal) 21 (mayAlways ++ setsTo299 ++ noGoal)
+    ∷ lays (onTop ours dredging) noGoal (mayAlways ++ setsTo299 ++ noGoal)
+    ∷ lays ours (onTop dredging noGoal) (mayAlways ++ setsTo299 ++ noGoal)
     -- "laying the empty one over or under another only orders it": no bytes, and zeros only
-    ∷ lays ours [] 11 (mayAlways ++ noGoal)
-    ∷ lays [] ours 11 (mayAlways ++ noGoal)
-    ∷ lays (0 ∷ 0 ∷ []) ours 11 (mayAlways ++ noGoal)
-    ∷ lays ours (0 ∷ 0 ∷ []) 11 (mayAlways ++ noGoal)
+    ∷ lays ours [] (mayAlways ++ noGoal)
+    ∷ lays [] ours (mayAlways ++ noGoal)
+    ∷ lays (0 ∷ 0 ∷ []) ours (mayAlways ++ noGoal)
+    ∷ lays ours (0 ∷ 0 ∷ []) (mayAlways ++ noGoal)
     ∷ record { Of = Written; left = orderSupplement store ours lent; right = record { answer = got 11; buffer = mayAlways ++ noGoal ++ replicate 15_989 0 } }
-    ∷ lays [] [] 0 []
-    -- "one laid over itself is itself once ordered"
-    ∷ lays ours ours 11 (mayAlways ++ noGoal)
+    -- "one laid over itself is itself once ordered": and itself, where it is ordered already
+    ∷ lays ours ours (mayAlways ++ noGoal)
+    ∷ lays (mayAlways ++ noGoal) (mayAlways ++ noGoal) (mayAlways ++ noGoal)
     -- "it does not matter which of two without a common number is the upper"
-    ∷ lays ours setsTo299 21 (mayAlways ++ setsTo299 ++ noGoal)
-    ∷ lays setsTo299 ours 21 (mayAlways ++ setsTo299 ++ noGoal)
+    ∷ lays ours setsTo299 (mayAlways ++ setsTo299 ++ noGoal)
+    ∷ lays setsTo299 ours (mayAlways ++ setsTo299 ++ noGoal)
     -- zeros after a supplement are none of it
-    ∷ lays (ours ++ (0 ∷ [])) (setsTo299 ++ (0 ∷ 0 ∷ [])) 21 (mayAlways ++ setsTo299 ++ noGoal)
-    -- "Refusals: 10 for a result buffer under 16,000 bytes, then 15 for the domain or for either supplement store"
-    ∷ layingRefused store ours dredging (replicate 15_999 7) 10
-    ∷ layingRefused [] (1 ∷ []) (1 ∷ []) (replicate 15_999 7) 10
-    ∷ layingRefused (store ++ (1 ∷ [])) ours dredging lent 15
-    ∷ layingRefused store (ours ++ (1 ∷ [])) dredging lent 15
-    ∷ layingRefused store ours (dredging ++ (1 ∷ [])) lent 15
-    -- a number given twice in one of them; another domain's, whose law 4 is an A5
-    ∷ layingRefused store ours (noGoal ++ noSuchGoal) lent 15
-    ∷ layingRefused store (175 ∷ 3 ∷ 4 ∷ 165 ∷ 42 ∷ []) [] lent 15
+    ∷ lays (ours ++ (0 ∷ [])) (setsTo299 ++ (0 ∷ 0 ∷ [])) (mayAlways ++ setsTo299 ++ noGoal)
+    -- "Refusals: 10 for a result buffer under 16,000 bytes, then 15"; "both leave the result buffer untouched"
+    ∷ record { Of = Written; left = laySupplements [] (1 ∷ []) (1 ∷ []) (replicate 15_999 7); right = record { answer = refused 10; buffer = replicate 15_999 7 } }
+    ∷ record { Of = Written; left = laySupplements store ours (dredging ++ (1 ∷ [])) lent; right = record { answer = refused 15; buffer = lent } }
+    -- "15 for the domain or for either supplement store"
+    ∷ notLaid (store ++ (1 ∷ [])) ours dredging
+    ∷ notLaid store (ours ++ (1 ∷ [])) dredging
+    -- a number given twice in one of them
+    ∷ notLaid store ours (noGoal ++ noSuchGoal)
+    ∷ notLaid store (noGoal ++ noSuchGoal) ours
+    -- "Both are supplements to one domain": not another's, which that one accepts, below or above
+    ∷ record { Of = Answer (List ℕ); left = laidBytes fiveMay fifthMay []; right = got fifthMay }
+    ∷ notLaid store fifthMay []
+    ∷ notLaid store [] fifthMay
     -- the law in force is the upper one's, the lower one's, the domain's own
     ∷ force (onTop ours dredging) 4 (got (record { stands = inSupplement 20; bytes = 40 ∷ 42 ∷ [] }))
     ∷ force (onTop ours dredging) 0 (got (record { stands = inSupplement 4; bytes = 0 ∷ 42 ∷ [] }))
     ∷ force (onTop ours dredging) 1 (got (record { stands = inDomain 38; bytes = 1 ∷ 36 ∷ 17 ∷ 0 ∷ 0 ∷ 16 ∷ 0 ∷ 220 ∷ [] }))
+    -- ordering changes none, only where it stands
+    ∷ force ours 4 (got (record { stands = inSupplement 4; bytes = 42 ∷ [] }))
+    ∷ force (onTop ours []) 4 (got (record { stands = inSupplement 10; bytes = 42 ∷ [] }))
     -- "Judging a domain under the combined supplement"
     ∷ judgesUnder (onTop ours dredging) (1 ∷ 0 ∷ []) (record { answer = got (broken 8 1 4); levels = pos 300 ∷ pos 299 ∷ replicate 2_078 (pos 7) })
     ∷ judgesUnder (onTop dredging ours) (1 ∷ 0 ∷ []) (record { answer = got accepted; levels = pos 300 ∷ pos 299 ∷ replicate 2_078 (pos 7) })
@@ -473,4 +500,4 @@ AllHold (c ∷ l) = (c .left ≡ c .right) × AllHold l
 
 pub shown : AllHold starred × AllHold others × AllHold edges × AllHold sessions × AllHold calls × AllHold supplements × AllHold layings
 unfolding p judgedUnder text any all flat numbers bounded signedWord namedE namedC allowedE allowedC evalE evalC codeOf parseE parseC linesOf digit bytes framed decode occursIn knownTo readable maskFits agentsFit fluentFits knowledgeFits entryFits executableIn effectIn mustIn lawIn itemIn inOrder room fresh checked accept complete takenFrom stepOf stepsFrom eachFrom history holds carries placed permits permitted mayOccur sets settled levelAfter stateAfter inRange landed step carried ran judge digitsOf spaced stateLines split output edited replayed standingSheet edit undo redo turn after replies loggedAll layout openSession readDomain standsAt frameAt framesFrom domainIn start nextFrame writeDomain stepsIn readSheet rows judgeSheet sheetOf verdict digitFor hex lineFor replacementOf inForceFrom replaced replacementIn supplementFrom readSupplement supplementIn judgeUnder lawParts replacementPart lawInForce lowWater byNumber ordered laid laySupplements orderSupplement
-shown = ((refl, (refl, (refl, (refl, (refl, (refl, (refl, (refl, (refl, (refl, (refl, (refl, (refl, (refl, (refl, (refl, tt)))))))))))))))), (refl, (refl, (refl, (refl, (refl, (refl, tt)))))), (refl, (refl, (refl, (refl, (refl, (refl, (refl, (refl, (refl, (refl, (refl, (refl, (refl, (refl, (refl, (refl, (refl, (refl, (refl, (refl, (refl, (refl, (refl, (refl, (refl, (refl, (refl, (refl, (refl, (refl, (refl, (refl, (refl, (refl, (refl, (refl, (refl, (refl, (refl, (refl, (refl, (refl, (refl, (refl, (refl, (refl, (refl, (refl, (refl, (refl, (refl, (refl, (refl, (refl, (refl, (refl, (refl, (refl, (refl, tt))))))))))))))))))))))))))))))))))))))))))))))))))))))))))), (refl, (refl, (refl, (refl, (refl, (refl, (refl, (refl, (refl, (refl, tt)))))))))), (refl, (refl, (refl, (refl, (refl, (refl, (refl, (refl, (refl, (refl, (refl, (refl, (refl, tt))))))))))))), (refl, (refl, (refl, (refl, (refl, (refl, (refl, (refl, (refl, (refl, (refl, (refl, (refl, (refl, (refl, (refl, (refl, (refl, (refl, (refl, (refl, (refl, (refl, (refl, (refl, (refl, (refl, (refl, (refl, (refl, (refl, (refl, (refl, (refl, (refl, (refl, (refl, (refl, (refl, (refl, (refl, (refl, (refl, (refl, (refl, (refl, (refl, (refl, (refl, (refl, (refl, (refl, (refl, (refl, (refl, (refl, (refl, (refl, (refl, (refl, (refl, tt))))))))))))))))))))))))))))))))))))))))))))))))))))))))))))), (refl, (refl, (refl, (refl, (refl, (refl, (refl, (refl, (refl, (refl, (refl, (refl, (refl, (refl, (refl, (refl, (refl, (refl, (refl, (refl, (refl, (refl, (refl, (refl, (refl, (refl, (refl, (refl, (refl, tt))))))))))))))))))))))))))))))
+shown = ((refl, (refl, (refl, (refl, (refl, (refl, (refl, (refl, (refl, (refl, (refl, (refl, (refl, (refl, (refl, (refl, tt)))))))))))))))), (refl, (refl, (refl, (refl, (refl, (refl, tt)))))), (refl, (refl, (refl, (refl, (refl, (refl, (refl, (refl, (refl, (refl, (refl, (refl, (refl, (refl, (refl, (refl, (refl, (refl, (refl, (refl, (refl, (refl, (refl, (refl, (refl, (refl, (refl, (refl, (refl, (refl, (refl, (refl, (refl, (refl, (refl, (refl, (refl, (refl, (refl, (refl, (refl, (refl, (refl, (refl, (refl, (refl, (refl, (refl, (refl, (refl, (refl, (refl, (refl, (refl, (refl, (refl, (refl, (refl, (refl, tt))))))))))))))))))))))))))))))))))))))))))))))))))))))))))), (refl, (refl, (refl, (refl, (refl, (refl, (refl, (refl, (refl, (refl, tt)))))))))), (refl, (refl, (refl, (refl, (refl, (refl, (refl, (refl, (refl, (refl, (refl, (refl, (refl, tt))))))))))))), (refl, (refl, (refl, (refl, (refl, (refl, (refl, (refl, (refl, (refl, (refl, (refl, (refl, (refl, (refl, (refl, (refl, (refl, (refl, (refl, (refl, (refl, (refl, (refl, (refl, (refl, (refl, (refl, (refl, (refl, (refl, (refl, (refl, (refl, (refl, (refl, (refl, (refl, (refl, (refl, (refl, (refl, (refl, (refl, (refl, (refl, (refl, (refl, (refl, (refl, (refl, (refl, (refl, (refl, (refl, (refl, (refl, (refl, (refl, (refl, (refl, tt))))))))))))))))))))))))))))))))))))))))))))))))))))))))))))), (refl, (refl, (refl, (refl, (refl, (refl, (refl, (refl, (refl, (refl, (refl, (refl, (refl, (refl, (refl, (refl, (refl, (refl, (refl, (refl, (refl, (refl, (refl, (refl, (refl, (refl, (refl, (refl, (refl, (refl, (refl, (refl, (refl, (refl, (refl, tt))))))))))))))))))))))))))))))))))))

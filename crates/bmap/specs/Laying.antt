@@ -22,7 +22,7 @@ listed (some r) = r ∷ []
 unfoldable pub byNumber : (ℕ → Option Replacement) → List Replacement
 byNumber found = flat (map (λ n. listed (found n)) (numbers 0 mostLaws))
 
--- "once ordered": the same replacements
+-- "once ordered": of an accepted one the same replacements
 unfoldable pub ordered : List Replacement → List Replacement
 ordered s = byNumber (replacementOf s)
 

@@ -150,14 +150,16 @@ pub record Supplements (store lower upper : List ℕ) (d : Domain) (l u : List R
 abbrev pub Rising : List Replacement → Type 0
 Rising s = (i j : ℕ) → i < j → j < length s → getD (map replaces s) i 0 < getD (map replaces s) j 0
 
--- "keeps each law number of either, the upper one winning; the result is ordered by law number": that fixes it
+-- "keeps each law number of either, the upper one winning; the result is ordered by law number"
 pub record Lays (l u r : List Replacement) : Type 0 where
   pub keeps : (n : ℕ) → replacementOf r n ≡ winning l u n
   pub rising : Rising r
 
 -- the result is again a supplement that the domain accepts, in the whole buffer and in the bytes used alone; it always fits
 pub record LaidAgain (store lower upper result : List ℕ) (d : Domain) (l u : List Replacement) : Type 0 where
+  -- the two sentences fix it
   pub lays : Lays l u (laid l u)
+  pub fixed : (r : List Replacement) → Lays l u r → r ≡ laid l u
   pub fits : length (bytesOf (laid l u)) ≤ supplementSize
   pub answer : laySupplements store lower upper result .answer ≡ got (length (bytesOf (laid l u)))
   pub whole : supplementIn d (laySupplements store lower upper result .buffer) ≡ got (laid l u)
@@ -168,10 +170,12 @@ LaidAccepted =
     (store lower upper result : List ℕ) (d : Domain) (l u : List Replacement) →
     Supplements store lower upper d l u → supplementSize ≤ length result → LaidAgain store lower upper result d l u
 
--- what ordering is, and that it changes no law in force: neither the law that is handed out nor a judgement
+-- what ordering is: the same replacement of each number, the numbers rising, and what is ordered stays as it is; and that it changes no
+-- law in force, neither the law that is handed out nor a judgement
 pub record Orders (store supplement result : List ℕ) (d : Domain) (s : List Replacement) : Type 0 where
   pub same : (n : ℕ) → replacementOf (ordered s) n ≡ replacementOf s n
   pub rising : Rising (ordered s)
+  pub stays : Rising s → ordered s ≡ s
   pub laws : replaced (ordered s) d ≡ replaced s d
   pub whole : supplementIn d (orderSupplement store supplement result .buffer) ≡ got (ordered s)
   pub asked : (n : ℕ) → then (lawInForce store (orderSupplement store supplement result .buffer) n) (λ p. got (p .bytes)) ≡ then (lawInForce store supplement n) (λ p. got (p .bytes))
@@ -190,7 +194,7 @@ pub record LayingAssociates : Type 0 where
       → laySupplements store a b first .answer ≡ got m → laySupplements store b c second .answer ≡ got n
       → laySupplements store (laySupplements store a b first .buffer) c result ≡ laySupplements store a (laySupplements store b c second .buffer) result
 
--- "laying the empty one over or under another only orders it": for a refusal too, which is the other's
+-- "laying the empty one over or under another only orders it": for a refusal too
 pub record EmptyOnlyOrders : Type 0 where
   pub supplements : (s : List Replacement) → (laid s [] ≡ ordered s) × (laid [] s ≡ ordered s)
   pub over : (store supplement result : List ℕ) (zeros : ℕ) → laySupplements store supplement (replicate zeros 0) result ≡ orderSupplement store supplement result

@@ -8,8 +8,7 @@ use mathlib.Core.Bool.{Bool, true, false}
 use mathlib.Core.List.{List, [], _∷_, _++_, append-assoc, append-nil, map, map-map}
 use mathlib.Core.Option.{Option, none, some}
 use lib.Dec.{ltb}
-use lib.ListN.{length, getD, take, replicate, length-append}
-use lib.Seq.{take-append-seam}
+use lib.ListN.{length, getD, replicate, length-append}
 use borrow.Author.Tests.{eq-eqb, ne-eqb, le-leb}
 use Rattle.bmap.specs.Plain.{either, if-else, maybe, any, flat, numbers}
 use Rattle.bmap.specs.Limits.{supplementSize}
@@ -17,11 +16,11 @@ use Rattle.bmap.specs.Refusal.{Answer, got, refused, need, known, then, Reading
 use Rattle.bmap.specs.Line.{Frame, stored}
 use Rattle.bmap.specs.Domain.{Domain, Law}
 use Rattle.bmap.specs.Accept.{countsOf}
-use Rattle.bmap.specs.Buffer.{padded, Written}
+use Rattle.bmap.specs.Buffer.{padded}
 use Rattle.bmap.specs.Store.{framesIn, whatWasRead, domainIn}
 use Rattle.bmap.specs.Supplement.{Replacement, replaces, replacementOf, numberIn, payloadIn, replaced, lawNumbered, standsFor, replacementIn, supplementFrom, supplementIn, inSupplement, Part, lawParts, replacementPart, noPart, lawInForce}
 use Rattle.bmap.specs.Laying.{listed, byNumber, winning, laid, bytesOf, laySupplements}
-use Rattle.bmap.specs.Theorems.{Supplements, Lays, LaidAccepted}
+use Rattle.bmap.specs.Theorems.{Supplements}
 use Rattle.index.specs.Index.{lawNumber, noLaw}
 use Rattle.theorems.proofs.ByNumberLaws.{from}
 use Rattle.domain.proofs.Rows.{any-snoc}
@@ -152,23 +151,6 @@ pub laid-result : (store lower upper result : List ℕ) (d : Domain) (l u : List
     → laySupplements store lower upper result ≡ record { answer = got (length (bytesOf (laid l u))); buffer = padded (length result) (bytesOf (laid l u)) }
 unfolding laySupplements
 laid-result store lower upper result d l u s h = rw (le-leb supplementSize (length result) h, s .domain, s .below, s .above)
-
--- the result of laying is accepted as what is laid, whole and cut to the bytes used
-pub laid-again : ((store lower upper : List ℕ) (d : Domain) (l u : List Replacement) → Supplements store lower upper d l u → Lays l u (laid l u)) → LaidAccepted
-laid-again lays store lower upper result d l u s h =
-    let is = laid-result store lower upper result d l u s h in
-    let bytes = bytesOf (laid l u) in
-    let zeros = length result - length bytes in
-    let accepts : (zeros : ℕ) → supplementIn d (bytesOf (laid l u) ++ replicate zeros 0) ≡ got (laid l u) = accepts-laid d lower upper l u (s .below) (s .above) in
-    record {
-      lays = lays store lower upper d l u s;
-      fits = few-laid d lower upper l u (s .below) (s .above);
-      answer = ap (λ (w : Written). w .answer) is;
-      whole = ap (λ (w : Written). supplementIn d (w .buffer)) is ∙ accepts zeros;
-      used =
-          ap (λ (w : Written). supplementIn d (take (length bytes) (w .buffer))) is
-          ∙ ap (supplementIn d) (take-append-seam bytes (replicate zeros 0) ∙ sym (append-nil bytes)) ∙ accepts 0;
-    }
 
 -- ---- the domain with some laws replaced accepts the same supplements
 

@@ -1,11 +1,12 @@
 -- K8: what document 02 asks to be shown of laying, of stores, from what is so of lists of replacements. Assumes nothing.
-use Prim.Native.Nat.{ℕ, _≤_}
+use Prim.Native.Nat.{ℕ, _-_, _≤_}
 use native.Mathlib.Omega.{arith}
 use mathlib.Core.Path.{_≡_, refl, sym, ap, _∙_}
-use mathlib.Core.List.{List, []}
+use mathlib.Core.List.{List, [], _++_, append-nil}
 use lib.Dec.{leb}
 use lib.IntN.{ℤ}
-use lib.ListN.{length, replicate}
+use lib.ListN.{length, take, replicate}
+use lib.Seq.{take-append-seam}
 use borrow.Author.Tests.{leb-true}
 use Rattle.bmap.specs.Limits.{supplementSize, levelsSize}
 use Rattle.bmap.specs.Refusal.{Answer, got, refused, need, then}
@@ -16,13 +17,13 @@ use Rattle.bmap.specs.Sheet.{sheetOf}
 use Rattle.bmap.specs.Judge.{judge}
 use Rattle.bmap.specs.Verdict.{Judgement, judgement}
 use Rattle.bmap.specs.Supplement.{Replacement, replaced, supplementIn, judgeUnder}
-use Rattle.bmap.specs.Laying.{ordered, laid, intoResult, laySupplements, orderSupplement}
+use Rattle.bmap.specs.Laying.{ordered, laid, bytesOf, intoResult, laySupplements, orderSupplement}
 use Rattle.bmap.specs.Theorems.{Supplements, LaidAccepted, OrderedOrders, LayingAssociates, EmptyOnlyOrders, OverItself, ApartCommutes, JudgedUnderBoth}
 use Rattle.line.proofs.Answers.{then-same, need-got, then-got-inv}
-use Rattle.theorems.proofs.LayingLaws.{laid-associates, laid-empty, laid-itself, laid-apart, laid-lays, ordered-keeps, rising-ordered, replaced-ordered, replaced-laid}
+use Rattle.theorems.proofs.LayingLaws.{laid-associates, laid-empty, laid-itself, laid-apart, laid-lays, laid-fixed, ordered-keeps, ordered-stays, rising-ordered, replaced-ordered, replaced-laid}
 use Rattle.supplement.proofs.EmptyLaws.{zeros-accepted}
 use Rattle.supplement.proofs.WithinLaws.{few-laws, accepted-within}
-use Rattle.supplement.proofs.LaidLaws.{laid-again, accepts-alike, asked-alike}
+use Rattle.supplement.proofs.LaidLaws.{accepts-laid, few-laid, laid-result, accepts-alike, asked-alike}
 
 -- ---- what a call answers, by the replacements
 
@@ -118,13 +119,29 @@ answered store lower upper result m e =
 
 -- THEOREM. What is laid is again a supplement that the domain accepts.
 pub laid-accepted : LaidAccepted
-laid-accepted = laid-again (λ store lower upper d l u both.
-    laid-lays l u (accepted-within store lower d l (both .domain) (both .below)) (accepted-within store upper d u (both .domain) (both .above)))
+laid-accepted store lower upper result d l u both room =
+    let is = laid-result store lower upper result d l u both room in
+    let bytes = bytesOf (laid l u) in
+    let zeros = length result - length bytes in
+    let accepts : (zeros : ℕ) → supplementIn d (bytesOf (laid l u) ++ replicate zeros 0) ≡ got (laid l u) = accepts-laid d lower upper l u (both .below) (both .above) in
+    let low = accepted-within store lower d l (both .domain) (both .below) in
+    let high = accepted-within store upper d u (both .domain) (both .above) in
+    record {
+      lays = laid-lays l u low high;
+      fixed = λ r. laid-fixed l u r low high;
+      fits = few-laid d lower upper l u (both .below) (both .above);
+      answer = ap (λ (w : Written). w .answer) is;
+      whole = ap (λ (w : Written). supplementIn d (w .buffer)) is ∙ accepts zeros;
+      used =
+          ap (λ (w : Written). supplementIn d (take (length bytes) (w .buffer))) is
+          ∙ ap (supplementIn d) (take-append-seam bytes (replicate zeros 0) ∙ sym (append-nil bytes)) ∙ accepts 0;
+    }
 
 -- THEOREM. What ordering is, and that it changes no law in force.
 pub ordered-orders : OrderedOrders
 ordered-orders store supplement result d s g e room =
-    let same = ordered-keeps s (accepted-within store supplement d s g e) in
+    let within = accepted-within store supplement d s g e in
+    let same = ordered-keeps s within in
     let laws = replaced-ordered s d (few-laws store d g) in
     let whole : supplementIn d (orderSupplement store supplement result .buffer) ≡ got (ordered s)
     = ap (λ (w : Written). supplementIn d (w .buffer)) (sym (over-itself .calls store supplement result))
@@ -132,6 +149,7 @@ ordered-orders store supplement result d s g e room =
     record {
       same = same;
       rising = rising-ordered s;
+      stays = ordered-stays s within;
       laws = laws;
       whole = whole;
       asked = λ n.

@@ -17,8 +17,9 @@ ghost use Rattle.bmap.specs.Laying.{laySupplements};
 ghost use Rattle.line.specs.Write.{answerOf};
 ghost use Rattle.supplement.specs.Laid.{frameWith, winner, framesLaid};
 
-// "Keeps each law number of either, the upper one winning; the result is ordered by law number, zeros after, its bytes used
-// returned. Refusals: 10, then 15; both leave the result buffer untouched."
+// "keeps each law number of either, the upper one winning; the result is ordered by law number, zeros after, its bytes used
+// returned"; "Refusals: 10 for a result buffer under 16,000 bytes, then 15 for the domain or for either supplement store; both
+// leave the result buffer untouched".
 pub fn lay(store: &[u8], lower: &[u8], upper: &[u8], result: &mut [u8]) -> Written
     ensures { λ r. ⌜ (answerOf r ≡ laySupplements (now (store .entry)) (now (lower .entry)) (now (upper .entry)) (now (result .entry)) .answer) × (now (result .exit) ≡ laySupplements (now (store .entry)) (now (lower .entry)) (now (upper .entry)) (now (result .entry)) .buffer) ⌝ }
 {

@@ -15,6 +15,7 @@ use Rattle.bmap.specs.Domain.{Domain, Law}
 use Rattle.bmap.specs.Supplement.{Replacement, replaces, replacementOf, inForceFrom, replaced}
 use Rattle.bmap.specs.Laying.{ordered, winning, laid}
 use Rattle.bmap.specs.Theorems.{Rising, Lays, Apart}
+use Rattle.theorems.proofs.RisingLaws.{rising-fixed}
 use Rattle.theorems.proofs.ByNumberLaws.{Has, Numbered, upperOr, upper-or-none, found-by-number, kept-by-number, rising-by-number, by-number-same}
 
 -- ---- what a supplement, and the winning one of two, finds
@@ -100,6 +101,14 @@ laid-lays l u below above = record {
   keeps = kept-by-number (winning l u) (numbered-winning l u) (λ n h. rw (above n h) (below n h));
   rising = rising-laid l u;
 }
+
+-- both fix it
+pub ordered-stays : (s : List Replacement) → Within s → Rising s → ordered s ≡ s
+ordered-stays s within up = rising-fixed (ordered s) s (rising-ordered s) up (ordered-keeps s within)
+
+pub laid-fixed : (l u r : List Replacement) → Within l → Within u → Lays l u r → r ≡ laid l u
+laid-fixed l u r below above lays =
+    rising-fixed r (laid l u) (lays .rising) (rising-laid l u) (λ n. lays .keeps n ∙ sym (laid-lays l u below above .keeps n))
 
 -- ---- the laws in force
 

@@ -1,4 +1,5 @@
 -- What is shown of the definitions alone.
--- K8: lists by law number, and supplements laid over one another.
+-- K8: lists by law number, what fixes one, and supplements laid over one another.
 pub mod ByNumberLaws
+pub mod RisingLaws
 pub mod LayingLaws

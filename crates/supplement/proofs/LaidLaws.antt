@@ -121,7 +121,6 @@ module _ (d : Domain) (supplement : List ℕ) (s : List Replacement) (e : supple
 
   pub short-in : length (r .frame .payload) ≤ 120
   short-in = stood supplement n r (suc (length supplement)) 0 s (there .frames-there) (there .are) (there .all .frames-are) q .1 .1 .short
-  -- no domain has more laws
 
 -- ---- laid
 

@@ -73,7 +73,6 @@ pub record Stood (s : List ℕ) (r : Replacement) (p : Part) : Type 0 where
   pub short : length (r .frame .payload) ≤ 120
   -- the whole frame, from its kind on
   pub frame : take (getD s count 0 + 2) (drop (count - 1) s) ≡ stored (r .frame)
-  pub within : count + 1 + getD s count 0 ≤ length s
 
 -- the frames from a place on are the replacements'
 module _ (s : List ℕ) (n : ℕ) (r : Replacement) where
@@ -93,7 +92,6 @@ module _ (s : List ℕ) (n : ℕ) (r : Replacement) where
         let n : getD s (at + 1) 0 + 2 ≡ length (stored (r .frame)) = omega (arith, h .count) in
         ap (λ (k : ℕ). take (getD s (at + 1) 0 + 2) (drop k s)) z ∙ ap (take (getD s (at + 1) 0 + 2)) (frame-off s at (r .frame) h)
         ∙ ap (λ (k : ℕ). take k (stored (r .frame) ++ drop (at + length (stored (r .frame))) s)) n ∙ take-append-seam (stored (r .frame)) (drop (at + length (stored (r .frame))) s);
-    within = omega (arith, h .count, h .within);
   }
 
   pub stood : (looks at : ℕ) (rs : List Replacement) (fs : List Frame) → framesFrom looks s at ≡ some fs → frames rs ≡ fs → replacementOf rs n ≡ some r
@@ -245,8 +243,6 @@ supplemented d supplement s e = go (framesIn supplement) refl e
 pub record FrameOver (supplement : List ℕ) (count : ℕ) (f : Frame) : Type 0 where
   pub some-place : 1 ≤ count
   pub frame : take (getD supplement count 0 + 2) (drop (count - 1) supplement) ≡ stored f
-  pub short : length (f .payload) ≤ 120
-  pub within : count + 1 + getD supplement count 0 ≤ length supplement
 
 pub frame-over : (d : Domain) (supplement : List ℕ) (s : List Replacement) → supplementIn d supplement ≡ got s → (n : ℕ) → n < 128 → (r : Replacement) → replacementOf s n ≡ some r → FrameOver supplement (getD (overOf s) n 0) (r .frame)
 frame-over d supplement s e n few r q =
@@ -254,7 +250,7 @@ frame-over d supplement s e n few r q =
     let t = stood supplement n r (suc (length supplement)) 0 s (m .frames-there) (m .are) (m .all .frames-are) q in
     let there = t .1 .1 in
     subst (λ (k : ℕ). FrameOver supplement k (r .frame)) (sym (over-count s n few supplement r (t .0) (t .1 .0) there))
-    (record { some-place = there .some-place; frame = there .frame; short = there .short; within = there .within })
+    (record { some-place = there .some-place; frame = there .frame })
 
 pub supplement-15 : (d : Domain) (supplement : List ℕ) (n : ℕ) → supplementIn d supplement ≡ refused n → n ≡ 15
 unfolding supplementIn

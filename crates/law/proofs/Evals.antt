@@ -17,32 +17,24 @@ use Rattle.bmap.specs.Number.{Valued, value, with1, with2, operate, change, com
 use Rattle.bmap.specs.Tree.{Expr, Con, constant, fluent, two, one, reified, compared, joined, negated, occurs}
 use Rattle.bmap.specs.Meaning.{evalE, evalC}
 use Rattle.bmap.specs.Code.{Code, Parsed, Parser, codeOf, made, second, operand, operands, twoBytes, parseE, parseC}
-use Rattle.bmap.specs.Domain.{has}
 use Rattle.law.specs.declared.table.Shape.{Shape}
 use Rattle.law.specs.declared.table.Shape.the-variants as shape
 use Rattle.law.specs.declared.table.Node.the-variants.{Expression, Constraint}
 use Rattle.law.specs.Shape.{opened, operationOf, singleOf, comparisonOf, junctionOf}
-use Rattle.law.specs.Evaluate.{Meant, malformed, gives, meant, onward, historyOf, valueAt, truthAt}
+use Rattle.law.specs.Evaluate.{Meant, malformed, gives, meant, onward, rowSize, cellAt, marked, inStep, historyOf, valueAt, truthAt}
 use Rattle.law.proofs.Trees.{at-constant, at-fluent, at-reified, at-one, at-two, at-truth, at-occurrence, at-negation, at-junction, at-comparison, pair-short, pair-long, no-pair, a-pair}
-use Rattle.law.proofs.Bits.{no-bit}
 use Rattle.law.proofs.Codes.{code-10, code-11}
 
 -- The history: what was never written, and the step that code 29 looks at.
-pub no-level : (l : List ℤ) (k f : ℕ) → length l ≤ mostFluents * k + f → pos 0 ≡ getD l (mostFluents * k + f) (pos 0)
-no-level l k f h = sym (List·getD-eq-default l (pos 0) h)
+pub no-cell : (l : List ℤ) (k f : ℕ) → length l ≤ rowSize * k + f → pos 0 ≡ cellAt l k f
+no-cell l k f h = sym (List·getD-eq-default l (pos 0) h)
 
-pub no-step : (o : List ℕ) (k e : ℕ) → length o ≤ k → false ≡ has (getD o k 0) e
-no-step o k e h = rw (List·getD-eq-default o 0 h) (no-bit 0 0 e (omega arith) (omega arith))
-
-module _ (o : List ℕ) (j e t : ℕ) where
-  pub before-steps : j < t → false ≡ both (leb t j) (has (getD o (j + 1 - t) 0) e)
+module _ (l : List ℤ) (j e t : ℕ) where
+  pub before-steps : j < t → false ≡ both (leb t j) (inStep l e (j + 1 - t))
   before-steps h = rw (lt-leb t j h)
 
-  pub past-steps : t ≤ j → length o ≤ j - t + 1 → false ≡ both (leb t j) (has (getD o (j + 1 - t) 0) e)
-  past-steps h out = rw (le-leb t j h) (no-step o (j + 1 - t) e (omega arith))
-
-  pub at-step : t ≤ j → has (getD o (j - t + 1) 0) e ≡ both (leb t j) (has (getD o (j + 1 - t) 0) e)
-  at-step h = let k : j + 1 - t ≡ j - t + 1 = omega arith in rw (le-leb t j h, k)
+  pub at-step : t ≤ j → marked (cellAt l (j - t) (mostFluents + e)) ≡ both (leb t j) (inStep l e (j + 1 - t))
+  at-step h = let k : j + 1 - t - 1 ≡ j - t = omega arith in rw (le-leb t j h, k)
 
 -- The leaves.
 module _ {A : Type 0} (make : ℕ → ℕ → A) (s : List ℕ) (at : ℕ) where
@@ -96,15 +88,15 @@ module _ {S T A B : Type 0} (fs : S → A) (ft : T → B) where
       then-second e = ap after e ∙ two-meant (ps (drop (at + 1) s))
 
 -- The tree at a place, by its code.
-module _ (s : List ℕ) (at d : ℕ) (l : List ℤ) (o : List ℕ) (j : ℕ) (ne : d ≡ 0 → ⊥) (lt : at < length s) where
+module _ (s : List ℕ) (at d : ℕ) (l : List ℤ) (j : ℕ) (ne : d ≡ 0 → ⊥) (lt : at < length s) where
   abbrev code : Code
   code = codeOf (getD s at 0)
 
   abbrev fe : Expr → Valued ℤ
-  fe t = evalE t (historyOf l o) j
+  fe t = evalE t (historyOf l) j
 
   abbrev fc : Con → Valued Bool
-  fc t = evalC t (historyOf l o) j
+  fc t = evalC t (historyOf l) j
 
   abbrev pe : Parser Expr
   pe = parseE (d - 1)
@@ -113,22 +105,22 @@ module _ (s : List ℕ) (at d : ℕ) (l : List ℤ) (o : List ℕ) (j : ℕ) (ne
   pc = parseC (d - 1)
 
   abbrev whole-e : Meant (Valued ℤ)
-  whole-e = valueAt d s at l o j
+  whole-e = valueAt d s at l j
 
   abbrev part-e : ℕ → Meant (Valued ℤ)
-  part-e m = valueAt (d - 1) s m l o j
+  part-e m = valueAt (d - 1) s m l j
 
   abbrev whole-c : Meant (Valued Bool)
-  whole-c = truthAt d s at l o j
+  whole-c = truthAt d s at l j
 
   abbrev part-c : ℕ → Meant (Valued Bool)
-  part-c m = truthAt (d - 1) s m l o j
+  part-c m = truthAt (d - 1) s m l j
 
   pub eval-constant : getD s at 0 ≡ 0x10 → meant (λ v. v) at (twoBytes (λ hi lo. value (signedWord hi lo)) (drop (at + 1) s)) ≡ whole-e
   unfolding evalE
   eval-constant e = rw (at-constant s at d ne lt (code-10 (getD s at 0) e) refl) (leaf-meant fe (λ hi lo. constant (signedWord hi lo)) at (drop (at + 1) s))
 
-  pub eval-fluent : getD s at 0 ≡ 0x11 → meant (λ v. v) at (twoBytes (λ f t. value (getD l (mostFluents * (j - t) + f) (pos 0))) (drop (at + 1) s)) ≡ whole-e
+  pub eval-fluent : getD s at 0 ≡ 0x11 → meant (λ v. v) at (twoBytes (λ f t. value (cellAt l (j - t) f)) (drop (at + 1) s)) ≡ whole-e
   unfolding evalE
   eval-fluent e = rw (at-fluent s at d ne lt (code-11 (getD s at 0) e) refl) (leaf-meant fe fluent at (drop (at + 1) s))
 
@@ -154,7 +146,7 @@ module _ (s : List ℕ) (at d : ℕ) (l : List ℤ) (o : List ℕ) (j : ℕ) (ne
     unfolding evalC
     eval-truth q = rw (at-truth s at d ne lt p q)
 
-    pub eval-occurrence : sh ≡ shape.EntryLag → meant (λ v. v) at (twoBytes (λ e t. value (both (leb t j) (has (getD o (j + 1 - t) 0) e))) (drop (at + 1) s)) ≡ whole-c
+    pub eval-occurrence : sh ≡ shape.EntryLag → meant (λ v. v) at (twoBytes (λ e t. value (both (leb t j) (inStep l e (j + 1 - t)))) (drop (at + 1) s)) ≡ whole-c
     unfolding evalC
     eval-occurrence q = rw (at-occurrence s at d ne lt p q) (leaf-meant fc occurs at (drop (at + 1) s))
 

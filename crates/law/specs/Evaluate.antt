@@ -1,34 +1,43 @@
 -- What the evaluator answers.
-use Prim.Native.Nat.{ℕ, _+_, _*_}
+use Prim.Native.Nat.{ℕ, _+_, _-_, _*_}
 use mathlib.Core.Bool.{Bool}
 use mathlib.Core.List.{List}
 use mathlib.Core.Option.{Option, none, some}
 use lib.IntN.{ℤ, pos}
 use mathlib.Core.Path.{_≡_}
 use lib.ListN.{length, drop, getD}
-use Rattle.bmap.specs.Limits.{mostFluents, mostLaws, mostSteps, frameSize, levelsSize}
+use Rattle.bmap.specs.Limits.{mostFluents, mostEntries, mostLaws, mostSteps, frameSize}
 use Rattle.bmap.specs.Number.{Valued}
 use Rattle.bmap.specs.Meaning.{History, evalE, evalC}
 use Rattle.bmap.specs.Code.{Parsed, parseE, parseC}
-use Rattle.bmap.specs.Domain.{has}
+use lib.Signed.{leZ}
 use Rattle.number.specs.Answer.{valuedOf, truthOf}
 use Rattle.law.specs.declared.eval.Evaluated.{Evaluated}
 use Rattle.law.specs.declared.eval.Evaluated.the-variants as value-as
 use Rattle.law.specs.declared.eval.Judged.{Judged}
 use Rattle.law.specs.declared.eval.Judged.the-variants as truth-as
 
--- The history that the code is lent: the levels state after state, with room for the most fluents in each, and a mask
--- of entries for each step. What was never written is 0.
-abbrev pub levelAt : List ℤ → ℕ → ℕ → ℤ
-levelAt levels k f = getD levels (mostFluents * k + f) (pos 0)
+-- The history that the code is lent, in rows: the levels of state k, with room for the most fluents, and after them a mark for
+-- each entry that occurs in the step from it, which is step k + 1. What was never written is 0.
+abbrev pub rowSize : ℕ
+rowSize = mostFluents + mostEntries
 
-abbrev pub inStep : List ℕ → ℕ → ℕ → Bool
-inStep occurred e k = has (getD occurred k 0) e
+abbrev pub historySize : ℕ
+historySize = (mostSteps + 1) * rowSize
 
-abbrev pub historyOf : List ℤ → List ℕ → History
-historyOf levels occurred = record {
-  level = λ k f. levelAt levels k f;
-  occurred = λ e k. inStep occurred e k;
+abbrev pub cellAt : List ℤ → ℕ → ℕ → ℤ
+cellAt history k column = getD history (rowSize * k + column) (pos 0)
+
+abbrev pub marked : ℤ → Bool
+marked z = leZ (pos 1) z
+
+abbrev pub inStep : List ℤ → ℕ → ℕ → Bool
+inStep history e k = marked (cellAt history (k - 1) (mostFluents + e))
+
+abbrev pub historyOf : List ℤ → History
+historyOf history = record {
+  level = λ k f. cellAt history k f;
+  occurred = λ e k. inStep history e k;
 }
 
 -- room for the frames of the most laws
@@ -36,10 +45,9 @@ abbrev pub heldSize : ℕ
 heldSize = mostLaws * frameSize
 
 -- the lengths of what is lent
-pub record Lent (s : List ℕ) (levels : List ℤ) (occurred : List ℕ) : Type 0 where
+pub record Lent (s : List ℕ) (history : List ℤ) : Type 0 where
   pub held : length s ≡ heldSize
-  pub states : length levels ≡ levelsSize
-  pub steps : length occurred ≡ mostSteps + 1
+  pub rows : length history ≡ historySize
 
 -- what a tree at a place means, with the place just after the tree; or no tree stands there
 pub data Meant (A : Type 0) : Type 0 where
@@ -65,8 +73,8 @@ judged truth-as.Malformed = malformed
 judged (truth-as.Gives v n) = gives (truthOf v) n
 
 -- the expression, or the constraint, at a place of some bytes, read at position j
-abbrev pub valueAt : ℕ → List ℕ → ℕ → List ℤ → List ℕ → ℕ → Meant (Valued ℤ)
-valueAt depth s at levels occurred j = meant (λ t. evalE t (historyOf levels occurred) j) at (parseE depth (drop at s))
+abbrev pub valueAt : ℕ → List ℕ → ℕ → List ℤ → ℕ → Meant (Valued ℤ)
+valueAt depth s at history j = meant (λ t. evalE t (historyOf history) j) at (parseE depth (drop at s))
 
-abbrev pub truthAt : ℕ → List ℕ → ℕ → List ℤ → List ℕ → ℕ → Meant (Valued Bool)
-truthAt depth s at levels occurred j = meant (λ t. evalC t (historyOf levels occurred) j) at (parseC depth (drop at s))
+abbrev pub truthAt : ℕ → List ℕ → ℕ → List ℤ → ℕ → Meant (Valued Bool)
+truthAt depth s at history j = meant (λ t. evalC t (historyOf history) j) at (parseC depth (drop at s))

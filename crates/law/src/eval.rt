@@ -1,18 +1,17 @@
-// The evaluator: what the tree at a place gives at position j of a history. The history is lent as it is kept: the
-// levels state after state, and for each step a mask of the entries that occurred in it.
+// The evaluator: what the tree at a place gives at position j of a history. The history is lent as it is kept, in rows: the
+// levels of a state, and for each entry 1 where it occurs in the step from that state, 0 where it does not.
 ghost use mathlib.Core.Path.{_≡_};
 ghost use mathlib.Core.Bool.{not};
 ghost use Prim.Native.Nat.{_+_, _-_, _*_, _≤_, _<_};
 ghost use lib.Dec.{leb};
 ghost use lib.ListN.{length, drop, getD};
 ghost use Rattle.bmap.specs.Plain.{both};
-ghost use Rattle.bmap.specs.Limits.{mostDepth, mostSteps, levelsSize};
+ghost use Rattle.bmap.specs.Limits.{mostDepth};
 ghost use Rattle.bmap.specs.Number.{value, with1, with2, operate, change, compare, join, flag, signedWord};
 ghost use Rattle.bmap.specs.Code.{codeOf, twoBytes};
 ghost use Rattle.law.specs.Shape.{operationOf, singleOf, comparisonOf, junctionOf};
-ghost use Rattle.law.specs.Evaluate.{heldSize, Lent, gives, evaluated, judged, meant, onward, levelAt, inStep, valueAt, truthAt};
+ghost use Rattle.law.specs.Evaluate.{heldSize, rowSize, historySize, Lent, gives, evaluated, judged, meant, onward, cellAt, marked, inStep, valueAt, truthAt};
 ghost use Rattle.law.specs.Packed.{valueIn, truthIn, evaluatedIn, judgedIn};
-use crate::mask::has_bit;
 use crate::packed::MALFORMED;
 use crate::packed::end_of;
 use crate::packed::truth_of;
@@ -26,7 +25,6 @@ use bmap::Comparison;
 use bmap::Counts;
 use bmap::FRAME;
 use bmap::Junction;
-use bmap::LEVELS;
 use bmap::Operation;
 use bmap::Sheet;
 use bmap::Single;
@@ -35,6 +33,11 @@ use number::Value;
 
 // Room for the frames of the most laws: the bytes that trees are read from.
 pub const HELD: usize = Counts::LAWS * FRAME;
+
+// A row of the history, and room for those of the most steps and of state 0.
+pub const ROW: usize = Counts::FLUENTS + Counts::ENTRIES;
+
+pub const HISTORY: usize = (Sheet::STEPS + 1) * ROW;
 
 // What an expression gives, with the place just after it; or no expression stands there.
 pub enum Evaluated {
@@ -92,7 +95,7 @@ fn junction_of(code: u8) -> Junction
     }
 }
 
-// "Lag t reads state j−t, or state 0 where j−t is negative."
+// The state that a lag reads at position j.
 fn state_of(j: usize, lag: u8) -> usize
     ensures { λ r. ⌜ r ≡ j - lag ⌝ }
 {
@@ -100,33 +103,43 @@ fn state_of(j: usize, lag: u8) -> usize
     if t <= j { j - t } else { 0 }
 }
 
-// The level of a fluent in a state; what was never written is 0.
-fn level(levels: &[i16; LEVELS], state: usize, f: u8) -> i16
-    requires { ⌜ length (now levels) ≡ levelsSize ⌝ }
-    ensures { λ r. ⌜ r ≡ levelAt (now (levels .entry)) state f ⌝ }
+// What stands in a column of a row; what was never written is 0.
+fn cell(history: &[i16; HISTORY], row: usize, column: usize) -> i16
+    requires { ⌜ (length (now history) ≡ historySize) × (column < rowSize + 256) ⌝ }
+    ensures { λ r. ⌜ r ≡ cellAt (now (history .entry)) row column ⌝ }
 {
-    let f = f as usize;
-    if state <= (LEVELS - 1 - f) / Counts::FLUENTS {
-        levels[Counts::FLUENTS * state + f]
-    } else {
-        0
+    if Sheet::STEPS < row {
+        return 0;
     }
+    let at = ROW * row + column;
+    if at < HISTORY { history[at] } else { 0 }
+}
+
+// "Lag t reads state j−t, or state 0 where j−t is negative."
+fn level(history: &[i16; HISTORY], j: usize, f: u8, lag: u8) -> i16
+    requires { ⌜ length (now history) ≡ historySize ⌝ }
+    ensures { λ r. ⌜ r ≡ cellAt (now (history .entry)) (j - lag) f ⌝ }
+{
+    cell(history, state_of(j, lag), f as usize)
+}
+
+// A mark of the history is 1.
+fn is_marked(z: i16) -> bool
+    ensures { λ r. ⌜ r ≡ marked z ⌝ }
+{
+    1 <= z
 }
 
 // "Code 29 with lag t (0 to 63) looks at step j+1−t and is false before step 1."
-fn occurs(occurred: &[u64; Sheet::STEPS + 1], j: usize, e: u8, lag: u8) -> bool
-    requires { ⌜ length (now occurred) ≡ mostSteps + 1 ⌝ }
-    ensures { λ r. ⌜ r ≡ both (leb lag j) (inStep (now (occurred .entry)) e (j + 1 - lag)) ⌝ }
+fn occurs(history: &[i16; HISTORY], j: usize, e: u8, lag: u8) -> bool
+    requires { ⌜ length (now history) ≡ historySize ⌝ }
+    ensures { λ r. ⌜ r ≡ both (leb lag j) (inStep (now (history .entry)) e (j + 1 - lag)) ⌝ }
 {
     let t = lag as usize;
     if j < t {
         return false; // before step 1
     }
-    let before = j - t;
-    if Sheet::STEPS <= before {
-        return false;
-    }
-    has_bit(occurred[before + 1], e)
+    is_marked(cell(history, j - t, Counts::FLUENTS + e as usize))
 }
 
 // A number of sixteen bits always has a value.
@@ -148,24 +161,24 @@ fn constant_in(s: &[u8; HELD], at: usize) -> u64
     number_at(number::signed_word(s[at + 1], s[at + 2]), at + 3)
 }
 
-fn fluent_in(s: &[u8; HELD], at: usize, levels: &[i16; LEVELS], j: usize) -> u64
-    requires { ⌜ (length (now s) ≡ heldSize) × (length (now levels) ≡ levelsSize) ⌝ }
-    ensures { λ r. ⌜ evaluatedIn r ≡ meant (λ v. v) at (twoBytes (λ f t. value (levelAt (now (levels .entry)) (j - t) f)) (drop (at + 1) (now (s .entry)))) ⌝ }
+fn fluent_in(s: &[u8; HELD], at: usize, history: &[i16; HISTORY], j: usize) -> u64
+    requires { ⌜ (length (now s) ≡ heldSize) × (length (now history) ≡ historySize) ⌝ }
+    ensures { λ r. ⌜ evaluatedIn r ≡ meant (λ v. v) at (twoBytes (λ f t. value (cellAt (now (history .entry)) (j - t) f)) (drop (at + 1) (now (s .entry)))) ⌝ }
 {
     if HELD - 2 <= at {
         return MALFORMED;
     }
-    number_at(level(levels, state_of(j, s[at + 2]), s[at + 1]), at + 3)
+    number_at(level(history, j, s[at + 1], s[at + 2]), at + 3)
 }
 
-fn occurrence_in(s: &[u8; HELD], at: usize, occurred: &[u64; Sheet::STEPS + 1], j: usize) -> u64
-    requires { ⌜ (length (now s) ≡ heldSize) × (length (now occurred) ≡ mostSteps + 1) ⌝ }
-    ensures { λ r. ⌜ judgedIn r ≡ meant (λ v. v) at (twoBytes (λ e t. value (both (leb t j) (inStep (now (occurred .entry)) e (j + 1 - t)))) (drop (at + 1) (now (s .entry)))) ⌝ }
+fn occurrence_in(s: &[u8; HELD], at: usize, history: &[i16; HISTORY], j: usize) -> u64
+    requires { ⌜ (length (now s) ≡ heldSize) × (length (now history) ≡ historySize) ⌝ }
+    ensures { λ r. ⌜ judgedIn r ≡ meant (λ v. v) at (twoBytes (λ e t. value (both (leb t j) (inStep (now (history .entry)) e (j + 1 - t)))) (drop (at + 1) (now (s .entry)))) ⌝ }
 {
     if HELD - 2 <= at {
         return MALFORMED;
     }
-    with_truth(Truth::Is(occurs(occurred, j, s[at + 1], s[at + 2])), at + 3)
+    with_truth(Truth::Is(occurs(history, j, s[at + 1], s[at + 2])), at + 3)
 }
 
 // "19 reified constraint": what the constraint gives, as a number.
@@ -246,12 +259,11 @@ fn value_in(
     s: &[u8; HELD],
     at: usize,
     depth: usize,
-    levels: &[i16; LEVELS],
-    occurred: &[u64; Sheet::STEPS + 1],
+    history: &[i16; HISTORY],
     j: usize,
 ) -> u64
-    requires { ⌜ Lent (now s) (now levels) (now occurred) ⌝ }
-    ensures { λ r. ⌜ evaluatedIn r ≡ valueAt depth (now (s .entry)) at (now (levels .entry)) (now (occurred .entry)) j ⌝ }
+    requires { ⌜ Lent (now s) (now history) ⌝ }
+    ensures { λ r. ⌜ evaluatedIn r ≡ valueAt depth (now (s .entry)) at (now (history .entry)) j ⌝ }
 {
     if depth == 0 {
         return MALFORMED;
@@ -264,9 +276,9 @@ fn value_in(
         return constant_in(s, at);
     }
     if code == 0x11 {
-        return fluent_in(s, at, levels, j);
+        return fluent_in(s, at, history, j);
     }
-    inner_value(s, at, depth, levels, occurred, j)
+    inner_value(s, at, depth, history, j)
 }
 
 // An expression that is no leaf. It reads its code again: a seventh parameter would go through memory.
@@ -274,27 +286,26 @@ fn inner_value(
     s: &[u8; HELD],
     at: usize,
     depth: usize,
-    levels: &[i16; LEVELS],
-    occurred: &[u64; Sheet::STEPS + 1],
+    history: &[i16; HISTORY],
     j: usize,
 ) -> u64
-    requires { ⌜ Lent (now s) (now levels) (now occurred) × ((1 ≤ depth) × ((at < heldSize) × ((getD (now s) at 0 ≡ 0x10 → ⊥) × (getD (now s) at 0 ≡ 0x11 → ⊥)))) ⌝ }
-    ensures { λ r. ⌜ evaluatedIn r ≡ valueAt depth (now (s .entry)) at (now (levels .entry)) (now (occurred .entry)) j ⌝ }
+    requires { ⌜ Lent (now s) (now history) × ((1 ≤ depth) × ((at < heldSize) × ((getD (now s) at 0 ≡ 0x10 → ⊥) × (getD (now s) at 0 ≡ 0x11 → ⊥)))) ⌝ }
+    ensures { λ r. ⌜ evaluatedIn r ≡ valueAt depth (now (s .entry)) at (now (history .entry)) j ⌝ }
 {
     let code = s[at];
     let Node::Expression(shape) = opens(code) else {
         return MALFORMED;
     };
     match shape {
-        Shape::Constraint => reified_of(truth_in(s, at + 1, depth - 1, levels, occurred, j)),
-        Shape::Expression => changed_of(code, value_in(s, at + 1, depth - 1, levels, occurred, j)),
+        Shape::Constraint => reified_of(truth_in(s, at + 1, depth - 1, history, j)),
+        Shape::Expression => changed_of(code, value_in(s, at + 1, depth - 1, history, j)),
         Shape::Expressions => {
-            let a = value_in(s, at + 1, depth - 1, levels, occurred, j);
+            let a = value_in(s, at + 1, depth - 1, history, j);
             let next = end_of(a);
             if next == 0 {
                 return MALFORMED;
             }
-            operated_of(code, a, value_in(s, next, depth - 1, levels, occurred, j))
+            operated_of(code, a, value_in(s, next, depth - 1, history, j))
         }
         _ => MALFORMED,
     }
@@ -305,12 +316,11 @@ fn truth_in(
     s: &[u8; HELD],
     at: usize,
     depth: usize,
-    levels: &[i16; LEVELS],
-    occurred: &[u64; Sheet::STEPS + 1],
+    history: &[i16; HISTORY],
     j: usize,
 ) -> u64
-    requires { ⌜ Lent (now s) (now levels) (now occurred) ⌝ }
-    ensures { λ r. ⌜ judgedIn r ≡ truthAt depth (now (s .entry)) at (now (levels .entry)) (now (occurred .entry)) j ⌝ }
+    requires { ⌜ Lent (now s) (now history) ⌝ }
+    ensures { λ r. ⌜ judgedIn r ≡ truthAt depth (now (s .entry)) at (now (history .entry)) j ⌝ }
 {
     if depth == 0 {
         return MALFORMED;
@@ -324,43 +334,42 @@ fn truth_in(
     };
     match shape {
         Shape::Nothing => with_truth(Truth::Is(true), at + 1),
-        Shape::EntryLag => occurrence_in(s, at, occurred, j),
-        Shape::Constraint => negated_of(truth_in(s, at + 1, depth - 1, levels, occurred, j)),
+        Shape::EntryLag => occurrence_in(s, at, history, j),
+        Shape::Constraint => negated_of(truth_in(s, at + 1, depth - 1, history, j)),
         Shape::Constraints => {
-            let a = truth_in(s, at + 1, depth - 1, levels, occurred, j);
+            let a = truth_in(s, at + 1, depth - 1, history, j);
             let next = end_of(a);
             if next == 0 {
                 return MALFORMED;
             }
-            joined_of(code, a, truth_in(s, next, depth - 1, levels, occurred, j))
+            joined_of(code, a, truth_in(s, next, depth - 1, history, j))
         }
         Shape::Expressions => {
-            let a = value_in(s, at + 1, depth - 1, levels, occurred, j);
+            let a = value_in(s, at + 1, depth - 1, history, j);
             let next = end_of(a);
             if next == 0 {
                 return MALFORMED;
             }
-            compared_of(code, a, value_in(s, next, depth - 1, levels, occurred, j))
+            compared_of(code, a, value_in(s, next, depth - 1, history, j))
         }
         _ => MALFORMED,
     }
 }
 
 // The lengths that the types say are told to a proof where an array is lent as a slice. Nothing is done.
-fn lent(_s: &[u8], _levels: &[i16], _occurred: &[u64]) {}
+fn lent(_s: &[u8], _history: &[i16]) {}
 
 // The expression at a place.
 pub fn expression_at(
     s: &[u8; HELD],
     at: usize,
-    levels: &[i16; LEVELS],
-    occurred: &[u64; Sheet::STEPS + 1],
+    history: &[i16; HISTORY],
     j: usize,
 ) -> Evaluated
-    ensures { λ r. ⌜ evaluated r ≡ valueAt mostDepth (now (s .entry)) at (now (levels .entry)) (now (occurred .entry)) j ⌝ }
+    ensures { λ r. ⌜ evaluated r ≡ valueAt mostDepth (now (s .entry)) at (now (history .entry)) j ⌝ }
 {
-    lent(s, levels, occurred);
-    let word = value_in(s, at, bmap::DEPTH, levels, occurred, j);
+    lent(s, history);
+    let word = value_in(s, at, bmap::DEPTH, history, j);
     let end = end_of(word);
     if end == 0 {
         return Evaluated::Malformed;
@@ -372,14 +381,13 @@ pub fn expression_at(
 pub fn constraint_at(
     s: &[u8; HELD],
     at: usize,
-    levels: &[i16; LEVELS],
-    occurred: &[u64; Sheet::STEPS + 1],
+    history: &[i16; HISTORY],
     j: usize,
 ) -> Judged
-    ensures { λ r. ⌜ judged r ≡ truthAt mostDepth (now (s .entry)) at (now (levels .entry)) (now (occurred .entry)) j ⌝ }
+    ensures { λ r. ⌜ judged r ≡ truthAt mostDepth (now (s .entry)) at (now (history .entry)) j ⌝ }
 {
-    lent(s, levels, occurred);
-    let word = truth_in(s, at, bmap::DEPTH, levels, occurred, j);
+    lent(s, history);
+    let word = truth_in(s, at, bmap::DEPTH, history, j);
     let end = end_of(word);
     if end == 0 {
         return Judged::Malformed;

@@ -4,8 +4,8 @@ use borrow.Author.Needs.{needs}
 use Prim.Native.Nat.{ℕ, _+_, _-_, _*_}
 use lib.IntN.{ℤ, pos}
 use lib.ListN.{getD}
-use Rattle.bmap.specs.Limits.{mostFluents}
 use Rattle.bmap.specs.Number.{value}
+use Rattle.law.specs.Evaluate.{cellAt}
 use Rattle.number.proofs.BackLaws.{back16}
 use Rattle.law.proofs.Evals.{leaf-none, leaf-gives}
 use Rattle.law.proofs.eval.fluent_in.Statement.{statement}
@@ -14,14 +14,14 @@ use Rattle.law.proofs.eval.fluent_in.Tie as tie
 returns : tie.Need-returns
 returns c =
     let a = c .before .args in
-    leaf-none (λ f t. value (getD (a .levels .now) (mostFluents * (a .j - t) + f) (pos 0))) (a .s .now) (a .at) (omega arith)
+    leaf-none (λ f t. value (cellAt (a .history .now) (a .j - t) f)) (a .s .now) (a .at) (omega arith)
 
 returns-2 : tie.Need-returns-2
 returns-2 c =
-    let a = c .before .before .before .before .before .before .args in
+    let a = c .before .before .before .before .before .args in
     let w = c .before .level in
     c .number-at .ensures
-    ∙ leaf-gives (λ f t. value (getD (a .levels .now) (mostFluents * (a .j - t) + f) (pos 0))) (a .s .now) (a .at) (omega arith) (ap (λ (z : ℤ). value z) (back16 (w .result) (w .ok) ∙ w .ensures ∙ ap (λ (k : ℕ). getD (a .levels .now) (mostFluents * k + getD (a .s .now) (a .at + 1) 0) (pos 0)) (c .before .before .before .state-of .ensures)))
+    ∙ leaf-gives (λ f t. value (cellAt (a .history .now) (a .j - t) f)) (a .s .now) (a .at) (omega arith) (ap (λ (z : ℤ). value z) (back16 (w .result) (w .ok) ∙ w .ensures))
 
 pub fluent-in-spec : {M : Type 1} → statement M
 fluent-in-spec =
@@ -31,7 +31,6 @@ fluent-in-spec =
     returns
     (λ c. search needs)
     (λ c. search needs)
-    (λ c κs. search needs)
     (λ c. search needs)
     (λ c. search needs)
     (λ c κs. search needs)

@@ -1,21 +1,21 @@
-use native.Mathlib.Omega.{arith}
+use mathlib.Core.Path.{ap, _∙_}
 use borrow.Author.Needs.{needs}
-use Rattle.law.proofs.Evals.{no-level}
+use Prim.Native.Nat.{ℕ}
+use Rattle.number.proofs.BackLaws.{back16}
+use Rattle.law.specs.Evaluate.{cellAt}
 use Rattle.law.proofs.eval.level.Statement.{statement}
 use Rattle.law.proofs.eval.level.Tie as tie
 
-returns-2 : tie.Need-returns-2
-returns-2 c = let a = c .before .args in no-level (a .levels .now) (a .state) (a .f) (omega arith)
+returns : tie.Need-returns
+returns c =
+    let a = c .before .before .args in
+    let z = c .cell in
+    back16 (z .result) (z .ok) ∙ z .ensures ∙ ap (λ (k : ℕ). cellAt (a .history .now) k (a .f)) (c .before .state-of .ensures)
 
 pub level-spec : {M : Type 1} → statement M
 level-spec =
     tie.close
     (tie.spec
-    (λ c. search needs)
-    (λ c. search needs)
-    (λ c. search needs)
-    (λ c. search needs)
-    (λ c. search needs)
-    (λ c. search needs)
-    (λ c. search needs)
-    returns-2)
+    (λ c κs. search needs)
+    (λ c κs. search needs)
+    returns)

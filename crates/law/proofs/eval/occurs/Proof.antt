@@ -1,33 +1,31 @@
-use mathlib.Core.Path.{_∙_}
-use native.Mathlib.Omega.{arith}
+use mathlib.Core.Path.{ap, _∙_}
 use borrow.Author.Needs.{needs}
-use Rattle.law.proofs.Evals.{before-steps, past-steps, at-step}
+use lib.IntN.{ℤ}
+use Rattle.number.proofs.BackLaws.{back16}
+use Rattle.law.specs.Evaluate.{marked}
+use Rattle.law.proofs.Evals.{before-steps, at-step}
 use Rattle.law.proofs.eval.occurs.Statement.{statement}
 use Rattle.law.proofs.eval.occurs.Tie as tie
 
 returns : tie.Need-returns
 returns c =
     let a = c .before .args in
-    before-steps (a .occurred .now) (a .j) (a .e) (a .lag) (c .if1 .taken)
+    before-steps (a .history .now) (a .j) (a .e) (a .lag) (c .if1 .taken)
 
 returns-2 : tie.Need-returns-2
 returns-2 c =
-    let a = c .before .before .args in
-    past-steps (a .occurred .now) (a .j) (a .e) (a .lag) (c .before .if1 .left) (omega arith)
-
-returns-3 : tie.Need-returns-3
-returns-3 c =
-    let a = c .before .before .before .before .args in
-    c .has-bit .ensures ∙ at-step (a .occurred .now) (a .j) (a .e) (a .lag) (c .before .before .before .if1 .left)
+    let a = c .before .before .before .args in
+    let z = c .before .cell in
+    c .is-marked .ensures
+    ∙ ap (λ (z : ℤ). marked z) (back16 (z .result) (z .ok) ∙ z .ensures)
+    ∙ at-step (a .history .now) (a .j) (a .e) (a .lag) (c .before .before .if1 .left)
 
 pub occurs-spec : {M : Type 1} → statement M
 occurs-spec =
     tie.close
     (tie.spec
     returns
-    returns-2
-    (λ c. search needs)
-    (λ c. search needs)
     (λ c. search needs)
     (λ c κs. search needs)
-    returns-3)
+    (λ c κs. search needs)
+    returns-2)

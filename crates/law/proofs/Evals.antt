@@ -6,7 +6,8 @@ use mathlib.Core.Option.{Option, none, some}
 use Prim.Native.Nat.{ℕ, _+_, _-_, _*_, _≤_, _<_}
 use native.Mathlib.Nat.{add-assoc}
 use native.Mathlib.Omega.{arith}
-use borrow.Author.Tests.{le-leb, lt-leb}
+use native.Mathlib.Decide.{ℕ-discrete}
+use borrow.Author.Tests.{le-leb, lt-leb, eq-eqb, ne-eqb}
 use lib.Dec.{leb}
 use lib.IntN.{ℤ, pos}
 use lib.ListN.{length, drop, getD, List·getD-eq-default}
@@ -17,13 +18,10 @@ use Rattle.bmap.specs.Number.{Valued, value, with1, with2, operate, change, com
 use Rattle.bmap.specs.Tree.{Expr, Con, constant, fluent, two, one, reified, compared, joined, negated, occurs}
 use Rattle.bmap.specs.Meaning.{evalE, evalC}
 use Rattle.bmap.specs.Code.{Code, Parsed, Parser, codeOf, made, second, operand, operands, twoBytes, parseE, parseC}
-use Rattle.law.specs.declared.table.Shape.{Shape}
-use Rattle.law.specs.declared.table.Shape.the-variants as shape
 use Rattle.law.specs.declared.table.Node.the-variants.{Expression, Constraint}
-use Rattle.law.specs.Shape.{opened, operationOf, singleOf, comparisonOf, junctionOf}
-use Rattle.law.specs.Evaluate.{Meant, malformed, gives, meant, onward, rowSize, cellAt, marked, inStep, historyOf, valueAt, truthAt}
+use Rattle.law.specs.Table.{opened, sortIn, countIn, operatorIn, operationAt, singleAt, comparisonAt, junctionAt}
+use Rattle.law.specs.Evaluate.{Meant, malformed, gives, meant, onward, rowSize, cellAt, marked, inStep, leafOf, historyOf, valueAt, truthAt}
 use Rattle.law.proofs.Trees.{at-constant, at-fluent, at-reified, at-one, at-two, at-truth, at-occurrence, at-negation, at-junction, at-comparison, pair-short, pair-long, no-pair, a-pair}
-use Rattle.law.proofs.Codes.{code-10, code-11}
 
 -- The history: what was never written, and the step that code 29 looks at.
 pub no-cell : (l : List ℤ) (k f : ℕ) → length l ≤ rowSize * k + f → pos 0 ≡ cellAt l k f
@@ -48,6 +46,11 @@ leaf-meant : {T A : Type 0} (f : T → A) (make : ℕ → ℕ → T) (at : ℕ) 
 leaf-meant f make at [] = refl
 leaf-meant f make at (a ∷ []) = refl
 leaf-meant f make at (a ∷ b ∷ l) = refl
+
+leaf-same : {A : Type 0} (f g : ℕ → ℕ → A) → ((a b : ℕ) → f a b ≡ g a b) → (at : ℕ) (l : List ℕ) → meant (λ v. v) at (twoBytes f l) ≡ meant (λ v. v) at (twoBytes g l)
+leaf-same f g h at [] = refl
+leaf-same f g h at (a ∷ []) = refl
+leaf-same f g h at (a ∷ b ∷ l) = rw (h a b)
 
 -- no tree gives nothing
 pub nothing-there : {T A : Type 0} (f : T → A) (at : ℕ) {o : Option (Parsed T)} → o ≡ none → malformed ≡ meant f at o
@@ -116,56 +119,58 @@ module _ (s : List ℕ) (at d : ℕ) (l : List ℤ) (j : ℕ) (ne : d ≡ 0 → 
   abbrev part-c : ℕ → Meant (Valued Bool)
   part-c m = truthAt (d - 1) s m l j
 
-  pub eval-constant : getD s at 0 ≡ 0x10 → meant (λ v. v) at (twoBytes (λ hi lo. value (signedWord hi lo)) (drop (at + 1) s)) ≡ whole-e
-  unfolding evalE
-  eval-constant e = rw (at-constant s at d ne lt (code-10 (getD s at 0) e) refl) (leaf-meant fe (λ hi lo. constant (signedWord hi lo)) at (drop (at + 1) s))
+  module _ {row : ℕ} (p : Expression row ≡ opened code) where
+    pub eval-leaf : sortIn row ≡ 1 → meant (λ v. v) at (twoBytes (leafOf row l j) (drop (at + 1) s)) ≡ whole-e
+    unfolding evalE
+    eval-leaf q = elim (ℕ-discrete (operatorIn row) 0) [
+      | yes e ↦ leaf-same (leafOf row l j) (λ a b. value (signedWord a b)) (λ a b. rw (eq-eqb (operatorIn row) 0 e)) at (drop (at + 1) s) ∙ rw (at-constant s at d ne lt p q e) (leaf-meant fe (λ hi lo. constant (signedWord hi lo)) at (drop (at + 1) s))
+      | no n ↦ leaf-same (leafOf row l j) (λ a b. value (cellAt l (j - b) a)) (λ a b. rw (ne-eqb (operatorIn row) 0 n)) at (drop (at + 1) s) ∙ rw (at-fluent s at d ne lt p q n) (leaf-meant fe fluent at (drop (at + 1) s))
+    ]
 
-  pub eval-fluent : getD s at 0 ≡ 0x11 → meant (λ v. v) at (twoBytes (λ f t. value (cellAt l (j - t) f)) (drop (at + 1) s)) ≡ whole-e
-  unfolding evalE
-  eval-fluent e = rw (at-fluent s at d ne lt (code-11 (getD s at 0) e) refl) (leaf-meant fe fluent at (drop (at + 1) s))
-
-  module _ {sh : Shape} (p : Expression sh ≡ opened code) where
-    pub eval-reified : sh ≡ shape.Constraint → onward (with1 (λ b. value (flag b))) (part-c (at + 1)) ≡ whole-e
+    pub eval-reified : sortIn row ≡ 3 → onward (with1 (λ b. value (flag b))) (part-c (at + 1)) ≡ whole-e
     unfolding evalE
     eval-reified q = rw (at-reified s at d ne lt p q) (one-meant fc fe pc s at reified (with1 (λ b. value (flag b))) (λ a. refl))
 
-    pub eval-one : sh ≡ shape.Expression → onward (with1 (change (singleOf code))) (part-e (at + 1)) ≡ whole-e
-    unfolding evalE
-    eval-one q = rw (at-one s at d ne lt p q) (one-meant fe fe pe s at (one (singleOf code)) (with1 (change (singleOf code))) (λ a. refl))
+    module _ (q : sortIn row ≡ 1 → ⊥) (r : sortIn row ≡ 3 → ⊥) where
+      pub eval-one : countIn row ≡ 1 → onward (with1 (change (singleAt (operatorIn row)))) (part-e (at + 1)) ≡ whole-e
+      unfolding evalE
+      eval-one n = rw (at-one s at d ne lt p q r n) (one-meant fe fe pe s at (one (singleAt (operatorIn row))) (with1 (change (singleAt (operatorIn row)))) (λ a. refl))
 
-    pub eval-two : {v : Valued ℤ} {m : ℕ} → sh ≡ shape.Expressions → gives v m ≡ part-e (at + 1) → onward (with2 (operate (operationOf code)) v) (part-e m) ≡ whole-e
-    unfolding evalE
-    eval-two q e = rw (at-two s at d ne lt p q) (then-second fe fe pe s at (two (operationOf code)) (with2 (operate (operationOf code))) (λ a b. refl) e)
+      pub eval-two : {v : Valued ℤ} {m : ℕ} → (countIn row ≡ 1 → ⊥) → gives v m ≡ part-e (at + 1) → onward (with2 (operate (operationAt (operatorIn row))) v) (part-e m) ≡ whole-e
+      unfolding evalE
+      eval-two n e = rw (at-two s at d ne lt p q r n) (then-second fe fe pe s at (two (operationAt (operatorIn row))) (with2 (operate (operationAt (operatorIn row)))) (λ a b. refl) e)
 
-    pub eval-first : sh ≡ shape.Expressions → malformed ≡ part-e (at + 1) → malformed ≡ whole-e
-    unfolding evalE
-    eval-first q e = rw (at-two s at d ne lt p q) (first-none fe fe pe s at (two (operationOf code)) (with2 (operate (operationOf code))) (λ a b. refl) e)
+      pub eval-first : (countIn row ≡ 1 → ⊥) → malformed ≡ part-e (at + 1) → malformed ≡ whole-e
+      unfolding evalE
+      eval-first n e = rw (at-two s at d ne lt p q r n) (first-none fe fe pe s at (two (operationAt (operatorIn row))) (with2 (operate (operationAt (operatorIn row)))) (λ a b. refl) e)
 
-  module _ {sh : Shape} (p : Constraint sh ≡ opened code) where
-    pub eval-truth : sh ≡ shape.Nothing → gives (value true) (at + 1) ≡ whole-c
+  module _ {row : ℕ} (p : Constraint row ≡ opened code) where
+    pub eval-compared : {v : Valued ℤ} {m : ℕ} → sortIn row ≡ 2 → gives v m ≡ part-e (at + 1) → onward (with2 (λ x y. value (compare (comparisonAt (operatorIn row)) x y)) v) (part-e m) ≡ whole-c
     unfolding evalC
-    eval-truth q = rw (at-truth s at d ne lt p q)
+    eval-compared q e = rw (at-comparison s at d ne lt p q) (then-second fe fc pe s at (compared (comparisonAt (operatorIn row))) (with2 (λ x y. value (compare (comparisonAt (operatorIn row)) x y))) (λ a b. refl) e)
 
-    pub eval-occurrence : sh ≡ shape.EntryLag → meant (λ v. v) at (twoBytes (λ e t. value (both (leb t j) (inStep l e (j + 1 - t)))) (drop (at + 1) s)) ≡ whole-c
+    pub eval-first-e : sortIn row ≡ 2 → malformed ≡ part-e (at + 1) → malformed ≡ whole-c
+    unfolding evalC
+    eval-first-e q e = rw (at-comparison s at d ne lt p q) (first-none fe fc pe s at (compared (comparisonAt (operatorIn row))) (with2 (λ x y. value (compare (comparisonAt (operatorIn row)) x y))) (λ a b. refl) e)
+
+    pub eval-occurrence : sortIn row ≡ 1 → meant (λ v. v) at (twoBytes (λ e t. value (both (leb t j) (inStep l e (j + 1 - t)))) (drop (at + 1) s)) ≡ whole-c
     unfolding evalC
     eval-occurrence q = rw (at-occurrence s at d ne lt p q) (leaf-meant fc occurs at (drop (at + 1) s))
 
-    pub eval-negation : sh ≡ shape.Constraint → onward (with1 (λ x. value (not x))) (part-c (at + 1)) ≡ whole-c
+    pub eval-truth : countIn row ≡ 0 → gives (value true) (at + 1) ≡ whole-c
     unfolding evalC
-    eval-negation q = rw (at-negation s at d ne lt p q) (one-meant fc fc pc s at negated (with1 (λ x. value (not x))) (λ a. refl))
+    eval-truth n = rw (at-truth s at d ne lt p n)
 
-    pub eval-junction : {v : Valued Bool} {m : ℕ} → sh ≡ shape.Constraints → gives v m ≡ part-c (at + 1) → onward (with2 (λ x y. value (join (junctionOf code) x y)) v) (part-c m) ≡ whole-c
-    unfolding evalC
-    eval-junction q e = rw (at-junction s at d ne lt p q) (then-second fc fc pc s at (joined (junctionOf code)) (with2 (λ x y. value (join (junctionOf code) x y))) (λ a b. refl) e)
+    module _ (q : sortIn row ≡ 2 → ⊥) (r : sortIn row ≡ 1 → ⊥) where
+      pub eval-negation : countIn row ≡ 1 → onward (with1 (λ x. value (not x))) (part-c (at + 1)) ≡ whole-c
+      unfolding evalC
+      eval-negation n = rw (at-negation s at d ne lt p q r n) (one-meant fc fc pc s at negated (with1 (λ x. value (not x))) (λ a. refl))
 
-    pub eval-first-c : sh ≡ shape.Constraints → malformed ≡ part-c (at + 1) → malformed ≡ whole-c
-    unfolding evalC
-    eval-first-c q e = rw (at-junction s at d ne lt p q) (first-none fc fc pc s at (joined (junctionOf code)) (with2 (λ x y. value (join (junctionOf code) x y))) (λ a b. refl) e)
+      module _ (m : countIn row ≡ 0 → ⊥) (n : countIn row ≡ 1 → ⊥) where
+        pub eval-junction : {v : Valued Bool} {k : ℕ} → gives v k ≡ part-c (at + 1) → onward (with2 (λ x y. value (join (junctionAt (operatorIn row)) x y)) v) (part-c k) ≡ whole-c
+        unfolding evalC
+        eval-junction e = rw (at-junction s at d ne lt p q r m n) (then-second fc fc pc s at (joined (junctionAt (operatorIn row))) (with2 (λ x y. value (join (junctionAt (operatorIn row)) x y))) (λ a b. refl) e)
 
-    pub eval-compared : {v : Valued ℤ} {m : ℕ} → sh ≡ shape.Expressions → gives v m ≡ part-e (at + 1) → onward (with2 (λ x y. value (compare (comparisonOf code) x y)) v) (part-e m) ≡ whole-c
-    unfolding evalC
-    eval-compared q e = rw (at-comparison s at d ne lt p q) (then-second fe fc pe s at (compared (comparisonOf code)) (with2 (λ x y. value (compare (comparisonOf code) x y))) (λ a b. refl) e)
-
-    pub eval-first-e : sh ≡ shape.Expressions → malformed ≡ part-e (at + 1) → malformed ≡ whole-c
-    unfolding evalC
-    eval-first-e q e = rw (at-comparison s at d ne lt p q) (first-none fe fc pe s at (compared (comparisonOf code)) (with2 (λ x y. value (compare (comparisonOf code) x y))) (λ a b. refl) e)
+        pub eval-first-c : malformed ≡ part-c (at + 1) → malformed ≡ whole-c
+        unfolding evalC
+        eval-first-c e = rw (at-junction s at d ne lt p q r m n) (first-none fc fc pc s at (joined (junctionAt (operatorIn row))) (with2 (λ x y. value (join (junctionAt (operatorIn row)) x y))) (λ a b. refl) e)

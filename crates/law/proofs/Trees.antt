@@ -1,170 +1,197 @@
 -- The tree at a place of some bytes, by its code: what the table says of the code, and what the parser does after it.
 use mathlib.Core.Path.{_≡_, refl, subst}
 use mathlib.Core.Logic.{⊎-elim}
-use mathlib.Core.Bool.{not}
 use mathlib.Core.List.{List, [], _∷_}
 use mathlib.Core.Option.{none}
-use Prim.Native.Nat.{ℕ, zero, suc, _+_, _-_, _≤_, _<_}
+use Prim.Native.Nat.{ℕ, zero, suc, _+_, _-_, _*_, _≤_, _<_}
 use native.Mathlib.Numerals.{add-one}
 use native.Mathlib.Decide.{decLe}
 use native.Mathlib.Omega.{arith}
-use types.Run.{OneOf, miss}
-use mir.Val.{hasKey}
-use lib.Dec.{T}
+use types.Run.{OneOf}
 use denote.Enum.Declared.{tagOf}
 use lib.ListN.{length, drop, getD, length-drop, drop-of-length-le}
 use lib.Seq.{drop-cons}
-use Rattle.bmap.specs.Code.{Code, ExprCode, ConCode, expression, constraint, no-code, a-constant, a-fluent, of-two, of-one, a-reified, of-comparison, of-junction, a-negation, an-occurrence, a-truth}
+use Rattle.bmap.specs.Code.{Code, expression, constraint, no-code, a-constant, a-fluent, of-two, of-one, a-reified, of-comparison, of-junction, a-negation, an-occurrence, a-truth}
 use Rattle.bmap.specs.Number.{signedWord}
 use Rattle.bmap.specs.Tree.{constant, fluent, two, one, reified, compared, joined, negated, occurs, always}
 use Rattle.bmap.specs.Code.{codeOf, parsed, twoBytes, operand, operands, exprAfter, conAfter, parseE, parseC}
-use Rattle.law.specs.declared.table.Shape.{Shape}
-use Rattle.law.specs.declared.table.Shape.the-variants as shape
 use Rattle.law.specs.declared.table.Node.{Node}
 use Rattle.law.specs.declared.table.Node.the-variants.{Expression, Constraint}
 use Rattle.law.specs.declared.table.Pair.the-variants.{Bytes, Short}
-use Rattle.law.specs.Shape.{shapeOf, opened, pairOf, operationOf, singleOf, comparisonOf, junctionOf}
-use Rattle.law.proofs.Codes.{no-leaf}
+use Rattle.law.specs.Table.{sortOf, countOf, operatorOf, rowOf, sortIn, countIn, operatorIn, opened, pairOf}
+use Rattle.law.specs.Table.{operationNumber, operationAt, singleNumber, singleAt, comparisonNumber, comparisonAt, junctionNumber, junctionAt}
+use Rattle.bmap.specs.declared.Operation.{Operation}
+use Rattle.bmap.specs.declared.Operation.the-variants.{Sum, Difference, Product, Quotient, Remainder}
+use Rattle.bmap.specs.declared.Single.{Single}
+use Rattle.bmap.specs.declared.Single.the-variants.{Negation, Absolute}
+use Rattle.bmap.specs.declared.Comparison.{Comparison}
+use Rattle.bmap.specs.declared.Comparison.the-variants.{Equal, Unequal, Less, AtMost, Greater, AtLeast}
+use Rattle.bmap.specs.declared.Junction.{Junction}
+use Rattle.bmap.specs.declared.Junction.the-variants.{And, Or}
 use Rattle.law.proofs.table.Node as node-type
-use Rattle.law.proofs.table.Shape as shape-type
 
--- What stands in the table decides the code.
-module _ {sh : Shape} where
-  is-constant : (c : Code) → Expression sh ≡ opened c → sh ≡ shape.Value → c ≡ expression a-constant
-  is-constant (expression a-constant) p q = refl
-  is-constant (expression a-fluent) p q = cc
-  is-constant (expression (of-two o)) p q = cc
-  is-constant (expression (of-one o)) p q = cc
-  is-constant (expression a-reified) p q = cc
-  is-constant (constraint c) p q = cc
-  is-constant no-code p q = cc
+-- What a row says: each of its three numbers is read back.
+read-sort : (s n o : ℕ) → s < 4 → sortIn (s + 4 * n + 16 * o) ≡ s
+read-sort s n o h = omega arith
 
-  is-fluent : (c : Code) → Expression sh ≡ opened c → sh ≡ shape.FluentLag → c ≡ expression a-fluent
-  is-fluent (expression a-constant) p q = cc
-  is-fluent (expression a-fluent) p q = refl
-  is-fluent (expression (of-two o)) p q = cc
-  is-fluent (expression (of-one o)) p q = cc
-  is-fluent (expression a-reified) p q = cc
-  is-fluent (constraint c) p q = cc
-  is-fluent no-code p q = cc
+read-count : (s n o : ℕ) → s < 4 → n < 4 → countIn (s + 4 * n + 16 * o) ≡ n
+read-count s n o h k = omega arith
 
-  is-reified : (c : Code) → Expression sh ≡ opened c → sh ≡ shape.Constraint → c ≡ expression a-reified
-  is-reified (expression a-constant) p q = cc
-  is-reified (expression a-fluent) p q = cc
-  is-reified (expression (of-two o)) p q = cc
-  is-reified (expression (of-one o)) p q = cc
+read-operator : (s n o : ℕ) → s < 4 → n < 4 → operatorIn (s + 4 * n + 16 * o) ≡ o
+read-operator s n o h k = omega arith
+
+few-sorts : (c : Code) → sortOf c < 4
+few-sorts (expression a-constant) = omega arith
+few-sorts (expression a-fluent) = omega arith
+few-sorts (expression (of-two o)) = omega arith
+few-sorts (expression (of-one o)) = omega arith
+few-sorts (expression a-reified) = omega arith
+few-sorts (constraint (of-comparison o)) = omega arith
+few-sorts (constraint (of-junction o)) = omega arith
+few-sorts (constraint a-negation) = omega arith
+few-sorts (constraint an-occurrence) = omega arith
+few-sorts (constraint a-truth) = omega arith
+few-sorts no-code = omega arith
+
+few-operands : (c : Code) → countOf c < 4
+few-operands (expression a-constant) = omega arith
+few-operands (expression a-fluent) = omega arith
+few-operands (expression (of-two o)) = omega arith
+few-operands (expression (of-one o)) = omega arith
+few-operands (expression a-reified) = omega arith
+few-operands (constraint (of-comparison o)) = omega arith
+few-operands (constraint (of-junction o)) = omega arith
+few-operands (constraint a-negation) = omega arith
+few-operands (constraint an-occurrence) = omega arith
+few-operands (constraint a-truth) = omega arith
+few-operands no-code = omega arith
+
+record Reads (row : ℕ) (c : Code) : Type 0 where
+  sort : sortIn row ≡ sortOf c
+  count : countIn row ≡ countOf c
+  operator : operatorIn row ≡ operatorOf c
+
+reads : (row : ℕ) (c : Code) → row ≡ rowOf c → Reads row c
+reads row c e = record {
+  sort = rw e (read-sort (sortOf c) (countOf c) (operatorOf c) (few-sorts c));
+  count = rw e (read-count (sortOf c) (countOf c) (operatorOf c) (few-sorts c) (few-operands c));
+  operator = rw e (read-operator (sortOf c) (countOf c) (operatorOf c) (few-sorts c) (few-operands c));
+}
+
+operation-back : (o : Operation) → operationAt (operationNumber o) ≡ o
+operation-back Sum = refl
+operation-back Difference = refl
+operation-back Product = refl
+operation-back Quotient = refl
+operation-back Remainder = refl
+
+single-back : (o : Single) → singleAt (singleNumber o) ≡ o
+single-back Negation = refl
+single-back Absolute = refl
+
+comparison-back : (o : Comparison) → comparisonAt (comparisonNumber o) ≡ o
+comparison-back Equal = refl
+comparison-back Unequal = refl
+comparison-back Less = refl
+comparison-back AtMost = refl
+comparison-back Greater = refl
+comparison-back AtLeast = refl
+
+junction-back : (o : Junction) → junctionAt (junctionNumber o) ≡ o
+junction-back And = refl
+junction-back Or = refl
+
+-- and they decide the code
+module _ {row : ℕ} where
+  is-constant : (c : Code) → Expression row ≡ opened c → sortIn row ≡ 1 → operatorIn row ≡ 0 → c ≡ expression a-constant
+  is-constant (expression a-constant) p q r = refl
+  is-constant (expression a-fluent) p q r = let w = reads row (expression a-fluent) cc in absurd (omega (arith, w .operator, r))
+  is-constant (expression (of-two o)) p q r = let w = reads row (expression (of-two o)) cc in absurd (omega (arith, w .sort, q))
+  is-constant (expression (of-one o)) p q r = let w = reads row (expression (of-one o)) cc in absurd (omega (arith, w .sort, q))
+  is-constant (expression a-reified) p q r = let w = reads row (expression a-reified) cc in absurd (omega (arith, w .sort, q))
+  is-constant (constraint c) p q r = cc
+  is-constant no-code p q r = cc
+
+  is-fluent : (c : Code) → Expression row ≡ opened c → sortIn row ≡ 1 → (operatorIn row ≡ 0 → ⊥) → c ≡ expression a-fluent
+  is-fluent (expression a-constant) p q r = let w = reads row (expression a-constant) cc in absurd (r (w .operator))
+  is-fluent (expression a-fluent) p q r = refl
+  is-fluent (expression (of-two o)) p q r = let w = reads row (expression (of-two o)) cc in absurd (omega (arith, w .sort, q))
+  is-fluent (expression (of-one o)) p q r = let w = reads row (expression (of-one o)) cc in absurd (omega (arith, w .sort, q))
+  is-fluent (expression a-reified) p q r = let w = reads row (expression a-reified) cc in absurd (omega (arith, w .sort, q))
+  is-fluent (constraint c) p q r = cc
+  is-fluent no-code p q r = cc
+
+  is-reified : (c : Code) → Expression row ≡ opened c → sortIn row ≡ 3 → c ≡ expression a-reified
+  is-reified (expression a-constant) p q = let w = reads row (expression a-constant) cc in absurd (omega (arith, w .sort, q))
+  is-reified (expression a-fluent) p q = let w = reads row (expression a-fluent) cc in absurd (omega (arith, w .sort, q))
+  is-reified (expression (of-two o)) p q = let w = reads row (expression (of-two o)) cc in absurd (omega (arith, w .sort, q))
+  is-reified (expression (of-one o)) p q = let w = reads row (expression (of-one o)) cc in absurd (omega (arith, w .sort, q))
   is-reified (expression a-reified) p q = refl
   is-reified (constraint c) p q = cc
   is-reified no-code p q = cc
 
-  is-one : (c : Code) → Expression sh ≡ opened c → sh ≡ shape.Expression → c ≡ expression (of-one (singleOf c))
-  is-one (expression a-constant) p q = cc
-  is-one (expression a-fluent) p q = cc
-  is-one (expression (of-two o)) p q = cc
-  is-one (expression (of-one o)) p q = refl
-  is-one (expression a-reified) p q = cc
-  is-one (constraint c) p q = cc
-  is-one no-code p q = cc
+  is-one : (c : Code) → Expression row ≡ opened c → (sortIn row ≡ 1 → ⊥) → (sortIn row ≡ 3 → ⊥) → countIn row ≡ 1 → c ≡ expression (of-one (singleAt (operatorIn row)))
+  is-one (expression a-constant) p q r n = let w = reads row (expression a-constant) cc in absurd (q (w .sort))
+  is-one (expression a-fluent) p q r n = let w = reads row (expression a-fluent) cc in absurd (q (w .sort))
+  is-one (expression (of-two o)) p q r n = let w = reads row (expression (of-two o)) cc in absurd (omega (arith, w .count, n))
+  is-one (expression (of-one o)) p q r n = let w = reads row (expression (of-one o)) cc in rw (w .operator, single-back o)
+  is-one (expression a-reified) p q r n = let w = reads row (expression a-reified) cc in absurd (r (w .sort))
+  is-one (constraint c) p q r n = cc
+  is-one no-code p q r n = cc
 
-  is-two : (c : Code) → Expression sh ≡ opened c → sh ≡ shape.Expressions → c ≡ expression (of-two (operationOf c))
-  is-two (expression a-constant) p q = cc
-  is-two (expression a-fluent) p q = cc
-  is-two (expression (of-two o)) p q = refl
-  is-two (expression (of-one o)) p q = cc
-  is-two (expression a-reified) p q = cc
-  is-two (constraint c) p q = cc
-  is-two no-code p q = cc
+  is-two : (c : Code) → Expression row ≡ opened c → (sortIn row ≡ 1 → ⊥) → (sortIn row ≡ 3 → ⊥) → (countIn row ≡ 1 → ⊥) → c ≡ expression (of-two (operationAt (operatorIn row)))
+  is-two (expression a-constant) p q r n = let w = reads row (expression a-constant) cc in absurd (q (w .sort))
+  is-two (expression a-fluent) p q r n = let w = reads row (expression a-fluent) cc in absurd (q (w .sort))
+  is-two (expression (of-two o)) p q r n = let w = reads row (expression (of-two o)) cc in rw (w .operator, operation-back o)
+  is-two (expression (of-one o)) p q r n = let w = reads row (expression (of-one o)) cc in absurd (n (w .count))
+  is-two (expression a-reified) p q r n = let w = reads row (expression a-reified) cc in absurd (r (w .sort))
+  is-two (constraint c) p q r n = cc
+  is-two no-code p q r n = cc
 
-  is-truth : (c : Code) → Constraint sh ≡ opened c → sh ≡ shape.Nothing → c ≡ constraint a-truth
-  is-truth (constraint (of-comparison o)) p q = cc
-  is-truth (constraint (of-junction o)) p q = cc
-  is-truth (constraint a-negation) p q = cc
-  is-truth (constraint an-occurrence) p q = cc
-  is-truth (constraint a-truth) p q = refl
-  is-truth (expression c) p q = cc
-  is-truth no-code p q = cc
-
-  is-occurrence : (c : Code) → Constraint sh ≡ opened c → sh ≡ shape.EntryLag → c ≡ constraint an-occurrence
-  is-occurrence (constraint (of-comparison o)) p q = cc
-  is-occurrence (constraint (of-junction o)) p q = cc
-  is-occurrence (constraint a-negation) p q = cc
-  is-occurrence (constraint an-occurrence) p q = refl
-  is-occurrence (constraint a-truth) p q = cc
-  is-occurrence (expression c) p q = cc
-  is-occurrence no-code p q = cc
-
-  is-negation : (c : Code) → Constraint sh ≡ opened c → sh ≡ shape.Constraint → c ≡ constraint a-negation
-  is-negation (constraint (of-comparison o)) p q = cc
-  is-negation (constraint (of-junction o)) p q = cc
-  is-negation (constraint a-negation) p q = refl
-  is-negation (constraint an-occurrence) p q = cc
-  is-negation (constraint a-truth) p q = cc
-  is-negation (expression c) p q = cc
-  is-negation no-code p q = cc
-
-  is-junction : (c : Code) → Constraint sh ≡ opened c → sh ≡ shape.Constraints → c ≡ constraint (of-junction (junctionOf c))
-  is-junction (constraint (of-comparison o)) p q = cc
-  is-junction (constraint (of-junction o)) p q = refl
-  is-junction (constraint a-negation) p q = cc
-  is-junction (constraint an-occurrence) p q = cc
-  is-junction (constraint a-truth) p q = cc
-  is-junction (expression c) p q = cc
-  is-junction no-code p q = cc
-
-  is-comparison : (c : Code) → Constraint sh ≡ opened c → sh ≡ shape.Expressions → c ≡ constraint (of-comparison (comparisonOf c))
-  is-comparison (constraint (of-comparison o)) p q = refl
-  is-comparison (constraint (of-junction o)) p q = cc
-  is-comparison (constraint a-negation) p q = cc
-  is-comparison (constraint an-occurrence) p q = cc
-  is-comparison (constraint a-truth) p q = cc
+  is-comparison : (c : Code) → Constraint row ≡ opened c → sortIn row ≡ 2 → c ≡ constraint (of-comparison (comparisonAt (operatorIn row)))
+  is-comparison (constraint (of-comparison o)) p q = let w = reads row (constraint (of-comparison o)) cc in rw (w .operator, comparison-back o)
+  is-comparison (constraint (of-junction o)) p q = let w = reads row (constraint (of-junction o)) cc in absurd (omega (arith, w .sort, q))
+  is-comparison (constraint a-negation) p q = let w = reads row (constraint a-negation) cc in absurd (omega (arith, w .sort, q))
+  is-comparison (constraint an-occurrence) p q = let w = reads row (constraint an-occurrence) cc in absurd (omega (arith, w .sort, q))
+  is-comparison (constraint a-truth) p q = let w = reads row (constraint a-truth) cc in absurd (omega (arith, w .sort, q))
   is-comparison (expression c) p q = cc
   is-comparison no-code p q = cc
 
--- and no shape stands there whose number is among some keys, where no code has such a shape
-module _ (ks : List ℕ) where
-  abbrev Tags : Shape → Type 0
-  Tags sh = OneOf ks (tagOf shape-type.the-type sh)
+  is-occurrence : (c : Code) → Constraint row ≡ opened c → sortIn row ≡ 1 → c ≡ constraint an-occurrence
+  is-occurrence (constraint (of-comparison o)) p q = let w = reads row (constraint (of-comparison o)) cc in absurd (omega (arith, w .sort, q))
+  is-occurrence (constraint (of-junction o)) p q = let w = reads row (constraint (of-junction o)) cc in absurd (omega (arith, w .sort, q))
+  is-occurrence (constraint a-negation) p q = let w = reads row (constraint a-negation) cc in absurd (omega (arith, w .sort, q))
+  is-occurrence (constraint an-occurrence) p q = refl
+  is-occurrence (constraint a-truth) p q = let w = reads row (constraint a-truth) cc in absurd (omega (arith, w .sort, q))
+  is-occurrence (expression c) p q = cc
+  is-occurrence no-code p q = cc
 
-  abbrev Other : Code → Type 0
-  Other c = T (not (hasKey ks (tagOf shape-type.the-type (shapeOf c))))
+  is-truth : (c : Code) → Constraint row ≡ opened c → countIn row ≡ 0 → c ≡ constraint a-truth
+  is-truth (constraint (of-comparison o)) p n = let w = reads row (constraint (of-comparison o)) cc in absurd (omega (arith, w .count, n))
+  is-truth (constraint (of-junction o)) p n = let w = reads row (constraint (of-junction o)) cc in absurd (omega (arith, w .count, n))
+  is-truth (constraint a-negation) p n = let w = reads row (constraint a-negation) cc in absurd (omega (arith, w .count, n))
+  is-truth (constraint an-occurrence) p n = let w = reads row (constraint an-occurrence) cc in absurd (omega (arith, w .count, n))
+  is-truth (constraint a-truth) p n = refl
+  is-truth (expression c) p n = cc
+  is-truth no-code p n = cc
 
-  no-other-e : {sh : Shape} (c : Code) → ((e : ExprCode) → c ≡ expression e → Other c) → Expression sh ≡ opened c → Tags sh → ⊥
-  no-other-e {sh} (expression e) t p q =
-      let is : sh ≡ shapeOf (expression e) = cc in
-      miss ks _ (t e refl) (rw is at q)
-  no-other-e (constraint c) t p q = let z : _≡_ {A = ℕ} 0 1 = cc in omega arith
-  no-other-e no-code t p q = let z : _≡_ {A = ℕ} 0 1 = cc in omega arith
+  is-negation : (c : Code) → Constraint row ≡ opened c → (sortIn row ≡ 2 → ⊥) → (sortIn row ≡ 1 → ⊥) → countIn row ≡ 1 → c ≡ constraint a-negation
+  is-negation (constraint (of-comparison o)) p q r n = let w = reads row (constraint (of-comparison o)) cc in absurd (q (w .sort))
+  is-negation (constraint (of-junction o)) p q r n = let w = reads row (constraint (of-junction o)) cc in absurd (omega (arith, w .count, n))
+  is-negation (constraint a-negation) p q r n = refl
+  is-negation (constraint an-occurrence) p q r n = let w = reads row (constraint an-occurrence) cc in absurd (r (w .sort))
+  is-negation (constraint a-truth) p q r n = let w = reads row (constraint a-truth) cc in absurd (omega (arith, w .count, n))
+  is-negation (expression c) p q r n = cc
+  is-negation no-code p q r n = cc
 
-  no-other-c : {sh : Shape} (c : Code) → ((e : ConCode) → c ≡ constraint e → Other c) → Constraint sh ≡ opened c → Tags sh → ⊥
-  no-other-c {sh} (constraint e) t p q =
-      let is : sh ≡ shapeOf (constraint e) = cc in
-      miss ks _ (t e refl) (rw is at q)
-  no-other-c (expression c) t p q = let z : _≡_ {A = ℕ} 0 1 = cc in omega arith
-  no-other-c no-code t p q = let z : _≡_ {A = ℕ} 0 1 = cc in omega arith
-
--- 0 nothing, 3 an entry, 7 constraints
-others-e : (c : Code) (e : ExprCode) → c ≡ expression e → Other (0 ∷ 3 ∷ 7 ∷ []) c
-others-e c a-constant is = rw is tt
-others-e c a-fluent is = rw is tt
-others-e c (of-two o) is = rw is tt
-others-e c (of-one o) is = rw is tt
-others-e c a-reified is = rw is tt
-
--- and, past the leaves, 1 a value, 2 a fluent
-others-tree : (c : Code) → T (no-leaf c) → (e : ExprCode) → c ≡ expression e → Other (0 ∷ 1 ∷ 2 ∷ 3 ∷ 7 ∷ []) c
-others-tree c n a-constant is = absurd (rw is at n)
-others-tree c n a-fluent is = absurd (rw is at n)
-others-tree c n (of-two o) is = rw is tt
-others-tree c n (of-one o) is = rw is tt
-others-tree c n a-reified is = rw is tt
-
--- 1 a value, 2 a fluent, 4 an expression
-others-c : (c : Code) (e : ConCode) → c ≡ constraint e → Other (1 ∷ 2 ∷ 4 ∷ []) c
-others-c c (of-comparison o) is = rw is tt
-others-c c (of-junction o) is = rw is tt
-others-c c a-negation is = rw is tt
-others-c c an-occurrence is = rw is tt
-others-c c a-truth is = rw is tt
+  is-junction : (c : Code) → Constraint row ≡ opened c → (sortIn row ≡ 2 → ⊥) → (sortIn row ≡ 1 → ⊥) → (countIn row ≡ 0 → ⊥) → (countIn row ≡ 1 → ⊥) → c ≡ constraint (of-junction (junctionAt (operatorIn row)))
+  is-junction (constraint (of-comparison o)) p q r m n = let w = reads row (constraint (of-comparison o)) cc in absurd (q (w .sort))
+  is-junction (constraint (of-junction o)) p q r m n = let w = reads row (constraint (of-junction o)) cc in rw (w .operator, junction-back o)
+  is-junction (constraint a-negation) p q r m n = let w = reads row (constraint a-negation) cc in absurd (n (w .count))
+  is-junction (constraint an-occurrence) p q r m n = let w = reads row (constraint an-occurrence) cc in absurd (r (w .sort))
+  is-junction (constraint a-truth) p q r m n = let w = reads row (constraint a-truth) cc in absurd (m (w .count))
+  is-junction (expression c) p q r m n = cc
+  is-junction no-code p q r m n = cc
 
 -- No tree: too deep, past the end, or a byte that opens no tree of the sort.
 module _ (s : List ℕ) (at d : ℕ) where
@@ -224,46 +251,37 @@ module _ (s : List ℕ) (at d : ℕ) (ne : d ≡ 0 → ⊥) (lt : at < length s)
       go (constraint c) is h = ⊎-elim (λ z. absurd (omega arith)) (λ z. absurd (omega arith)) h
       go no-code is h = after-c no-code is
 
-  module _ {sh : Shape} (p : Expression sh ≡ opened code) where
-    pub at-constant : sh ≡ shape.Value → parseE d (drop at s) ≡ twoBytes (λ hi lo. constant (signedWord hi lo)) rest
-    at-constant q = after-e (expression a-constant) (is-constant code p q)
+  module _ {row : ℕ} (p : Expression row ≡ opened code) where
+    pub at-constant : sortIn row ≡ 1 → operatorIn row ≡ 0 → parseE d (drop at s) ≡ twoBytes (λ hi lo. constant (signedWord hi lo)) rest
+    at-constant q r = after-e (expression a-constant) (is-constant code p q r)
 
-    pub at-fluent : sh ≡ shape.FluentLag → parseE d (drop at s) ≡ twoBytes fluent rest
-    at-fluent q = after-e (expression a-fluent) (is-fluent code p q)
+    pub at-fluent : sortIn row ≡ 1 → (operatorIn row ≡ 0 → ⊥) → parseE d (drop at s) ≡ twoBytes fluent rest
+    at-fluent q r = after-e (expression a-fluent) (is-fluent code p q r)
 
-    pub at-reified : sh ≡ shape.Constraint → parseE d (drop at s) ≡ operand reified (parseC (d - 1)) rest
+    pub at-reified : sortIn row ≡ 3 → parseE d (drop at s) ≡ operand reified (parseC (d - 1)) rest
     at-reified q = after-e (expression a-reified) (is-reified code p q)
 
-    pub at-one : sh ≡ shape.Expression → parseE d (drop at s) ≡ operand (one (singleOf code)) (parseE (d - 1)) rest
-    at-one q = after-e (expression (of-one (singleOf code))) (is-one code p q)
+    pub at-one : (sortIn row ≡ 1 → ⊥) → (sortIn row ≡ 3 → ⊥) → countIn row ≡ 1 → parseE d (drop at s) ≡ operand (one (singleAt (operatorIn row))) (parseE (d - 1)) rest
+    at-one q r n = after-e (expression (of-one (singleAt (operatorIn row)))) (is-one code p q r n)
 
-    pub at-two : sh ≡ shape.Expressions → parseE d (drop at s) ≡ operands (two (operationOf code)) (parseE (d - 1)) rest
-    at-two q = after-e (expression (of-two (operationOf code))) (is-two code p q)
+    pub at-two : (sortIn row ≡ 1 → ⊥) → (sortIn row ≡ 3 → ⊥) → (countIn row ≡ 1 → ⊥) → parseE d (drop at s) ≡ operands (two (operationAt (operatorIn row))) (parseE (d - 1)) rest
+    at-two q r n = after-e (expression (of-two (operationAt (operatorIn row)))) (is-two code p q r n)
 
-    pub other-e : Tags (0 ∷ 3 ∷ 7 ∷ []) sh → parseE d (drop at s) ≡ none
-    other-e q = absurd (no-other-e (0 ∷ 3 ∷ 7 ∷ []) code (others-e code) p q)
+  module _ {row : ℕ} (p : Constraint row ≡ opened code) where
+    pub at-comparison : sortIn row ≡ 2 → parseC d (drop at s) ≡ operands (compared (comparisonAt (operatorIn row))) (parseE (d - 1)) rest
+    at-comparison q = after-c (constraint (of-comparison (comparisonAt (operatorIn row)))) (is-comparison code p q)
 
-    pub other-tree : T (no-leaf code) → Tags (0 ∷ 1 ∷ 2 ∷ 3 ∷ 7 ∷ []) sh → parseE d (drop at s) ≡ none
-    other-tree n q = absurd (no-other-e (0 ∷ 1 ∷ 2 ∷ 3 ∷ 7 ∷ []) code (others-tree code n) p q)
-
-  module _ {sh : Shape} (p : Constraint sh ≡ opened code) where
-    pub at-truth : sh ≡ shape.Nothing → parseC d (drop at s) ≡ parsed always 1
-    at-truth q = after-c (constraint a-truth) (is-truth code p q)
-
-    pub at-occurrence : sh ≡ shape.EntryLag → parseC d (drop at s) ≡ twoBytes occurs rest
+    pub at-occurrence : sortIn row ≡ 1 → parseC d (drop at s) ≡ twoBytes occurs rest
     at-occurrence q = after-c (constraint an-occurrence) (is-occurrence code p q)
 
-    pub at-negation : sh ≡ shape.Constraint → parseC d (drop at s) ≡ operand negated (parseC (d - 1)) rest
-    at-negation q = after-c (constraint a-negation) (is-negation code p q)
+    pub at-truth : countIn row ≡ 0 → parseC d (drop at s) ≡ parsed always 1
+    at-truth n = after-c (constraint a-truth) (is-truth code p n)
 
-    pub at-junction : sh ≡ shape.Constraints → parseC d (drop at s) ≡ operands (joined (junctionOf code)) (parseC (d - 1)) rest
-    at-junction q = after-c (constraint (of-junction (junctionOf code))) (is-junction code p q)
+    pub at-negation : (sortIn row ≡ 2 → ⊥) → (sortIn row ≡ 1 → ⊥) → countIn row ≡ 1 → parseC d (drop at s) ≡ operand negated (parseC (d - 1)) rest
+    at-negation q r n = after-c (constraint a-negation) (is-negation code p q r n)
 
-    pub at-comparison : sh ≡ shape.Expressions → parseC d (drop at s) ≡ operands (compared (comparisonOf code)) (parseE (d - 1)) rest
-    at-comparison q = after-c (constraint (of-comparison (comparisonOf code))) (is-comparison code p q)
-
-    pub other-c : Tags (1 ∷ 2 ∷ 4 ∷ []) sh → parseC d (drop at s) ≡ none
-    other-c q = absurd (no-other-c (1 ∷ 2 ∷ 4 ∷ []) code (others-c code) p q)
+    pub at-junction : (sortIn row ≡ 2 → ⊥) → (sortIn row ≡ 1 → ⊥) → (countIn row ≡ 0 → ⊥) → (countIn row ≡ 1 → ⊥) → parseC d (drop at s) ≡ operands (joined (junctionAt (operatorIn row))) (parseC (d - 1)) rest
+    at-junction q r m n = after-c (constraint (of-junction (junctionAt (operatorIn row)))) (is-junction code p q r m n)
 
 -- The two bytes after a code.
 pub pair-short : (s : List ℕ) (at : ℕ) → length s - at < 3 → Short ≡ pairOf (drop (at + 1) s)

@@ -7,10 +7,13 @@ use lib.IntN.{ℤ, pos}
 use mathlib.Core.Path.{_≡_}
 use lib.ListN.{length, drop, getD}
 use Rattle.bmap.specs.Limits.{mostFluents, mostEntries, mostLaws, mostSteps, frameSize}
-use Rattle.bmap.specs.Number.{Valued}
+use Rattle.bmap.specs.Plain.{if-else}
+use Rattle.bmap.specs.Number.{Valued, value, signedWord}
 use Rattle.bmap.specs.Meaning.{History, evalE, evalC}
 use Rattle.bmap.specs.Code.{Parsed, parseE, parseC}
+use lib.Dec.{eqb}
 use lib.Signed.{leZ}
+use Rattle.law.specs.Table.{operatorIn}
 use Rattle.number.specs.Answer.{valuedOf, truthOf}
 use Rattle.law.specs.declared.eval.Evaluated.{Evaluated}
 use Rattle.law.specs.declared.eval.Evaluated.the-variants as value-as
@@ -71,6 +74,10 @@ evaluated (value-as.Gives v n) = gives (valuedOf v) n
 abbrev pub judged : Judged → Meant (Valued Bool)
 judged truth-as.Malformed = malformed
 judged (truth-as.Gives v n) = gives (truthOf v) n
+
+-- what the two bytes after a leaf's code give, by its row: a constant, or the level of a fluent at its lag
+abbrev pub leafOf : ℕ → List ℤ → ℕ → ℕ → ℕ → Valued ℤ
+leafOf row history j a b = if-else (eqb (operatorIn row) 0) (value (signedWord a b)) (value (cellAt history (j - b) a))
 
 -- the expression, or the constraint, at a place of some bytes, read at position j
 abbrev pub valueAt : ℕ → List ℕ → ℕ → List ℤ → ℕ → Meant (Valued ℤ)

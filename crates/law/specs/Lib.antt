@@ -1,5 +1,5 @@
 -- What the functions over law bytes answer.
-pub mod Shape
+pub mod Table
 pub mod Check
 pub mod Names
 pub mod Evaluate

@@ -9,13 +9,21 @@ ghost use Rattle.bmap.specs.Limits.{mostDepth, mostLag};
 ghost use Rattle.bmap.specs.Tree.{allowedE, allowedC, constant, fluent, occurs};
 ghost use Rattle.bmap.specs.Number.{signedWord};
 ghost use Rattle.bmap.specs.Code.{parseE, parseC, twoBytes};
+ghost use Rattle.law.specs.Table.{rows};
 ghost use Rattle.law.specs.Check.{checkedOf, nextOf, endOf, passesE, passesC};
 use crate::mask::has_bit;
+use crate::table::BYTES;
+use crate::table::CONSTRAINT;
+use crate::table::EXPRESSION;
 use crate::table::Node;
 use crate::table::Pair;
-use crate::table::Shape;
+use crate::table::ROWS;
+use crate::table::count;
 use crate::table::opens;
+use crate::table::operator;
 use crate::table::pair_after;
+use crate::table::sort;
+use crate::table::table;
 use bmap::Context;
 
 // The place just after the tree, or refused.
@@ -110,7 +118,8 @@ fn entry_at(s: &[u8], at: usize, test: Test) -> usize
     }
 }
 
-fn expression_in(s: &[u8], at: usize, depth: usize, test: Test) -> usize
+fn expression_in(s: &[u8], at: usize, depth: usize, test: Test, table: &[u8; ROWS]) -> usize
+    requires { ⌜ now table ≡ rows ⌝ }
     ensures { λ r. ⌜ nextOf r ≡ endOf (passesE test) at (parseE depth (drop at (now (s .entry)))) ⌝ }
 {
     if depth == 0 {
@@ -119,26 +128,30 @@ fn expression_in(s: &[u8], at: usize, depth: usize, test: Test) -> usize
     if s.len() <= at {
         return REFUSED;
     }
-    let Node::Expression(shape) = opens(s[at]) else {
+    let Node::Expression(row) = opens(table, s[at]) else {
         return REFUSED;
     };
-    match shape {
-        Shape::Value => constant_at(s, at, test),
-        Shape::FluentLag => fluent_at(s, at, test),
-        Shape::Constraint => constraint_in(s, at + 1, depth - 1, test),
-        Shape::Expression => expression_in(s, at + 1, depth - 1, test),
-        Shape::Expressions => {
-            let middle = expression_in(s, at + 1, depth - 1, test);
-            if middle == REFUSED {
-                return REFUSED;
-            }
-            expression_in(s, middle, depth - 1, test)
+    if sort(row) == BYTES {
+        if operator(row) == 0 {
+            return constant_at(s, at, test);
         }
-        _ => REFUSED,
+        return fluent_at(s, at, test);
     }
+    if sort(row) == CONSTRAINT {
+        return constraint_in(s, at + 1, depth - 1, test, table);
+    }
+    let middle = expression_in(s, at + 1, depth - 1, test, table);
+    if count(row) == 1 {
+        return middle;
+    }
+    if middle == REFUSED {
+        return REFUSED;
+    }
+    expression_in(s, middle, depth - 1, test, table)
 }
 
-pub(crate) fn constraint_in(s: &[u8], at: usize, depth: usize, test: Test) -> usize
+pub(crate) fn constraint_in(s: &[u8], at: usize, depth: usize, test: Test, table: &[u8; ROWS]) -> usize
+    requires { ⌜ now table ≡ rows ⌝ }
     ensures { λ r. ⌜ nextOf r ≡ endOf (passesC test) at (parseC depth (drop at (now (s .entry)))) ⌝ }
 {
     if depth == 0 {
@@ -147,29 +160,30 @@ pub(crate) fn constraint_in(s: &[u8], at: usize, depth: usize, test: Test) -> us
     if s.len() <= at {
         return REFUSED;
     }
-    let Node::Constraint(shape) = opens(s[at]) else {
+    let Node::Constraint(row) = opens(table, s[at]) else {
         return REFUSED;
     };
-    match shape {
-        Shape::Nothing => at + 1,
-        Shape::EntryLag => entry_at(s, at, test),
-        Shape::Constraint => constraint_in(s, at + 1, depth - 1, test),
-        Shape::Constraints => {
-            let middle = constraint_in(s, at + 1, depth - 1, test);
-            if middle == REFUSED {
-                return REFUSED;
-            }
-            constraint_in(s, middle, depth - 1, test)
+    if sort(row) == EXPRESSION {
+        let middle = expression_in(s, at + 1, depth - 1, test, table);
+        if middle == REFUSED {
+            return REFUSED;
         }
-        Shape::Expressions => {
-            let middle = expression_in(s, at + 1, depth - 1, test);
-            if middle == REFUSED {
-                return REFUSED;
-            }
-            expression_in(s, middle, depth - 1, test)
-        }
-        _ => REFUSED,
+        return expression_in(s, middle, depth - 1, test, table);
     }
+    if sort(row) == BYTES {
+        return entry_at(s, at, test);
+    }
+    if count(row) == 0 {
+        return at + 1;
+    }
+    let middle = constraint_in(s, at + 1, depth - 1, test, table);
+    if count(row) == 1 {
+        return middle;
+    }
+    if middle == REFUSED {
+        return REFUSED;
+    }
+    constraint_in(s, middle, depth - 1, test, table)
 }
 
 fn next_of(end: usize) -> Checked
@@ -185,12 +199,14 @@ fn next_of(end: usize) -> Checked
 pub fn check_expression(s: &[u8], at: usize, context: Context) -> Checked
     ensures { λ r. ⌜ checkedOf r ≡ endOf (allowedE context) at (parseE mostDepth (drop at (now (s .entry)))) ⌝ }
 {
-    next_of(expression_in(s, at, bmap::DEPTH, Test::Allowed(context)))
+    let rows = table();
+    next_of(expression_in(s, at, bmap::DEPTH, Test::Allowed(context), &rows))
 }
 
 // A constraint that a law may hold in this context.
 pub fn check_constraint(s: &[u8], at: usize, context: Context) -> Checked
     ensures { λ r. ⌜ checkedOf r ≡ endOf (allowedC context) at (parseC mostDepth (drop at (now (s .entry)))) ⌝ }
 {
-    next_of(constraint_in(s, at, bmap::DEPTH, Test::Allowed(context)))
+    let rows = table();
+    next_of(constraint_in(s, at, bmap::DEPTH, Test::Allowed(context), &rows))
 }

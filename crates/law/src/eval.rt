@@ -8,9 +8,9 @@ ghost use lib.ListN.{length, drop, getD};
 ghost use Rattle.bmap.specs.Plain.{both};
 ghost use Rattle.bmap.specs.Limits.{mostDepth};
 ghost use Rattle.bmap.specs.Number.{value, with1, with2, operate, change, compare, join, flag, signedWord};
-ghost use Rattle.bmap.specs.Code.{codeOf, twoBytes};
-ghost use Rattle.law.specs.Shape.{operationOf, singleOf, comparisonOf, junctionOf};
-ghost use Rattle.law.specs.Evaluate.{heldSize, rowSize, historySize, Lent, gives, evaluated, judged, meant, onward, cellAt, marked, inStep, valueAt, truthAt};
+ghost use Rattle.bmap.specs.Code.{twoBytes};
+ghost use Rattle.law.specs.Table.{rows};
+ghost use Rattle.law.specs.Evaluate.{heldSize, rowSize, historySize, Lent, gives, evaluated, judged, meant, onward, cellAt, marked, inStep, leafOf, valueAt, truthAt};
 ghost use Rattle.law.specs.Packed.{valueIn, truthIn, evaluatedIn, judgedIn};
 use crate::packed::MALFORMED;
 use crate::packed::end_of;
@@ -18,9 +18,20 @@ use crate::packed::truth_of;
 use crate::packed::value_of;
 use crate::packed::with_truth;
 use crate::packed::with_value;
+use crate::table::BYTES;
+use crate::table::CONSTRAINT;
+use crate::table::EXPRESSION;
 use crate::table::Node;
-use crate::table::Shape;
+use crate::table::ROWS;
+use crate::table::comparison;
+use crate::table::count;
+use crate::table::junction;
 use crate::table::opens;
+use crate::table::operation;
+use crate::table::operator;
+use crate::table::single;
+use crate::table::sort;
+use crate::table::table;
 use bmap::Comparison;
 use bmap::Counts;
 use bmap::FRAME;
@@ -49,50 +60,6 @@ pub enum Evaluated {
 pub enum Judged {
     Malformed,
     Gives(Truth, usize),
-}
-
-// The operator of a code.
-fn operation_of(code: u8) -> Operation
-    ensures { λ r. ⌜ r ≡ operationOf (codeOf code) ⌝ }
-{
-    match code {
-        0x13 => Operation::Difference,
-        0x14 => Operation::Product,
-        0x15 => Operation::Quotient,
-        0x16 => Operation::Remainder,
-        _ => Operation::Sum,
-    }
-}
-
-fn single_of(code: u8) -> Single
-    ensures { λ r. ⌜ r ≡ singleOf (codeOf code) ⌝ }
-{
-    match code {
-        0x18 => Single::Absolute,
-        _ => Single::Negation,
-    }
-}
-
-fn comparison_of(code: u8) -> Comparison
-    ensures { λ r. ⌜ r ≡ comparisonOf (codeOf code) ⌝ }
-{
-    match code {
-        0x21 => Comparison::Unequal,
-        0x22 => Comparison::Less,
-        0x23 => Comparison::AtMost,
-        0x24 => Comparison::Greater,
-        0x25 => Comparison::AtLeast,
-        _ => Comparison::Equal,
-    }
-}
-
-fn junction_of(code: u8) -> Junction
-    ensures { λ r. ⌜ r ≡ junctionOf (codeOf code) ⌝ }
-{
-    match code {
-        0x27 => Junction::Or,
-        _ => Junction::And,
-    }
 }
 
 // The state that a lag reads at position j.
@@ -150,23 +117,16 @@ fn number_at(z: i16, end: usize) -> u64
     with_value(Value::Number(z as i32), end)
 }
 
-// The leaves, whose code stands at a place.
-fn constant_in(s: &[u8; HELD], at: usize) -> u64
-    requires { ⌜ length (now s) ≡ heldSize ⌝ }
-    ensures { λ r. ⌜ evaluatedIn r ≡ meant (λ v. v) at (twoBytes (λ hi lo. value (signedWord hi lo)) (drop (at + 1) (now (s .entry)))) ⌝ }
+// The leaves, whose code stands at a place: a constant, or a fluent and its lag.
+fn leaf_in(s: &[u8; HELD], at: usize, history: &[i16; HISTORY], j: usize, row: u8) -> u64
+    requires { ⌜ (length (now s) ≡ heldSize) × (length (now history) ≡ historySize) ⌝ }
+    ensures { λ r. ⌜ evaluatedIn r ≡ meant (λ v. v) at (twoBytes (leafOf row (now (history .entry)) j) (drop (at + 1) (now (s .entry)))) ⌝ }
 {
     if HELD - 2 <= at {
         return MALFORMED;
     }
-    number_at(number::signed_word(s[at + 1], s[at + 2]), at + 3)
-}
-
-fn fluent_in(s: &[u8; HELD], at: usize, history: &[i16; HISTORY], j: usize) -> u64
-    requires { ⌜ (length (now s) ≡ heldSize) × (length (now history) ≡ historySize) ⌝ }
-    ensures { λ r. ⌜ evaluatedIn r ≡ meant (λ v. v) at (twoBytes (λ f t. value (cellAt (now (history .entry)) (j - t) f)) (drop (at + 1) (now (s .entry)))) ⌝ }
-{
-    if HELD - 2 <= at {
-        return MALFORMED;
+    if operator(row) == 0 {
+        return number_at(number::signed_word(s[at + 1], s[at + 2]), at + 3);
     }
     number_at(level(history, j, s[at + 1], s[at + 2]), at + 3)
 }
@@ -193,14 +153,14 @@ fn reified_of(t: u64) -> u64
 }
 
 // An operator on one operand.
-fn changed_of(code: u8, a: u64) -> u64
-    ensures { λ r. ⌜ evaluatedIn r ≡ onward (with1 (change (singleOf (codeOf code)))) (evaluatedIn a) ⌝ }
+fn changed_of(op: Single, a: u64) -> u64
+    ensures { λ r. ⌜ evaluatedIn r ≡ onward (with1 (change op)) (evaluatedIn a) ⌝ }
 {
     let end = end_of(a);
     if end == 0 {
         return MALFORMED;
     }
-    with_value(number::change(single_of(code), value_of(a)), end)
+    with_value(number::change(op, value_of(a)), end)
 }
 
 fn negated_of(a: u64) -> u64
@@ -214,55 +174,55 @@ fn negated_of(a: u64) -> u64
 }
 
 // An operator on a first operand and on what stands after it. "and" and "or" read both sides.
-fn operated_of(code: u8, a: u64, b: u64) -> u64
-    ensures { λ r. ⌜ evaluatedIn r ≡ onward (with2 (operate (operationOf (codeOf code))) (valueIn a)) (evaluatedIn b) ⌝ }
+fn operated_of(op: Operation, a: u64, b: u64) -> u64
+    ensures { λ r. ⌜ evaluatedIn r ≡ onward (with2 (operate op) (valueIn a)) (evaluatedIn b) ⌝ }
 {
     let end = end_of(b);
     if end == 0 {
         return MALFORMED;
     }
     with_value(
-        number::operate(operation_of(code), value_of(a), value_of(b)),
+        number::operate(op, value_of(a), value_of(b)),
         end,
     )
 }
 
-fn compared_of(code: u8, a: u64, b: u64) -> u64
-    ensures { λ r. ⌜ judgedIn r ≡ onward (with2 (λ x y. value (compare (comparisonOf (codeOf code)) x y)) (valueIn a)) (evaluatedIn b) ⌝ }
+fn compared_of(op: Comparison, a: u64, b: u64) -> u64
+    ensures { λ r. ⌜ judgedIn r ≡ onward (with2 (λ x y. value (compare op x y)) (valueIn a)) (evaluatedIn b) ⌝ }
 {
     let end = end_of(b);
     if end == 0 {
         return MALFORMED;
     }
     with_truth(
-        number::compare(comparison_of(code), value_of(a), value_of(b)),
+        number::compare(op, value_of(a), value_of(b)),
         end,
     )
 }
 
-fn joined_of(code: u8, a: u64, b: u64) -> u64
-    ensures { λ r. ⌜ judgedIn r ≡ onward (with2 (λ x y. value (join (junctionOf (codeOf code)) x y)) (truthIn a)) (judgedIn b) ⌝ }
+fn joined_of(op: Junction, a: u64, b: u64) -> u64
+    ensures { λ r. ⌜ judgedIn r ≡ onward (with2 (λ x y. value (join op x y)) (truthIn a)) (judgedIn b) ⌝ }
 {
     let end = end_of(b);
     if end == 0 {
         return MALFORMED;
     }
     with_truth(
-        number::join(junction_of(code), truth_of(a), truth_of(b)),
+        number::join(op, truth_of(a), truth_of(b)),
         end,
     )
 }
 
-// An expression with so much depth left. The leaves are most of a tree: they are read without a look at the table, and
-// what is no leaf by a function of its own, so that this one is small enough to be put in place of its calls.
+// An expression with so much depth left.
 fn value_in(
     s: &[u8; HELD],
     at: usize,
     depth: usize,
     history: &[i16; HISTORY],
     j: usize,
+    table: &[u8; ROWS],
 ) -> u64
-    requires { ⌜ Lent (now s) (now history) ⌝ }
+    requires { ⌜ Lent (now s) (now history) × (now table ≡ rows) ⌝ }
     ensures { λ r. ⌜ evaluatedIn r ≡ valueAt depth (now (s .entry)) at (now (history .entry)) j ⌝ }
 {
     if depth == 0 {
@@ -271,44 +231,28 @@ fn value_in(
     if HELD <= at {
         return MALFORMED;
     }
-    let code = s[at];
-    if code == 0x10 {
-        return constant_in(s, at);
-    }
-    if code == 0x11 {
-        return fluent_in(s, at, history, j);
-    }
-    inner_value(s, at, depth, history, j)
-}
-
-// An expression that is no leaf. It reads its code again: a seventh parameter would go through memory.
-fn inner_value(
-    s: &[u8; HELD],
-    at: usize,
-    depth: usize,
-    history: &[i16; HISTORY],
-    j: usize,
-) -> u64
-    requires { ⌜ Lent (now s) (now history) × ((1 ≤ depth) × ((at < heldSize) × ((getD (now s) at 0 ≡ 0x10 → ⊥) × (getD (now s) at 0 ≡ 0x11 → ⊥)))) ⌝ }
-    ensures { λ r. ⌜ evaluatedIn r ≡ valueAt depth (now (s .entry)) at (now (history .entry)) j ⌝ }
-{
-    let code = s[at];
-    let Node::Expression(shape) = opens(code) else {
+    let Node::Expression(row) = opens(table, s[at]) else {
         return MALFORMED;
     };
-    match shape {
-        Shape::Constraint => reified_of(truth_in(s, at + 1, depth - 1, history, j)),
-        Shape::Expression => changed_of(code, value_in(s, at + 1, depth - 1, history, j)),
-        Shape::Expressions => {
-            let a = value_in(s, at + 1, depth - 1, history, j);
-            let next = end_of(a);
-            if next == 0 {
-                return MALFORMED;
-            }
-            operated_of(code, a, value_in(s, next, depth - 1, history, j))
-        }
-        _ => MALFORMED,
+    if sort(row) == BYTES {
+        return leaf_in(s, at, history, j, row);
     }
+    if sort(row) == CONSTRAINT {
+        return reified_of(truth_in(s, at + 1, depth - 1, history, j, table));
+    }
+    let a = value_in(s, at + 1, depth - 1, history, j, table);
+    if count(row) == 1 {
+        return changed_of(single(operator(row)), a);
+    }
+    let next = end_of(a);
+    if next == 0 {
+        return MALFORMED;
+    }
+    operated_of(
+        operation(operator(row)),
+        a,
+        value_in(s, next, depth - 1, history, j, table),
+    )
 }
 
 // A constraint with so much depth left.
@@ -318,8 +262,9 @@ fn truth_in(
     depth: usize,
     history: &[i16; HISTORY],
     j: usize,
+    table: &[u8; ROWS],
 ) -> u64
-    requires { ⌜ Lent (now s) (now history) ⌝ }
+    requires { ⌜ Lent (now s) (now history) × (now table ≡ rows) ⌝ }
     ensures { λ r. ⌜ judgedIn r ≡ truthAt depth (now (s .entry)) at (now (history .entry)) j ⌝ }
 {
     if depth == 0 {
@@ -328,32 +273,40 @@ fn truth_in(
     if HELD <= at {
         return MALFORMED;
     }
-    let code = s[at];
-    let Node::Constraint(shape) = opens(code) else {
+    let Node::Constraint(row) = opens(table, s[at]) else {
         return MALFORMED;
     };
-    match shape {
-        Shape::Nothing => with_truth(Truth::Is(true), at + 1),
-        Shape::EntryLag => occurrence_in(s, at, history, j),
-        Shape::Constraint => negated_of(truth_in(s, at + 1, depth - 1, history, j)),
-        Shape::Constraints => {
-            let a = truth_in(s, at + 1, depth - 1, history, j);
-            let next = end_of(a);
-            if next == 0 {
-                return MALFORMED;
-            }
-            joined_of(code, a, truth_in(s, next, depth - 1, history, j))
+    if sort(row) == EXPRESSION {
+        let a = value_in(s, at + 1, depth - 1, history, j, table);
+        let next = end_of(a);
+        if next == 0 {
+            return MALFORMED;
         }
-        Shape::Expressions => {
-            let a = value_in(s, at + 1, depth - 1, history, j);
-            let next = end_of(a);
-            if next == 0 {
-                return MALFORMED;
-            }
-            compared_of(code, a, value_in(s, next, depth - 1, history, j))
-        }
-        _ => MALFORMED,
+        return compared_of(
+            comparison(operator(row)),
+            a,
+            value_in(s, next, depth - 1, history, j, table),
+        );
     }
+    if sort(row) == BYTES {
+        return occurrence_in(s, at, history, j);
+    }
+    if count(row) == 0 {
+        return with_truth(Truth::Is(true), at + 1);
+    }
+    let a = truth_in(s, at + 1, depth - 1, history, j, table);
+    if count(row) == 1 {
+        return negated_of(a);
+    }
+    let next = end_of(a);
+    if next == 0 {
+        return MALFORMED;
+    }
+    joined_of(
+        junction(operator(row)),
+        a,
+        truth_in(s, next, depth - 1, history, j, table),
+    )
 }
 
 // The lengths that the types say are told to a proof where an array is lent as a slice. Nothing is done.
@@ -369,7 +322,8 @@ pub fn expression_at(
     ensures { λ r. ⌜ evaluated r ≡ valueAt mostDepth (now (s .entry)) at (now (history .entry)) j ⌝ }
 {
     lent(s, history);
-    let word = value_in(s, at, bmap::DEPTH, history, j);
+    let rows = table();
+    let word = value_in(s, at, bmap::DEPTH, history, j, &rows);
     let end = end_of(word);
     if end == 0 {
         return Evaluated::Malformed;
@@ -387,7 +341,8 @@ pub fn constraint_at(
     ensures { λ r. ⌜ judged r ≡ truthAt mostDepth (now (s .entry)) at (now (history .entry)) j ⌝ }
 {
     lent(s, history);
-    let word = truth_in(s, at, bmap::DEPTH, history, j);
+    let rows = table();
+    let word = truth_in(s, at, bmap::DEPTH, history, j, &rows);
     let end = end_of(word);
     if end == 0 {
         return Judged::Malformed;

@@ -1,85 +1,164 @@
-// "The number of operands of each code is kept as one table, code by code": the checker, the evaluator and the
-// search for fluents read it. Of the counts in it the evaluator knows two itself, those of an expression's leaves: they
-// are most of a tree, and it looks at their codes first.
+// "The number of operands of each code is kept as one table, code by code": what the operands of a code are, how many there
+// are, and which operator is made of them. The checker, the evaluator and the search for fluents take all three from a row,
+// those of the leaves 10 and 11 too, and look at no code a second time.
 ghost use mathlib.Core.Path.{_≡_};
 ghost use Prim.Native.Nat.{_+_, _≤_, _<_};
 ghost use lib.ListN.{drop};
 ghost use Rattle.bmap.specs.Code.{codeOf};
-ghost use Rattle.law.specs.Shape.{shapeOf, opened, pairOf};
+ghost use Rattle.law.specs.Table.{opened, pairOf, rowOf, rows, sortIn, countIn, operatorIn, operationAt, singleAt, comparisonAt, junctionAt};
+use bmap::Comparison;
+use bmap::Junction;
+use bmap::Operation;
+use bmap::Single;
 
-// What follows a code, count and sort in one word: nothing, two bytes, or one or two trees.
-pub enum Shape {
-    Nothing,
-    Value,
-    FluentLag,
-    EntryLag,
-    Expression,
-    Expressions,
-    Constraint,
-    Constraints,
-}
-
-// What a code byte opens, with what follows it.
+// What a code byte opens, with its row.
 pub enum Node {
-    Expression(Shape),
-    Constraint(Shape),
+    Expression(u8),
+    Constraint(u8),
     Refused,
 }
 
-// Code by code, from the first. A use copies the table: whole sixteens, to 2F, are copied faster than 27 rows.
-const FIRST: u8 = 0x10;
+// What the operands are: bytes, expressions or constraints.
+pub(crate) const BYTES: u8 = 1;
 
-const SHAPES: [Shape; 32] = [
-    Shape::Value, // 10 constant
-    Shape::FluentLag, // 11 fluent, lag
-    Shape::Expressions, // 12 sum
-    Shape::Expressions, // 13 difference
-    Shape::Expressions, // 14 product
-    Shape::Expressions, // 15 quotient
-    Shape::Expressions, // 16 remainder
-    Shape::Expression, // 17 negation
-    Shape::Expression, // 18 absolute value
-    Shape::Constraint, // 19 reified constraint
-    Shape::Nothing, // 1A no code
-    Shape::Nothing, // 1B no code
-    Shape::Nothing, // 1C no code
-    Shape::Nothing, // 1D no code
-    Shape::Nothing, // 1E no code
-    Shape::Nothing, // 1F no code
-    Shape::Expressions, // 20 =
-    Shape::Expressions, // 21 ≠
-    Shape::Expressions, // 22 <
-    Shape::Expressions, // 23 ≤
-    Shape::Expressions, // 24 >
-    Shape::Expressions, // 25 ≥
-    Shape::Constraints, // 26 and
-    Shape::Constraints, // 27 or
-    Shape::Constraint, // 28 not
-    Shape::EntryLag, // 29 entry, lag
-    Shape::Nothing, // 2A true
-    Shape::Nothing, // 2B no code
-    Shape::Nothing, // 2C no code
-    Shape::Nothing, // 2D no code
-    Shape::Nothing, // 2E no code
-    Shape::Nothing, // 2F no code
+pub(crate) const EXPRESSION: u8 = 2;
+
+pub(crate) const CONSTRAINT: u8 = 3;
+
+// How many; and a step from an operator's number to the next.
+const ONE: u8 = 4;
+
+const TWO: u8 = 8;
+
+const NEXT: u8 = 16;
+
+pub(crate) const FIRST: u8 = 0x10;
+
+pub(crate) const ROWS: usize = 32;
+
+// Code by code, from the first. A use copies the table, so who reads many rows keeps a copy and lends it; numbers, since an
+// array of an enum or a struct cannot be lent.
+pub(crate) const TABLE: [u8; ROWS] = [
+    BYTES + TWO, // 10 constant
+    BYTES + TWO + NEXT, // 11 fluent, lag
+    EXPRESSION + TWO, // 12 sum
+    EXPRESSION + TWO + NEXT, // 13 difference
+    EXPRESSION + TWO + 2 * NEXT, // 14 product
+    EXPRESSION + TWO + 3 * NEXT, // 15 quotient
+    EXPRESSION + TWO + 4 * NEXT, // 16 remainder
+    EXPRESSION + ONE, // 17 negation
+    EXPRESSION + ONE + NEXT, // 18 absolute value
+    CONSTRAINT + ONE, // 19 reified constraint
+    0, // 1A no code
+    0, // 1B no code
+    0, // 1C no code
+    0, // 1D no code
+    0, // 1E no code
+    0, // 1F no code
+    EXPRESSION + TWO, // 20 =
+    EXPRESSION + TWO + NEXT, // 21 ≠
+    EXPRESSION + TWO + 2 * NEXT, // 22 <
+    EXPRESSION + TWO + 3 * NEXT, // 23 ≤
+    EXPRESSION + TWO + 4 * NEXT, // 24 >
+    EXPRESSION + TWO + 5 * NEXT, // 25 ≥
+    CONSTRAINT + TWO, // 26 and
+    CONSTRAINT + TWO + NEXT, // 27 or
+    CONSTRAINT + ONE, // 28 not
+    BYTES + TWO, // 29 entry, lag
+    0, // 2A true
+    0, // 2B no code
+    0, // 2C no code
+    0, // 2D no code
+    0, // 2E no code
+    0, // 2F no code
 ];
 
-// What follows a code of the table.
-fn shape_of(code: u8) -> Shape
-    requires { ⌜ (0x10 ≤ code) × (code < 0x2B) ⌝ }
-    ensures { λ r. ⌜ r ≡ shapeOf (codeOf code) ⌝ }
+// A copy of the table, to be lent.
+pub(crate) fn table() -> [u8; ROWS]
+    ensures { λ r. ⌜ r ≡ rows ⌝ }
 {
-    SHAPES[(code - FIRST) as usize]
+    TABLE
+}
+
+// The row of a code of the table.
+fn row_of(table: &[u8; ROWS], code: u8) -> u8
+    requires { ⌜ (now table ≡ rows) × ((0x10 ≤ code) × (code < 0x30)) ⌝ }
+    ensures { λ r. ⌜ r ≡ rowOf (codeOf code) ⌝ }
+{
+    table[(code - FIRST) as usize]
 }
 
 // "Every other code from 00 to FF is refused."
-pub(crate) fn opens(code: u8) -> Node
+pub(crate) fn opens(table: &[u8; ROWS], code: u8) -> Node
+    requires { ⌜ now table ≡ rows ⌝ }
     ensures { λ r. ⌜ r ≡ opened (codeOf code) ⌝ }
 {
     match code {
-        0x10..=0x19 => Node::Expression(shape_of(code)),
-        0x20..=0x2A => Node::Constraint(shape_of(code)),
+        0x10..=0x19 => Node::Expression(row_of(table, code)),
+        0x20..=0x2A => Node::Constraint(row_of(table, code)),
         _ => Node::Refused,
+    }
+}
+
+pub(crate) fn sort(row: u8) -> u8
+    ensures { λ r. ⌜ r ≡ sortIn row ⌝ }
+{
+    row % 4
+}
+
+pub(crate) fn count(row: u8) -> u8
+    ensures { λ r. ⌜ r ≡ countIn row ⌝ }
+{
+    row / 4 % 4
+}
+
+pub(crate) fn operator(row: u8) -> u8
+    ensures { λ r. ⌜ r ≡ operatorIn row ⌝ }
+{
+    row / 16
+}
+
+// The operators by the number that a row has.
+pub(crate) fn operation(n: u8) -> Operation
+    ensures { λ r. ⌜ r ≡ operationAt n ⌝ }
+{
+    match n {
+        0 => Operation::Sum,
+        1 => Operation::Difference,
+        2 => Operation::Product,
+        3 => Operation::Quotient,
+        _ => Operation::Remainder,
+    }
+}
+
+pub(crate) fn single(n: u8) -> Single
+    ensures { λ r. ⌜ r ≡ singleAt n ⌝ }
+{
+    match n {
+        0 => Single::Negation,
+        _ => Single::Absolute,
+    }
+}
+
+pub(crate) fn comparison(n: u8) -> Comparison
+    ensures { λ r. ⌜ r ≡ comparisonAt n ⌝ }
+{
+    match n {
+        0 => Comparison::Equal,
+        1 => Comparison::Unequal,
+        2 => Comparison::Less,
+        3 => Comparison::AtMost,
+        4 => Comparison::Greater,
+        _ => Comparison::AtLeast,
+    }
+}
+
+pub(crate) fn junction(n: u8) -> Junction
+    ensures { λ r. ⌜ r ≡ junctionAt n ⌝ }
+{
+    match n {
+        0 => Junction::And,
+        _ => Junction::Or,
     }
 }
 

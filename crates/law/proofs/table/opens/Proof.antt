@@ -8,12 +8,12 @@ use Rattle.law.proofs.table.opens.Tie as tie
 
 returns : tie.Need-returns
 returns c =
-    ap Expression (c .shape-of .ensures)
+    ap Expression (c .row-of .ensures)
     ∙ expression-codes (c .before .before .before .args .code) (omega arith) (omega arith)
 
 returns-2 : tie.Need-returns-2
 returns-2 c =
-    ap Constraint (c .shape-of2 .ensures)
+    ap Constraint (c .row-of2 .ensures)
     ∙ constraint-codes (c .before .before .before .before .before .args .code) (omega arith) (omega arith)
 
 returns-3 : tie.Need-returns-3

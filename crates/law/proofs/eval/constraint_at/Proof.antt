@@ -26,6 +26,7 @@ constraint-at-spec =
     (λ c κs. search needs)
     (λ c κs. search needs)
     (λ c κs. search needs)
+    (λ c κs. search needs)
     returns
     (λ c κs. search needs)
     returns-2)

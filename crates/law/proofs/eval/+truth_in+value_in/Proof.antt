@@ -1,0 +1,323 @@
+-- The one proof of the cycle {truth_in, value_in}: each calls both with one level less. Assumes nothing.
+use mathlib.Core.Path.{_≡_, sym, ap, _∙_}
+use Prim.Native.Nat.{ℕ, _<_, _≤_}
+use native.Mathlib.Omega.{arith}
+use borrow.Author.Needs.{needs}
+use borrow.Fn.Kinds.{In}
+use borrow.Fn.PlainCycle.{Measures, is, falls, and}
+use lib.ListN.{length, getD}
+use Rattle.bmap.specs.Meaning.{evalE, evalC}
+use Rattle.bmap.specs.Code.{codeOf}
+use Rattle.law.specs.declared.table.Node.the-variants.{Expression, Constraint}
+use Rattle.law.specs.Evaluate.{onward, historyOf}
+use Rattle.law.specs.Packed.{valueIn, truthIn}
+use Rattle.law.specs.Table.{opened, sortIn, countIn}
+use Rattle.law.proofs.Trees.{deep-e, deep-c, end-e, end-c, no-expression, no-constraint}
+use Rattle.law.proofs.PackedLaws.{ends-nowhere, ends-there}
+use Rattle.law.proofs.Evals.{nothing-there, eval-leaf, eval-reified, eval-one, eval-two, eval-first}
+use Rattle.law.proofs.Evals.{eval-compared, eval-first-e, eval-occurrence, eval-truth, eval-negation, eval-junction, eval-first-c}
+use Rattle.law.proofs.eval.truth_in.Reads as truth-in
+use Rattle.law.proofs.eval.truth_in.Kinds as truth-in-kinds
+use Rattle.law.proofs.eval.+truth_in+value_in.Lts-truth_in as truth-in-lts
+use Rattle.law.proofs.eval.value_in.Reads as value-in
+use Rattle.law.proofs.eval.value_in.Kinds as value-in-kinds
+use Rattle.law.proofs.eval.+truth_in+value_in.Lts-value_in as value-in-lts
+use Rattle.law.proofs.eval.changed_of.Reads as changed-of-reads
+use Rattle.law.proofs.eval.compared_of.Reads as compared-of-reads
+use Rattle.law.proofs.eval.joined_of.Reads as joined-of-reads
+use Rattle.law.proofs.eval.leaf_in.Reads as leaf-in-reads
+use Rattle.law.proofs.eval.negated_of.Reads as negated-of-reads
+use Rattle.law.proofs.eval.occurrence_in.Reads as occurrence-in-reads
+use Rattle.law.proofs.eval.operated_of.Reads as operated-of-reads
+use Rattle.law.proofs.eval.reified_of.Reads as reified-of-reads
+use Rattle.law.proofs.packed.end_of.Reads as end-of-reads
+use Rattle.law.proofs.packed.with_truth.Reads as with-truth-reads
+use Rattle.law.proofs.table.comparison.Reads as comparison-reads
+use Rattle.law.proofs.table.count.Reads as count-reads
+use Rattle.law.proofs.table.junction.Reads as junction-reads
+use Rattle.law.proofs.table.opens.Reads as opens-reads
+use Rattle.law.proofs.table.operation.Reads as operation-reads
+use Rattle.law.proofs.table.operator.Reads as operator-reads
+use Rattle.law.proofs.table.single.Reads as single-reads
+use Rattle.law.proofs.table.sort.Reads as sort-reads
+use Rattle.law.proofs.eval.+truth_in+value_in.{statement}
+use Rattle.law.proofs.eval.+truth_in+value_in.Tie.{close}
+
+abbrev μ-truth-in : Measures 3 truth-in-kinds.ps ℕ
+μ-truth-in κs a = a .1 .1 .0
+
+abbrev μ-value-in : Measures 3 value-in-kinds.ps ℕ
+μ-value-in κs a = a .1 .1 .0
+
+module _ (t : ℕ) where
+  -- what a call is given at the measure t, and what it asks below t
+  abbrev truth-in-at : In 3 truth-in-kinds.ps
+  truth-in-at = and 3 truth-in-kinds.ps (is 3 truth-in-kinds.ps μ-truth-in t) truth-in.Pre
+
+  abbrev truth-in-below : In 3 truth-in-kinds.ps
+  truth-in-below = and 3 truth-in-kinds.ps (falls 3 truth-in-kinds.ps _<_ μ-truth-in t) truth-in.Pre
+
+  abbrev value-in-at : In 3 value-in-kinds.ps
+  value-in-at = and 3 value-in-kinds.ps (is 3 value-in-kinds.ps μ-value-in t) value-in.Pre
+
+  abbrev value-in-below : In 3 value-in-kinds.ps
+  value-in-below = and 3 value-in-kinds.ps (falls 3 value-in-kinds.ps _<_ μ-value-in t) value-in.Pre
+
+  abbrev by-truth-in : truth-in-lts.Claims
+  by-truth-in = (opens-reads.Asked, opens-reads.Learnt, sort-reads.Asked, sort-reads.Learnt, value-in-below, value-in.Post, end-of-reads.Asked, end-of-reads.Learnt, operator-reads.Asked, operator-reads.Learnt, comparison-reads.Asked, comparison-reads.Learnt, compared-of-reads.Asked, compared-of-reads.Learnt, occurrence-in-reads.Asked, occurrence-in-reads.Learnt, count-reads.Asked, count-reads.Learnt, with-truth-reads.Asked, with-truth-reads.Learnt, truth-in-below, truth-in.Post, negated-of-reads.Asked, negated-of-reads.Learnt, junction-reads.Asked, junction-reads.Learnt, joined-of-reads.Asked, joined-of-reads.Learnt)
+
+  abbrev by-value-in : value-in-lts.Claims
+  by-value-in = (opens-reads.Asked, opens-reads.Learnt, sort-reads.Asked, sort-reads.Learnt, leaf-in-reads.Asked, leaf-in-reads.Learnt, truth-in-below, truth-in.Post, reified-of-reads.Asked, reified-of-reads.Learnt, value-in-below, value-in.Post, count-reads.Asked, count-reads.Learnt, operator-reads.Asked, operator-reads.Learnt, single-reads.Asked, single-reads.Learnt, changed-of-reads.Asked, changed-of-reads.Learnt, end-of-reads.Asked, end-of-reads.Learnt, operation-reads.Asked, operation-reads.Learnt, operated-of-reads.Asked, operated-of-reads.Learnt)
+
+  -- where the row of the code is known
+  abbrev Row-c : Type 0
+  Row-c = truth-in-lts.After-known-told by-truth-in truth-in-at truth-in.Post
+
+  abbrev start-c : Row-c → truth-in-lts.Start by-truth-in truth-in-at truth-in.Post
+  start-c k = k .before .before .before .before .before .before .before
+
+  -- where the row of the code is known
+  abbrev Row-e : Type 0
+  Row-e = value-in-lts.After-known-told by-value-in value-in-at value-in.Post
+
+  abbrev start-e : Row-e → value-in-lts.Start by-value-in value-in-at value-in.Post
+  start-e k = k .before .before .before .before .before .before .before
+
+
+  some-c : (k : Row-c) → start-c k .args .depth ≡ 0 → ⊥
+  some-c k = k .before .before .before .before .before .before .if1 .left
+
+  inside-c : (k : Row-c) → start-c k .args .at < length (start-c k .args .s .now)
+  inside-c k = omega (arith, start-c k .pre .1 .0 .held, k .before .before .before .before .before .if2 .left)
+
+  abbrev row-c : Row-c → ℕ
+  row-c k = k .before .row .given .0 .0
+
+  opens-c : (k : Row-c) → Constraint (row-c k) ≡ opened (codeOf (getD (start-c k .args .s .now) (start-c k .args .at) 0))
+  opens-c k = sym (k .before .row .given .1) ∙ k .before .before .before .opens .ensures
+
+  truth-in-returns : truth-in-lts.Need-returns by-truth-in truth-in-at truth-in.Post
+  truth-in-returns c =
+      let a = c .before .args in
+      nothing-there (λ t. evalC t (historyOf (a .history .now)) (a .j)) (a .at) (deep-c (a .s .now) (a .at) (a .depth) (c .if1 .taken))
+
+  truth-in-returns-2 : truth-in-lts.Need-returns-2 by-truth-in truth-in-at truth-in.Post
+  truth-in-returns-2 c =
+      let k = c .before .before in
+      let a = k .args in
+      let past : length (a .s .now) ≤ a .at = omega (arith, k .pre .1 .0 .held, c .if2 .taken) in
+      nothing-there (λ t. evalC t (historyOf (a .history .now)) (a .j)) (a .at) (end-c (a .s .now) (a .at) (a .depth) past)
+
+  truth-in-returns-3 : truth-in-lts.Need-returns-3 by-truth-in truth-in-at truth-in.Post
+  truth-in-returns-3 c =
+      let k = c .before .before .before .before .before in
+      let a = k .args in
+      let lt : a .at < length (a .s .now) = omega (arith, k .pre .1 .0 .held, c .before .before .before .if2 .left) in
+      nothing-there (λ t. evalC t (historyOf (a .history .now)) (a .j)) (a .at) (no-constraint (a .s .now) (a .at) (a .depth) (c .before .before .before .before .if1 .left) lt _ (c .before .opens .ensures) (c .match .keys2))
+
+
+  some-e : (k : Row-e) → start-e k .args .depth ≡ 0 → ⊥
+  some-e k = k .before .before .before .before .before .before .if1 .left
+
+  inside-e : (k : Row-e) → start-e k .args .at < length (start-e k .args .s .now)
+  inside-e k = omega (arith, start-e k .pre .1 .0 .held, k .before .before .before .before .before .if2 .left)
+
+  abbrev row-e : Row-e → ℕ
+  row-e k = k .before .row .given .0 .0
+
+  opens-e : (k : Row-e) → Expression (row-e k) ≡ opened (codeOf (getD (start-e k .args .s .now) (start-e k .args .at) 0))
+  opens-e k = sym (k .before .row .given .1) ∙ k .before .before .before .opens .ensures
+
+  value-in-returns : value-in-lts.Need-returns by-value-in value-in-at value-in.Post
+  value-in-returns c =
+      let a = c .before .args in
+      nothing-there (λ t. evalE t (historyOf (a .history .now)) (a .j)) (a .at) (deep-e (a .s .now) (a .at) (a .depth) (c .if1 .taken))
+
+  value-in-returns-2 : value-in-lts.Need-returns-2 by-value-in value-in-at value-in.Post
+  value-in-returns-2 c =
+      let k = c .before .before in
+      let a = k .args in
+      let past : length (a .s .now) ≤ a .at = omega (arith, k .pre .1 .0 .held, c .if2 .taken) in
+      nothing-there (λ t. evalE t (historyOf (a .history .now)) (a .j)) (a .at) (end-e (a .s .now) (a .at) (a .depth) past)
+
+  value-in-returns-3 : value-in-lts.Need-returns-3 by-value-in value-in-at value-in.Post
+  value-in-returns-3 c =
+      let k = c .before .before .before .before .before in
+      let a = k .args in
+      let lt : a .at < length (a .s .now) = omega (arith, k .pre .1 .0 .held, c .before .before .before .if2 .left) in
+      nothing-there (λ t. evalE t (historyOf (a .history .now)) (a .j)) (a .at) (no-expression (a .s .now) (a .at) (a .depth) (c .before .before .before .before .if1 .left) lt _ (c .before .opens .ensures) (c .match .keys2))
+
+
+  truth-in-returns-4 : truth-in-lts.Need-returns-4 by-truth-in truth-in-at truth-in.Post
+  truth-in-returns-4 c =
+      let k = c .before .before .before .before .before in
+      let a = start-c k .args in
+      let q : sortIn (row-c k) ≡ 2 = sym (c .before .before .before .before .sort .ensures) ∙ c .before .before .before .if3 .taken in
+      eval-first-e (a .s .now) (a .at) (a .depth) (a .history .now) (a .j) (some-c k) (inside-c k) (opens-c k) q (ends-nowhere (valueIn (c .before .before .value-in .result)) (c .before .end-of .ensures) (c .if4 .taken) ∙ c .before .before .value-in .ensures)
+
+  truth-in-returns-5 : truth-in-lts.Need-returns-5 by-truth-in truth-in-at truth-in.Post
+  truth-in-returns-5 c =
+      let k = c .before .before .before .before .before .before .before .before .before in
+      let a = start-c k .args in
+      let q : sortIn (row-c k) ≡ 2 = sym (c .before .before .before .before .before .before .before .before .sort .ensures) ∙ c .before .before .before .before .before .before .before .if3 .taken in
+      c .compared-of .ensures ∙ ap (onward _) (c .before .value-in2 .ensures) ∙ rw (c .before .before .comparison .ensures, c .before .before .before .operator .ensures) (eval-compared (a .s .now) (a .at) (a .depth) (a .history .now) (a .j) (some-c k) (inside-c k) (opens-c k) q (ends-there (valueIn (c .before .before .before .before .before .before .value-in .result)) (c .before .before .before .before .before .end-of .ensures) (c .before .before .before .before .if4 .left) ∙ c .before .before .before .before .before .before .value-in .ensures))
+
+  truth-in-returns-6 : truth-in-lts.Need-returns-6 by-truth-in truth-in-at truth-in.Post
+  truth-in-returns-6 c =
+      let k = c .before .before .before .before .before in
+      let a = start-c k .args in
+      let q : sortIn (row-c k) ≡ 1 = sym (c .before .before .sort2 .ensures) ∙ c .before .if5 .taken in
+      c .occurrence-in .ensures ∙ eval-occurrence (a .s .now) (a .at) (a .depth) (a .history .now) (a .j) (some-c k) (inside-c k) (opens-c k) q
+
+  truth-in-returns-7 : truth-in-lts.Need-returns-7 by-truth-in truth-in-at truth-in.Post
+  truth-in-returns-7 c =
+      let k = c .before .before .before .before .before .before .before in
+      let a = start-c k .args in
+      let n : countIn (row-c k) ≡ 0 = sym (c .before .before .count .ensures) ∙ c .before .if6 .taken in
+      c .with-truth .ensures ∙ eval-truth (a .s .now) (a .at) (a .depth) (a .history .now) (a .j) (some-c k) (inside-c k) (opens-c k) n
+
+  truth-in-returns-8 : truth-in-lts.Need-returns-8 by-truth-in truth-in-at truth-in.Post
+  truth-in-returns-8 c =
+      let k = c .before .before .before .before .before .before .before .before .before .before in
+      let a = start-c k .args in
+      let q : sortIn (row-c k) ≡ 2 → ⊥ = λ e. c .before .before .before .before .before .before .before .before .if3 .left (c .before .before .before .before .before .before .before .before .before .sort .ensures ∙ e) in
+      let r : sortIn (row-c k) ≡ 1 → ⊥ = λ e. c .before .before .before .before .before .before .if5 .left (c .before .before .before .before .before .before .before .sort2 .ensures ∙ e) in
+      let n : countIn (row-c k) ≡ 1 = sym (c .before .before .count2 .ensures) ∙ c .before .if7 .taken in
+      c .negated-of .ensures ∙ ap (onward _) (c .before .before .before .truth-in .ensures) ∙ eval-negation (a .s .now) (a .at) (a .depth) (a .history .now) (a .j) (some-c k) (inside-c k) (opens-c k) q r n
+
+  truth-in-returns-9 : truth-in-lts.Need-returns-9 by-truth-in truth-in-at truth-in.Post
+  truth-in-returns-9 c =
+      let k = c .before .before .before .before .before .before .before .before .before .before .before in
+      let a = start-c k .args in
+      let q : sortIn (row-c k) ≡ 2 → ⊥ = λ e. c .before .before .before .before .before .before .before .before .before .if3 .left (c .before .before .before .before .before .before .before .before .before .before .sort .ensures ∙ e) in
+      let r : sortIn (row-c k) ≡ 1 → ⊥ = λ e. c .before .before .before .before .before .before .before .if5 .left (c .before .before .before .before .before .before .before .before .sort2 .ensures ∙ e) in
+      let m : countIn (row-c k) ≡ 0 → ⊥ = λ e. c .before .before .before .before .before .if6 .left (c .before .before .before .before .before .before .count .ensures ∙ e) in
+      let n : countIn (row-c k) ≡ 1 → ⊥ = λ e. c .before .before .if7 .left (c .before .before .before .count2 .ensures ∙ e) in
+      eval-first-c (a .s .now) (a .at) (a .depth) (a .history .now) (a .j) (some-c k) (inside-c k) (opens-c k) q r m n (ends-nowhere (truthIn (c .before .before .before .before .truth-in .result)) (c .before .end-of2 .ensures) (c .if8 .taken) ∙ c .before .before .before .before .truth-in .ensures)
+
+  truth-in-returns-10 : truth-in-lts.Need-returns-10 by-truth-in truth-in-at truth-in.Post
+  truth-in-returns-10 c =
+      let k = c .before .before .before .before .before .before .before .before .before .before .before .before .before .before .before in
+      let a = start-c k .args in
+      let q : sortIn (row-c k) ≡ 2 → ⊥ = λ e. c .before .before .before .before .before .before .before .before .before .before .before .before .before .if3 .left (c .before .before .before .before .before .before .before .before .before .before .before .before .before .before .sort .ensures ∙ e) in
+      let r : sortIn (row-c k) ≡ 1 → ⊥ = λ e. c .before .before .before .before .before .before .before .before .before .before .before .if5 .left (c .before .before .before .before .before .before .before .before .before .before .before .before .sort2 .ensures ∙ e) in
+      let m : countIn (row-c k) ≡ 0 → ⊥ = λ e. c .before .before .before .before .before .before .before .before .before .if6 .left (c .before .before .before .before .before .before .before .before .before .before .count .ensures ∙ e) in
+      let n : countIn (row-c k) ≡ 1 → ⊥ = λ e. c .before .before .before .before .before .before .if7 .left (c .before .before .before .before .before .before .before .count2 .ensures ∙ e) in
+      c .joined-of .ensures ∙ ap (onward _) (c .before .truth-in2 .ensures) ∙ rw (c .before .before .junction .ensures, c .before .before .before .operator2 .ensures) (eval-junction (a .s .now) (a .at) (a .depth) (a .history .now) (a .j) (some-c k) (inside-c k) (opens-c k) q r m n (ends-there (truthIn (c .before .before .before .before .before .before .before .before .truth-in .result)) (c .before .before .before .before .before .end-of2 .ensures) (c .before .before .before .before .if8 .left) ∙ c .before .before .before .before .before .before .before .before .truth-in .ensures))
+
+  value-in-returns-4 : value-in-lts.Need-returns-4 by-value-in value-in-at value-in.Post
+  value-in-returns-4 c =
+      let k = c .before .before .before in
+      let a = start-e k .args in
+      let q : sortIn (row-e k) ≡ 1 = sym (c .before .before .sort .ensures) ∙ c .before .if3 .taken in
+      c .leaf-in .ensures ∙ eval-leaf (a .s .now) (a .at) (a .depth) (a .history .now) (a .j) (some-e k) (inside-e k) (opens-e k) q
+
+  value-in-returns-5 : value-in-lts.Need-returns-5 by-value-in value-in-at value-in.Post
+  value-in-returns-5 c =
+      let k = c .before .before .before .before .before .before in
+      let a = start-e k .args in
+      let q : sortIn (row-e k) ≡ 3 = sym (c .before .before .before .sort2 .ensures) ∙ c .before .before .if4 .taken in
+      c .reified-of .ensures ∙ ap (onward _) (c .before .truth-in .ensures) ∙ eval-reified (a .s .now) (a .at) (a .depth) (a .history .now) (a .j) (some-e k) (inside-e k) (opens-e k) q
+
+  value-in-returns-6 : value-in-lts.Need-returns-6 by-value-in value-in-at value-in.Post
+  value-in-returns-6 c =
+      let k = c .before .before .before .before .before .before .before .before .before .before in
+      let a = start-e k .args in
+      let q : sortIn (row-e k) ≡ 1 → ⊥ = λ e. c .before .before .before .before .before .before .before .before .if3 .left (c .before .before .before .before .before .before .before .before .before .sort .ensures ∙ e) in
+      let r : sortIn (row-e k) ≡ 3 → ⊥ = λ e. c .before .before .before .before .before .before .if4 .left (c .before .before .before .before .before .before .before .sort2 .ensures ∙ e) in
+      let n : countIn (row-e k) ≡ 1 = sym (c .before .before .before .before .count .ensures) ∙ c .before .before .before .if5 .taken in
+      c .changed-of .ensures ∙ ap (onward _) (c .before .before .before .before .before .value-in .ensures) ∙ rw (c .before .single .ensures, c .before .before .operator .ensures) (eval-one (a .s .now) (a .at) (a .depth) (a .history .now) (a .j) (some-e k) (inside-e k) (opens-e k) q r n)
+
+  value-in-returns-7 : value-in-lts.Need-returns-7 by-value-in value-in-at value-in.Post
+  value-in-returns-7 c =
+      let k = c .before .before .before .before .before .before .before .before .before in
+      let a = start-e k .args in
+      let q : sortIn (row-e k) ≡ 1 → ⊥ = λ e. c .before .before .before .before .before .before .before .if3 .left (c .before .before .before .before .before .before .before .before .sort .ensures ∙ e) in
+      let r : sortIn (row-e k) ≡ 3 → ⊥ = λ e. c .before .before .before .before .before .if4 .left (c .before .before .before .before .before .before .sort2 .ensures ∙ e) in
+      let n : countIn (row-e k) ≡ 1 → ⊥ = λ e. c .before .before .if5 .left (c .before .before .before .count .ensures ∙ e) in
+      eval-first (a .s .now) (a .at) (a .depth) (a .history .now) (a .j) (some-e k) (inside-e k) (opens-e k) q r n (ends-nowhere (valueIn (c .before .before .before .before .value-in .result)) (c .before .end-of .ensures) (c .if6 .taken) ∙ c .before .before .before .before .value-in .ensures)
+
+  value-in-returns-8 : value-in-lts.Need-returns-8 by-value-in value-in-at value-in.Post
+  value-in-returns-8 c =
+      let k = c .before .before .before .before .before .before .before .before .before .before .before .before .before in
+      let a = start-e k .args in
+      let q : sortIn (row-e k) ≡ 1 → ⊥ = λ e. c .before .before .before .before .before .before .before .before .before .before .before .if3 .left (c .before .before .before .before .before .before .before .before .before .before .before .before .sort .ensures ∙ e) in
+      let r : sortIn (row-e k) ≡ 3 → ⊥ = λ e. c .before .before .before .before .before .before .before .before .before .if4 .left (c .before .before .before .before .before .before .before .before .before .before .sort2 .ensures ∙ e) in
+      let n : countIn (row-e k) ≡ 1 → ⊥ = λ e. c .before .before .before .before .before .before .if5 .left (c .before .before .before .before .before .before .before .count .ensures ∙ e) in
+      c .operated-of .ensures ∙ ap (onward _) (c .before .value-in2 .ensures) ∙ rw (c .before .before .operation .ensures, c .before .before .before .operator2 .ensures) (eval-two (a .s .now) (a .at) (a .depth) (a .history .now) (a .j) (some-e k) (inside-e k) (opens-e k) q r n (ends-there (valueIn (c .before .before .before .before .before .before .before .before .value-in .result)) (c .before .before .before .before .before .end-of .ensures) (c .before .before .before .before .if6 .left) ∙ c .before .before .before .before .before .before .before .before .value-in .ensures))
+
+pub +truth-in+value-in-spec : {M : Type 1} → statement M
++truth-in+value-in-spec =
+    close μ-truth-in μ-value-in
+    (λ t. truth-in-lts.spec (by-truth-in t) (truth-in-at t) truth-in.Post
+    (truth-in-returns t)
+    (truth-in-returns-2 t)
+    (λ c. search needs)
+    (λ c κs. c .before .before .before .pre .1 .1)
+    (λ c. search needs)
+    (truth-in-returns-3 t)
+    (λ c κs. search needs)
+    (λ c. search needs)
+    (λ c. search needs)
+    (λ c κs. (omega arith, c .before .before .before .before .before .before .before .before .before .pre .1))
+    (λ c κs. search needs)
+    (truth-in-returns-4 t)
+    (λ c κs. search needs)
+    (λ c κs. search needs)
+    (λ c. search needs)
+    (λ c κs. (omega arith, c .before .before .before .before .before .before .before .before .before .before .before .before .before .before .pre .1))
+    (λ c κs. search needs)
+    (truth-in-returns-5 t)
+    (λ c κs. search needs)
+    (λ c κs. search needs)
+    (truth-in-returns-6 t)
+    (λ c κs. search needs)
+    (λ c. search needs)
+    (λ c κs. search needs)
+    (truth-in-returns-7 t)
+    (λ c. search needs)
+    (λ c. search needs)
+    (λ c κs. (omega arith, c .before .before .before .before .before .before .before .before .before .before .before .before .before .pre .1))
+    (λ c κs. search needs)
+    (λ c κs. search needs)
+    (truth-in-returns-8 t)
+    (λ c κs. search needs)
+    (truth-in-returns-9 t)
+    (λ c κs. search needs)
+    (λ c κs. search needs)
+    (λ c. search needs)
+    (λ c κs. (omega arith, c .before .before .before .before .before .before .before .before .before .before .before .before .before .before .before .before .before .before .before .before .pre .1))
+    (λ c κs. search needs)
+    (truth-in-returns-10 t))
+    (λ t. value-in-lts.spec (by-value-in t) (value-in-at t) value-in.Post
+    (value-in-returns t)
+    (value-in-returns-2 t)
+    (λ c. search needs)
+    (λ c κs. c .before .before .before .pre .1 .1)
+    (λ c. search needs)
+    (value-in-returns-3 t)
+    (λ c κs. search needs)
+    (λ c κs. search needs)
+    (value-in-returns-4 t)
+    (λ c κs. search needs)
+    (λ c. search needs)
+    (λ c. search needs)
+    (λ c κs. (omega arith, c .before .before .before .before .before .before .before .before .before .before .before .pre .1))
+    (λ c κs. search needs)
+    (value-in-returns-5 t)
+    (λ c. search needs)
+    (λ c. search needs)
+    (λ c κs. (omega arith, c .before .before .before .before .before .before .before .before .before .before .before .pre .1))
+    (λ c κs. search needs)
+    (λ c κs. search needs)
+    (λ c κs. search needs)
+    (λ c κs. search needs)
+    (value-in-returns-6 t)
+    (λ c κs. search needs)
+    (value-in-returns-7 t)
+    (λ c κs. search needs)
+    (λ c κs. search needs)
+    (λ c. search needs)
+    (λ c κs. (omega arith, c .before .before .before .before .before .before .before .before .before .before .before .before .before .before .before .before .before .before .pre .1))
+    (λ c κs. search needs)
+    (value-in-returns-8 t))

@@ -23,13 +23,11 @@ use Rattle.bmap.specs.Tree.{Expr, Con, constant, fluent, two, one, reified, com
 use Rattle.bmap.proofs.PlainLaws.{both-end, all-append}
 use Rattle.bmap.specs.Code.{Code, Parsed, Parser, codeOf, made, second, operands, twoBytes, parseE, parseC}
 use Rattle.bmap.specs.Domain.{has}
-use Rattle.law.specs.declared.table.Shape.{Shape}
-use Rattle.law.specs.declared.table.Shape.the-variants as shape
 use Rattle.law.specs.declared.table.Node.the-variants.{Expression, Constraint}
 use Rattle.law.specs.declared.table.Pair.the-variants.{Bytes, Short}
 use Rattle.law.specs.declared.checks.Test.{Test}
 use Rattle.law.specs.declared.checks.Test.the-variants.{Allowed, Known}
-use Rattle.law.specs.Shape.{opened, pairOf, operationOf, singleOf, comparisonOf, junctionOf}
+use Rattle.law.specs.Table.{opened, pairOf, sortIn, countIn, operatorIn, operationAt, singleAt, comparisonAt, junctionAt}
 use Rattle.law.specs.Names.{namesOnly}
 use Rattle.law.specs.Check.{nextOf, endOf, passesE, passesC}
 use Rattle.law.proofs.Trees.{at-constant, at-fluent, at-reified, at-one, at-two, at-truth, at-occurrence, at-negation, at-junction, at-comparison, no-pair, a-pair}
@@ -172,46 +170,61 @@ module _ (t : Test) (s : List ℕ) (at d : ℕ) (ne : d ≡ 0 → ⊥) (lt : at 
   abbrev part-c : ℕ → Answer ℕ
   part-c m = endOf (passesC t) m (parseC (d - 1) (drop m s))
 
-  module _ {sh : Shape} (p : Expression sh ≡ opened code) where
-    pub check-constant : sh ≡ shape.Value → endOf (passesE t) at (twoBytes (λ hi lo. constant (signedWord hi lo)) (drop (at + 1) s)) ≡ whole-e
-    check-constant q = rw (at-constant s at d ne lt p q)
+  module _ {row : ℕ} (p : Expression row ≡ opened code) where
+    pub check-constant : sortIn row ≡ 1 → operatorIn row ≡ 0 → endOf (passesE t) at (twoBytes (λ hi lo. constant (signedWord hi lo)) (drop (at + 1) s)) ≡ whole-e
+    check-constant q r = rw (at-constant s at d ne lt p q r)
 
-    pub check-fluent : sh ≡ shape.FluentLag → endOf (passesE t) at (twoBytes fluent (drop (at + 1) s)) ≡ whole-e
-    check-fluent q = rw (at-fluent s at d ne lt p q)
+    pub check-fluent : sortIn row ≡ 1 → (operatorIn row ≡ 0 → ⊥) → endOf (passesE t) at (twoBytes fluent (drop (at + 1) s)) ≡ whole-e
+    check-fluent q r = rw (at-fluent s at d ne lt p q r)
 
-    pub check-reified : sh ≡ shape.Constraint → part-c (at + 1) ≡ whole-e
+    pub check-reified : sortIn row ≡ 3 → part-c (at + 1) ≡ whole-e
     check-reified q = rw (at-reified s at d ne lt p q) (one-checked (passesC t) (passesE t) reified (passes-reified t) at 1 (parseC (d - 1) (drop (at + 1) s)))
 
-    pub check-one : sh ≡ shape.Expression → part-e (at + 1) ≡ whole-e
-    check-one q = rw (at-one s at d ne lt p q) (one-checked (passesE t) (passesE t) (one (singleOf code)) (passes-one t (singleOf code)) at 1 (parseE (d - 1) (drop (at + 1) s)))
+    module _ (q : sortIn row ≡ 1 → ⊥) (r : sortIn row ≡ 3 → ⊥) where
+      abbrev single : Single
+      single = singleAt (operatorIn row)
 
-    pub check-two : {m : ℕ} → sh ≡ shape.Expressions → got m ≡ part-e (at + 1) → part-e m ≡ whole-e
-    check-two q e = rw (at-two s at d ne lt p q) (then-second (passesE t) (passesE t) (two (operationOf code)) (passes-two t (operationOf code)) (parseE (d - 1)) s at e)
+      abbrev operation : Operation
+      operation = operationAt (operatorIn row)
 
-    pub check-first : sh ≡ shape.Expressions → refused 4 ≡ part-e (at + 1) → refused 4 ≡ whole-e
-    check-first q e = rw (at-two s at d ne lt p q) (first-refused (passesE t) (passesE t) (two (operationOf code)) (passes-two t (operationOf code)) (parseE (d - 1)) s at e)
+      pub check-one : countIn row ≡ 1 → part-e (at + 1) ≡ whole-e
+      check-one n = rw (at-one s at d ne lt p q r n) (one-checked (passesE t) (passesE t) (one single) (passes-one t single) at 1 (parseE (d - 1) (drop (at + 1) s)))
 
-  module _ {sh : Shape} (p : Constraint sh ≡ opened code) where
-    pub check-truth : sh ≡ shape.Nothing → nextOf (at + 1) ≡ whole-c
-    check-truth q = rw (at-truth s at d ne lt p q, passes-always t) (past at 1 (omega arith))
+      pub check-two : {m : ℕ} → (countIn row ≡ 1 → ⊥) → got m ≡ part-e (at + 1) → part-e m ≡ whole-e
+      check-two n e = rw (at-two s at d ne lt p q r n) (then-second (passesE t) (passesE t) (two operation) (passes-two t operation) (parseE (d - 1)) s at e)
 
-    pub check-occurrence : sh ≡ shape.EntryLag → endOf (passesC t) at (twoBytes occurs (drop (at + 1) s)) ≡ whole-c
+      pub check-first : (countIn row ≡ 1 → ⊥) → refused 4 ≡ part-e (at + 1) → refused 4 ≡ whole-e
+      check-first n e = rw (at-two s at d ne lt p q r n) (first-refused (passesE t) (passesE t) (two operation) (passes-two t operation) (parseE (d - 1)) s at e)
+
+  module _ {row : ℕ} (p : Constraint row ≡ opened code) where
+    abbrev comparison : Comparison
+    comparison = comparisonAt (operatorIn row)
+
+    pub check-compared : {m : ℕ} → sortIn row ≡ 2 → got m ≡ part-e (at + 1) → part-e m ≡ whole-c
+    check-compared q e = rw (at-comparison s at d ne lt p q) (then-second (passesE t) (passesC t) (compared comparison) (passes-compared t comparison) (parseE (d - 1)) s at e)
+
+    pub check-first-e : sortIn row ≡ 2 → refused 4 ≡ part-e (at + 1) → refused 4 ≡ whole-c
+    check-first-e q e = rw (at-comparison s at d ne lt p q) (first-refused (passesE t) (passesC t) (compared comparison) (passes-compared t comparison) (parseE (d - 1)) s at e)
+
+    pub check-occurrence : sortIn row ≡ 1 → endOf (passesC t) at (twoBytes occurs (drop (at + 1) s)) ≡ whole-c
     check-occurrence q = rw (at-occurrence s at d ne lt p q)
 
-    pub check-negation : sh ≡ shape.Constraint → part-c (at + 1) ≡ whole-c
-    check-negation q = rw (at-negation s at d ne lt p q) (one-checked (passesC t) (passesC t) negated (passes-negated t) at 1 (parseC (d - 1) (drop (at + 1) s)))
+    pub check-truth : countIn row ≡ 0 → nextOf (at + 1) ≡ whole-c
+    check-truth n = rw (at-truth s at d ne lt p n, passes-always t) (past at 1 (omega arith))
 
-    pub check-junction : {m : ℕ} → sh ≡ shape.Constraints → got m ≡ part-c (at + 1) → part-c m ≡ whole-c
-    check-junction q e = rw (at-junction s at d ne lt p q) (then-second (passesC t) (passesC t) (joined (junctionOf code)) (passes-joined t (junctionOf code)) (parseC (d - 1)) s at e)
+    module _ (q : sortIn row ≡ 2 → ⊥) (r : sortIn row ≡ 1 → ⊥) where
+      abbrev junction : Junction
+      junction = junctionAt (operatorIn row)
 
-    pub check-first-c : sh ≡ shape.Constraints → refused 4 ≡ part-c (at + 1) → refused 4 ≡ whole-c
-    check-first-c q e = rw (at-junction s at d ne lt p q) (first-refused (passesC t) (passesC t) (joined (junctionOf code)) (passes-joined t (junctionOf code)) (parseC (d - 1)) s at e)
+      pub check-negation : countIn row ≡ 1 → part-c (at + 1) ≡ whole-c
+      check-negation n = rw (at-negation s at d ne lt p q r n) (one-checked (passesC t) (passesC t) negated (passes-negated t) at 1 (parseC (d - 1) (drop (at + 1) s)))
 
-    pub check-compared : {m : ℕ} → sh ≡ shape.Expressions → got m ≡ part-e (at + 1) → part-e m ≡ whole-c
-    check-compared q e = rw (at-comparison s at d ne lt p q) (then-second (passesE t) (passesC t) (compared (comparisonOf code)) (passes-compared t (comparisonOf code)) (parseE (d - 1)) s at e)
+      module _ (m : countIn row ≡ 0 → ⊥) (n : countIn row ≡ 1 → ⊥) where
+        pub check-junction : {k : ℕ} → got k ≡ part-c (at + 1) → part-c k ≡ whole-c
+        check-junction e = rw (at-junction s at d ne lt p q r m n) (then-second (passesC t) (passesC t) (joined junction) (passes-joined t junction) (parseC (d - 1)) s at e)
 
-    pub check-first-e : sh ≡ shape.Expressions → refused 4 ≡ part-e (at + 1) → refused 4 ≡ whole-c
-    check-first-e q e = rw (at-comparison s at d ne lt p q) (first-refused (passesE t) (passesC t) (compared (comparisonOf code)) (passes-compared t (comparisonOf code)) (parseE (d - 1)) s at e)
+        pub check-first-c : refused 4 ≡ part-c (at + 1) → refused 4 ≡ whole-c
+        check-first-c e = rw (at-junction s at d ne lt p q r m n) (first-refused (passesC t) (passesC t) (joined junction) (passes-joined t junction) (parseC (d - 1)) s at e)
 
 -- What the place after a tree says of the fluents that it names.
 pub names-known : (mask at n : ℕ) (o : Option (Parsed Con)) → nextOf n ≡ endOf (passesC (Known mask)) at o → not (eqb n 0) ≡ namesOnly mask o

@@ -7,4 +7,4 @@ returns : tie.Need-returns
 returns c = c .next-of .ensures ∙ c .before .constraint-in .ensures
 
 pub check-constraint-spec : {M : Type 1} → statement M
-check-constraint-spec = tie.close (tie.spec (λ c κs. search needs) (λ c κs. search needs) returns)
+check-constraint-spec = tie.close (tie.spec (λ c κs. search needs) (λ c κs. search needs) (λ c κs. search needs) returns)

@@ -7,4 +7,4 @@ returns : tie.Need-returns
 returns c = c .next-of .ensures ∙ c .before .expression-in .ensures
 
 pub check-expression-spec : {M : Type 1} → statement M
-check-expression-spec = tie.close (tie.spec (λ c κs. search needs) (λ c κs. search needs) returns)
+check-expression-spec = tie.close (tie.spec (λ c κs. search needs) (λ c κs. search needs) (λ c κs. search needs) returns)

@@ -8,8 +8,8 @@ use Rattle.law.proofs.names.names_only.Tie as tie
 
 returns : tie.Need-returns
 returns c =
-    let a = c .before .before .args in
+    let a = c .before .before .before .before .args in
     names-known (a .mask) (a .at) (c .constraint-in .result) (parseC mostDepth (drop (a .at) (a .s .now))) (c .constraint-in .ensures)
 
 pub names-only-spec : {M : Type 1} → statement M
-names-only-spec = tie.close (tie.spec (λ c κs. search needs) returns)
+names-only-spec = tie.close (tie.spec (λ c κs. search needs) (λ c κs. search needs) returns)

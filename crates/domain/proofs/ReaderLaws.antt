@@ -3,14 +3,14 @@ use Prim.Native.Nat.{ℕ, suc, _+_, _-_, _*_, _≤_, _<_}
 use native.Mathlib.Numerals.{add-one}
 use native.Mathlib.Omega.{arith}
 use mathlib.Core.Path.{_≡_, refl, sym, ap, _∙_}
-use mathlib.Core.Bool.{true, false}
+use mathlib.Core.Bool.{Bool, true, false}
 use mathlib.Core.List.{List, _++_}
 use mathlib.Core.Option.{Option, none, some}
 use lib.Dec.{eqb}
 use lib.ListN.{length, set, take, drop, replicate}
 use borrow.Author.Tests.{le-leb, lt-leb}
 use Rattle.bmap.specs.Plain.{if-else}
-use Rattle.bmap.specs.Refusal.{got, refused, need, read, refusedAt, atLine, afterwards}
+use Rattle.bmap.specs.Refusal.{numberOf, got, refused, need, read, refusedAt, atLine, afterwards}
 use Rattle.bmap.specs.Line.{Frame}
 use Rattle.bmap.specs.Payload.{byte, wordAt}
 use Rattle.bmap.specs.Accept.{Partial, nothing, countsOf, room, accept, complete, finished, takenFrom, checked}
@@ -22,9 +22,10 @@ use Rattle.line.proofs.Lists.{part-to-end}
 use Rattle.domain.specs.Check.{entriesOf, refusedIn}
 use Rattle.domain.specs.Found.{counted, completeOn}
 use Rattle.bmap.specs.declared.refusal.Refusal.{Refusal}
+use Rattle.domain.specs.declared.reader.ReadCounted.{ReadCounted}
 use Rattle.domain.specs.declared.reader.ReadStore.{ReadStore}
 use Rattle.domain.specs.declared.reader.ReadStore.the-variants.{Read, Refused}
-use Rattle.domain.specs.Read.{readingOf, bytesIn, usedIn, Front}
+use Rattle.domain.specs.Read.{readingOf, bytesIn, usedIn, Front, countsIn, countsRead}
 use Rattle.domain.proofs.Passed.{Passed, passed}
 use Rattle.domain.proofs.Stands.{frames, Few, few-first, few-frames, More, more, with, accept-refused, accept-passed}
 use Rattle.domain.proofs.Gate.{Gate, gate-first, gate-check, gate-complete, gate-room, gate-entry, gate-next}
@@ -68,6 +69,12 @@ module _ {text store rest : List ℕ} {latest : ℕ} {n : Counts} {names crews r
   so-read : Decoded text store rest used
   so-read = record { room = omega (arith, reads-used, h .enough); bytes = h .bytes }
 
+  -- ---- a text that is refused
+
+  refused-as : {m line : ℕ} → reading text ≡ refusedAt m line → ((refusedAt m line ≡ usedIn text) × Unit {0}) × (countsOf (nothing .domain) ≡ countsIn (reading text))
+  unfolding usedIn
+  refused-as q = ((sym (ap (λ r. afterwards r (λ d. read (length (bytesIn text)))) q), tt), ap countsIn (sym q))
+
   -- ---- no line is left
 
   module _ (e : none ≡ lineRead rest (lent store used)) where
@@ -75,31 +82,26 @@ module _ {text store rest : List ℕ} {latest : ℕ} {n : Counts} {names crews r
     unfolding takenFrom
     last = h .run ∙ ap (takenFrom lines (h .so-far)) (none-left so-read e)
 
-    pub reads-done : (p : List ℕ) → true ≡ completeOn n ready → (read used ≡ usedIn text) × (take used (renewed store used p) ≡ bytesIn text)
-    unfolding usedIn
-    reads-done p c =
-        let k : complete (h .so-far .domain) ≡ true = sym (gate-complete (h .gate) (h .few .entries)) ∙ sym c in (
-          sym (ap (λ r. afterwards r (λ d. read (length (bytesIn text)))) (last ∙ ap (λ b. atLine lines (need b 7 (got (h .so-far .domain))) read) k)
-              ∙ ap read (all-used so-read e)),
-          all-stand so-read e p,
-        )
+    module _ (b : Bool) (c : b ≡ completeOn n ready) where
+      ends-as : reading text ≡ atLine lines (need b 7 (got (h .so-far .domain))) read
+      ends-as = last ∙ ap (λ b. atLine lines (need b 7 (got (h .so-far .domain))) read) (sym (gate-complete (h .gate) (h .few .entries)) ∙ sym c)
 
-    pub reads-missing : false ≡ completeOn n ready → (refusedAt 7 lines ≡ usedIn text) × Unit {0}
+    pub reads-done : (p : List ℕ) → true ≡ completeOn n ready → ((read used ≡ usedIn text) × (take used (renewed store used p) ≡ bytesIn text)) × (n ≡ countsIn (reading text))
     unfolding usedIn
-    reads-missing c =
-        let k : complete (h .so-far .domain) ≡ false = sym (gate-complete (h .gate) (h .few .entries)) ∙ sym c in
-        (sym (ap (λ r. afterwards r (λ d. read (length (bytesIn text)))) (last ∙ ap (λ b. atLine lines (need b 7 (got (h .so-far .domain))) read) k)), tt)
+    reads-done p c = (
+      (sym (ap (λ r. afterwards r (λ d. read (length (bytesIn text)))) (ends-as true c) ∙ ap read (all-used so-read e)), all-stand so-read e p),
+      h .gate .counts ∙ ap countsIn (sym (ends-as true c)),
+    )
+
+    pub reads-missing : false ≡ completeOn n ready → ((refusedAt 7 lines ≡ usedIn text) × Unit {0}) × (countsOf (nothing .domain) ≡ countsIn (reading text))
+    unfolding usedIn
+    reads-missing c = refused-as (ends-as false c)
 
   -- ---- a line that is refused
 
-  pub reads-bad : (m : ℕ) → some (refused m) ≡ lineRead rest (lent store used) → (refusedAt m (lines + 1) ≡ usedIn text) × Unit {0}
-  unfolding usedIn takenFrom
-  reads-bad m e =
-      let l = bad-line so-read m e in (
-        ap (refusedAt m) (add-one lines)
-            ∙ sym (ap (λ r. afterwards r (λ d. read (length (bytesIn text)))) (h .run ∙ ap (takenFrom lines (h .so-far)) (l .1))),
-        tt,
-      )
+  pub reads-bad : (m : ℕ) → some (refused m) ≡ lineRead rest (lent store used) → ((refusedAt m (lines + 1) ≡ usedIn text) × Unit {0}) × (countsOf (nothing .domain) ≡ countsIn (reading text))
+  unfolding takenFrom
+  reads-bad m e = refused-as (h .run ∙ ap (takenFrom lines (h .so-far)) (bad-line so-read m e .1) ∙ ap (refusedAt m) (sym (add-one lines)))
 
   -- ---- a line that is a frame's
 
@@ -116,14 +118,9 @@ module _ {text store rest : List ℕ} {latest : ℕ} {n : Counts} {names crews r
     says o q = q ∙ ap refusedIn (gate-check (h .gate) (cut (renewed store used p) used size))
 
     pub reads-refused : (m : ℕ) → some m ≡ refusedIn (checked latest n (entriesOf (n .entries) names crews) (cut (renewed store used p) used size))
-        → (refusedAt m (lines + 1) ≡ usedIn text) × Unit {0}
-    unfolding usedIn
-    reads-refused m q = (
-      ap (refusedAt m) (add-one lines)
-          ∙ sym (ap (λ r. afterwards r (λ d. read (length (bytesIn text))))
-          (run-on ∙ ap (λ a. atLine (suc lines) a (λ q. takenFrom (suc lines) q (framesOf (drop k rest)))) (accept-refused (h .so-far) (cut (renewed store used p) used size) m (says (some m) q)))),
-      tt,
-    )
+        → ((refusedAt m (lines + 1) ≡ usedIn text) × Unit {0}) × (countsOf (nothing .domain) ≡ countsIn (reading text))
+    reads-refused m q =
+        refused-as (run-on ∙ ap (λ a. atLine (suc lines) a (λ q. takenFrom (suc lines) q (framesOf (drop k rest)))) (accept-refused (h .so-far) (cut (renewed store used p) used size) m (says (some m) q)) ∙ ap (refusedAt m) (sym (add-one lines)))
 
     module _ (q : none ≡ refusedIn (checked latest n (entriesOf (n .entries) names crews) (cut (renewed store used p) used size))) where
       abbrev frame : Frame
@@ -162,17 +159,27 @@ module _ {text store rest : List ℕ} {latest : ℕ} {n : Counts} {names crews r
         bytes = bytes-on so-read size k p e b;
       }
 
+-- a refusal, as the code makes it
+pub refusing : (text after : List ℕ) (why : Refusal) (line : ℕ) (r : ReadCounted) → r ≡ record { answer = Refused why line; counts = countsOf (nothing .domain) }
+    → ((refusedAt (numberOf why) line ≡ usedIn text) × Unit {0}) × (countsOf (nothing .domain) ≡ countsIn (reading text))
+    → ((readingOf (r .answer) ≡ usedIn text) × Front (bytesIn text) (readingOf (r .answer)) after) × (r .counts ≡ countsIn (reading text))
+refusing text after why line r e h = rw e h
+
 -- ---- the reader around them
 
 module _ (text store : List ℕ) where
-  pub read-short : length store < 36_000 → (refusedAt 10 0 ≡ readDomain text store .answer) × (store ≡ readDomain text store .buffer)
-  unfolding readDomain
-  read-short h = rw (lt-leb 36_000 (length store) h) (refl, refl)
+  pub read-short : length store < 36_000 → ((refusedAt 10 0 ≡ readDomain text store .answer) × (store ≡ readDomain text store .buffer)) × (countsOf (nothing .domain) ≡ countsRead text store)
+  unfolding readDomain countsRead
+  read-short h = rw (lt-leb 36_000 (length store) h) ((refl, refl), refl)
 
   module _ (h : 36_000 ≤ length store) where
     pub read-in-room : Fills (reading text) (bytesIn text) (length store) (readDomain text store)
     unfolding readDomain bytesIn
     read-in-room = rw (le-leb 36_000 (length store) h)
+
+    pub counts-in-room : {n : Counts} → n ≡ countsIn (reading text) → n ≡ countsRead text store
+    unfolding countsRead
+    counts-in-room q = rw (le-leb 36_000 (length store) h) q
 
     module _ (after : List ℕ) (same : length after ≡ length store) (r : ReadStore) (e : (readingOf r ≡ usedIn text) × Front (bytesIn text) (readingOf r) after) (exit : List ℕ) where
       fills : Fills (reading text) (bytesIn text) (length after) (readDomain text store)

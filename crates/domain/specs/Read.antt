@@ -3,7 +3,12 @@ use Prim.Native.Nat.{ℕ}
 use mathlib.Core.Path.{_≡_}
 use mathlib.Core.List.{List, map}
 use lib.ListN.{length, take}
-use Rattle.bmap.specs.Plain.{flat}
+use lib.Dec.{leb}
+use Rattle.bmap.specs.Plain.{flat, if-else}
+use Rattle.bmap.specs.Limits.{storeSize}
+use Rattle.bmap.specs.Domain.{Domain}
+use Rattle.bmap.specs.Accept.{nothing, countsOf}
+use Rattle.bmap.specs.declared.limits.Counts.{Counts}
 use Rattle.bmap.specs.Refusal.{numberOf, Reading, read, refusedAt, afterwards}
 use Rattle.bmap.specs.Store.{framesOf, storedOf, reading}
 use Rattle.domain.specs.declared.reader.ReadStore.{ReadStore}
@@ -13,6 +18,14 @@ use Rattle.domain.specs.declared.reader.ReadStore.the-variants.{Read, Re
 abbrev pub readingOf : ReadStore → Reading ℕ
 readingOf (Read used) = read used
 readingOf (Refused r line) = refusedAt (numberOf r) line
+
+-- how many of each the domain has that was read: none where it is refused
+abbrev pub countsIn : Reading Domain → Counts
+countsIn (read d) = countsOf d
+countsIn (refusedAt m line) = countsOf (nothing .domain)
+
+unfoldable pub countsRead : List ℕ → List ℕ → Counts
+countsRead text store = if-else (leb storeSize (length store)) (countsIn (reading text)) (countsOf (nothing .domain))
 
 -- ---- within the reader
 

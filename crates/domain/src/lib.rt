@@ -18,6 +18,8 @@ pub use frames::FrameReader;
 pub use frames::next;
 pub use frames::start;
 pub use laws::law_fits;
+pub use reader::ReadCounted;
 pub use reader::ReadStore;
 pub use reader::read;
+pub use reader::read_counted;
 pub use writer::write;

@@ -17,8 +17,10 @@ ghost use mathlib.Core.Path.{_≡_};
 ghost use Prim.Native.Nat.{_≤_};
 ghost use lib.ListN.{length};
 ghost use Rattle.bmap.specs.Limits.{storeSize};
-ghost use Rattle.bmap.specs.Store.{readDomain};
-ghost use Rattle.domain.specs.Read.{readingOf, bytesIn, usedIn, Front};
+ghost use Rattle.bmap.specs.Accept.{nothing, countsOf};
+ghost use Rattle.bmap.specs.Store.{reading, readDomain};
+ghost use Rattle.domain.specs.Read.{readingOf, bytesIn, usedIn, Front, countsIn, countsRead};
+ghost use Rattle.domain.specs.declared.reader.ReadStore.the-variants.{Refused};
 
 // What a reader of lines into a store answers.
 pub enum ReadStore {
@@ -27,17 +29,30 @@ pub enum ReadStore {
     Refused { refusal: Refusal, line: usize },
 }
 
+// A reading, and how many of each the domain has: what its caller needs of it is not found once more.
+pub struct ReadCounted {
+    pub answer: ReadStore,
+    pub counts: Counts,
+}
+
 // "Domain reader: 10, then line by line 1, 2, 3, 5, 4, 6, then 7." After 10 the store keeps its bytes; any other refusal zeroes it.
 pub fn read(text: &[u8], store: &mut [u8]) -> ReadStore
     ensures { λ r. ⌜ (readingOf r ≡ readDomain (now (text .entry)) (now (store .entry)) .answer) × (now (store .exit) ≡ readDomain (now (text .entry)) (now (store .entry)) .buffer) ⌝ }
 {
+    let counted = read_counted(text, store);
+    counted.answer
+}
+
+// The same, with the domain's counts: none where it is refused.
+pub fn read_counted(text: &[u8], store: &mut [u8]) -> ReadCounted
+    ensures { λ r. ⌜ ((readingOf (r .answer) ≡ readDomain (now (text .entry)) (now (store .entry)) .answer) × (now (store .exit) ≡ readDomain (now (text .entry)) (now (store .entry)) .buffer))
+        × (r .counts ≡ countsRead (now (text .entry)) (now (store .entry))) ⌝ }
+{
     if store.len() < STORE {
-        return ReadStore::Refused {
-            refusal: Refusal::NoRoom,
-            line: 0,
-        };
+        return refused(Refusal::NoRoom, 0);
     }
-    let answer = read_lines(text, store);
+    let counted = read_lines(text, store);
+    let answer = counted.answer;
     match answer {
         ReadStore::Read(used) => {
             zero_from(store, used);
@@ -49,13 +64,23 @@ pub fn read(text: &[u8], store: &mut [u8]) -> ReadStore
             zero_from(store, 0);
         }
     }
-    answer
+    counted
+}
+
+fn refused(refusal: Refusal, line: usize) -> ReadCounted
+    ensures { λ r. ⌜ r ≡ record { answer = Refused refusal line; counts = countsOf (nothing .domain) } ⌝ }
+{
+    let answer = ReadStore::Refused { refusal, line };
+    ReadCounted {
+        answer,
+        counts: NO_COUNTS,
+    }
 }
 
 // Line after line, each decoded into the store and checked there. What stands after the frames is the caller's to zero.
-fn read_lines(text: &[u8], store: &mut [u8]) -> ReadStore
+fn read_lines(text: &[u8], store: &mut [u8]) -> ReadCounted
     requires { ⌜ storeSize ≤ length (now store) ⌝ }
-    ensures { λ r. ⌜ (readingOf r ≡ usedIn (now (text .entry))) × Front (bytesIn (now (text .entry))) (readingOf r) (now (store .exit)) ⌝ }
+    ensures { λ r. ⌜ ((readingOf (r .answer) ≡ usedIn (now (text .entry))) × Front (bytesIn (now (text .entry))) (readingOf (r .answer)) (now (store .exit))) × (r .counts ≡ countsIn (reading (now (text .entry)))) ⌝ }
 {
     let mut latest: u8 = 0;
     let mut n = NO_COUNTS;
@@ -69,18 +94,13 @@ fn read_lines(text: &[u8], store: &mut [u8]) -> ReadStore
         match read_line(rest, &mut store[used..]) {
             FirstLine::Nothing => {
                 if is_complete(n, &ready) {
-                    return ReadStore::Read(used);
+                    let answer = ReadStore::Read(used);
+                    return ReadCounted { answer, counts: n };
                 }
-                return ReadStore::Refused {
-                    refusal: Refusal::Incomplete,
-                    line,
-                };
+                return refused(Refusal::Incomplete, line);
             }
             FirstLine::Refused(refusal) => {
-                return ReadStore::Refused {
-                    refusal,
-                    line: line + 1,
-                };
+                return refused(refusal, line + 1);
             }
             FirstLine::Frame { bytes, characters } => {
                 line += 1;
@@ -89,7 +109,7 @@ fn read_lines(text: &[u8], store: &mut [u8]) -> ReadStore
                 used += bytes;
                 let p = &store[from..used];
                 if let Check::Refused(refusal) = check_frame(latest, n, &names, &crews, kind, p) {
-                    return ReadStore::Refused { refusal, line };
+                    return refused(refusal, line);
                 }
                 note_entry(n, kind, p, &mut names, &mut crews);
                 note_ready(kind, p, &mut ready);

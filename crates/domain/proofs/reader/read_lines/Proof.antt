@@ -1,5 +1,5 @@
 -- `domain::reader::read_lines` meets its contract: after each line the code holds what those lines make. Assumes nothing.
-use Rattle.domain.proofs.ReaderLaws.{Reads, reads-first, reads-few, reads-used, reads-lines, reads-done, reads-missing, reads-bad, reads-sizes, reads-refused, reads-room, reads-entry, reads-next}
+use Rattle.domain.proofs.ReaderLaws.{Reads, reads-first, reads-few, reads-used, reads-lines, reads-done, reads-missing, reads-bad, reads-sizes, reads-refused, reads-room, reads-entry, reads-next, refusing}
 use Rattle.domain.proofs.IntoStore.{lent, renewed, Sizes}
 use Rattle.domain.proofs.Held.{cut}
 use Rattle.domain.specs.Found.{counted}
@@ -120,29 +120,35 @@ returns c =
     let l = r .before .before in
     reads-done (l .loop .inv .1) (sym (ap said (c .before .before .before .enum-told .given .1)) ∙ r .read-line .ensures .0) (r .read-line .last .1 .0) (sym (c .if1 .taken) ∙ c .before .is-complete .ensures)
 
+refused-requires : tie.Need-refused-requires Inv-loop μ-loop
+refused-requires c κs = search needs
+
 same-length-2 : tie.Need-same-length-2 Inv-loop μ-loop
-same-length-2 c = again (c .before .before .before .before .before .before .before)
+same-length-2 c = again (c .before .before .before .before .before .before .before .before)
 
 returns-2 : tie.Need-returns-2 Inv-loop μ-loop
 returns-2 c =
-    let r = c .before .before .before .before .before .before .before in
+    let r = c .before .before .before .before .before .before .before .before in
     let l = r .before .before in
-    reads-missing (l .loop .inv .1) (sym (ap said (c .before .before .before .enum-told .given .1)) ∙ r .read-line .ensures .0) (sym (c .if1 .left) ∙ c .before .is-complete .ensures)
+    refusing _ _ _ _ _ (c .refused .ensures) (reads-missing (l .loop .inv .1) (sym (ap said (c .before .before .before .before .enum-told .given .1)) ∙ r .read-line .ensures .0) (sym (c .before .if1 .left) ∙ c .before .before .is-complete .ensures))
 
 enum-known-refusal : tie.Need-enum-known-refusal Inv-loop μ-loop
 enum-known-refusal c = search needs
 
-add-t26 : tie.Need-add-t26 Inv-loop μ-loop
-add-t26 c = omega (arith, reads-lines (c .before .before .before .before .before .before .before .loop .inv .1))
+add-refused : tie.Need-add-refused Inv-loop μ-loop
+add-refused c = omega (arith, reads-lines (c .before .before .before .before .before .before .before .loop .inv .1))
+
+refused-requires-2 : tie.Need-refused-requires-2 Inv-loop μ-loop
+refused-requires-2 c κs = search needs
 
 same-length-3 : tie.Need-same-length-3 Inv-loop μ-loop
-same-length-3 c = again (c .before .before .before .before .before)
+same-length-3 c = again (c .before .before .before .before .before .before)
 
 returns-3 : tie.Need-returns-3 Inv-loop μ-loop
 returns-3 c =
-    let r = c .before .before .before .before .before in
+    let r = c .before .before .before .before .before .before in
     let l = r .before .before in
-    reads-bad (l .loop .inv .1) _ (sym (ap said (c .before .refusal .given .1)) ∙ r .read-line .ensures .0)
+    refusing _ _ _ _ _ (c .refused2 .ensures) (reads-bad (l .loop .inv .1) _ (sym (ap said (c .before .before .refusal .given .1)) ∙ r .read-line .ensures .0))
 
 enum-known-bytes : tie.Need-enum-known-bytes Inv-loop μ-loop
 enum-known-bytes c = search needs
@@ -174,16 +180,19 @@ check-frame-requires c κs = reads-few (c .before .before .before .before .befor
 enum-known-refusal-2 : tie.Need-enum-known-refusal-2 Inv-loop μ-loop
 enum-known-refusal-2 c = search needs
 
+refused-requires-3 : tie.Need-refused-requires-3 Inv-loop μ-loop
+refused-requires-3 c κs = search needs
+
 same-length-4 : tie.Need-same-length-4 Inv-loop μ-loop
-same-length-4 c = again (c .before .before .before .before .before .before .before .before .before .before .before .before .before .before)
+same-length-4 c = again (c .before .before .before .before .before .before .before .before .before .before .before .before .before .before .before)
 
 returns-4 : tie.Need-returns-4 Inv-loop μ-loop
 returns-4 c =
-    let k = c .before .before .before in
+    let k = c .before .before .before .before in
     let z = k .before .before .before .before .before .before .before in
     let r = z .before .before .before .before in
     let l = r .before .before in
-    reads-refused (l .loop .inv .1) (z .bytes .given .0 .0) (z .bytes .given .0 .1 .0) (r .read-line .last .1 .0) (line-is z) (r .read-line .ensures .1) _ (sym (ap refusalOf (c .before .refusal2 .given .1)) ∙ k .check-frame .ensures)
+    refusing _ _ _ _ _ (c .refused3 .ensures) (reads-refused (l .loop .inv .1) (z .bytes .given .0 .0) (z .bytes .given .0 .1 .0) (r .read-line .last .1 .0) (line-is z) (r .read-line .ensures .1) _ (sym (ap refusalOf (c .before .before .refusal2 .given .1)) ∙ k .check-frame .ensures))
 
 enum-told-2 : tie.Need-enum-told-2 Inv-loop μ-loop
 enum-told-2 c = search needs
@@ -241,10 +250,12 @@ read-lines-spec =
     is-complete-requires
     same-length
     returns
+    refused-requires
     same-length-2
     returns-2
     enum-known-refusal
-    add-t26
+    add-refused
+    refused-requires-2
     same-length-3
     returns-3
     enum-known-bytes
@@ -257,6 +268,7 @@ read-lines-spec =
     part-p-end
     check-frame-requires
     enum-known-refusal-2
+    refused-requires-3
     same-length-4
     returns-4
     enum-told-2

@@ -1,5 +1,5 @@
 -- What the evaluator answers.
-use Prim.Native.Nat.{ℕ, _+_, _-_, _*_}
+use Prim.Native.Nat.{ℕ, _+_, _-_, _*_, _≤_, _<_}
 use mathlib.Core.Bool.{Bool}
 use mathlib.Core.List.{List}
 use mathlib.Core.Option.{Option, none, some}
@@ -10,10 +10,11 @@ use Rattle.bmap.specs.Limits.{mostFluents, mostEntries, mostLaws, mostSteps, fr
 use Rattle.bmap.specs.Plain.{if-else}
 use Rattle.bmap.specs.Number.{Valued, value, signedWord}
 use Rattle.bmap.specs.Meaning.{History, evalE, evalC}
-use Rattle.bmap.specs.Code.{Parsed, parseE, parseC}
+use Rattle.bmap.specs.Code.{Parsed, codeOf, parseE, parseC}
 use lib.Dec.{eqb}
 use lib.Signed.{leZ}
-use Rattle.law.specs.Table.{operatorIn}
+use Rattle.law.specs.declared.table.Node.the-variants.{Expression}
+use Rattle.law.specs.Table.{opened, sortIn, operatorIn}
 use Rattle.number.specs.Answer.{valuedOf, truthOf}
 use Rattle.law.specs.declared.eval.Evaluated.{Evaluated}
 use Rattle.law.specs.declared.eval.Evaluated.the-variants as value-as
@@ -78,6 +79,13 @@ judged (truth-as.Gives v n) = gives (truthOf v) n
 -- what the two bytes after a leaf's code give, by its row: a constant, or the level of a fluent at its lag
 abbrev pub leafOf : ℕ → List ℤ → ℕ → ℕ → ℕ → Valued ℤ
 leafOf row history j a b = if-else (eqb (operatorIn row) 0) (value (signedWord a b)) (value (cellAt history (j - b) a))
+
+-- a code at a place, and its row: an expression's, and no leaf's
+pub record NoLeaf (s : List ℕ) (at depth row : ℕ) : Type 0 where
+  pub deep : 1 ≤ depth
+  pub inside : at < heldSize
+  pub opens : Expression row ≡ opened (codeOf (getD s at 0))
+  pub tree : sortIn row ≡ 1 → ⊥
 
 -- the expression, or the constraint, at a place of some bytes, read at position j
 abbrev pub valueAt : ℕ → List ℕ → ℕ → List ℤ → ℕ → Meant (Valued ℤ)

@@ -10,7 +10,7 @@ ghost use Rattle.bmap.specs.Limits.{mostDepth};
 ghost use Rattle.bmap.specs.Number.{value, with1, with2, operate, change, compare, join, flag, signedWord};
 ghost use Rattle.bmap.specs.Code.{twoBytes};
 ghost use Rattle.law.specs.Table.{rows};
-ghost use Rattle.law.specs.Evaluate.{heldSize, rowSize, historySize, Lent, gives, evaluated, judged, meant, onward, cellAt, marked, inStep, leafOf, valueAt, truthAt};
+ghost use Rattle.law.specs.Evaluate.{heldSize, rowSize, historySize, Lent, gives, evaluated, judged, meant, onward, cellAt, marked, inStep, leafOf, NoLeaf, valueAt, truthAt};
 ghost use Rattle.law.specs.Packed.{valueIn, truthIn, evaluatedIn, judgedIn};
 use crate::packed::MALFORMED;
 use crate::packed::end_of;
@@ -213,7 +213,8 @@ fn joined_of(op: Junction, a: u64, b: u64) -> u64
     )
 }
 
-// An expression with so much depth left.
+// An expression with so much depth left. Most of a tree are leaves: this function is small enough to be put in place of its
+// calls, and what is no leaf goes on with the row that was found.
 fn value_in(
     s: &[u8; HELD],
     at: usize,
@@ -237,6 +238,22 @@ fn value_in(
     if sort(row) == BYTES {
         return leaf_in(s, at, history, j, row);
     }
+    inner_value(s, at, depth, history, j, table, row)
+}
+
+// An expression that is no leaf, by its row.
+fn inner_value(
+    s: &[u8; HELD],
+    at: usize,
+    depth: usize,
+    history: &[i16; HISTORY],
+    j: usize,
+    table: &[u8; ROWS],
+    row: u8,
+) -> u64
+    requires { ⌜ (Lent (now s) (now history) × (now table ≡ rows)) × NoLeaf (now s) at depth row ⌝ }
+    ensures { λ r. ⌜ evaluatedIn r ≡ valueAt depth (now (s .entry)) at (now (history .entry)) j ⌝ }
+{
     if sort(row) == CONSTRAINT {
         return reified_of(truth_in(s, at + 1, depth - 1, history, j, table));
     }

@@ -1,6 +1,7 @@
--- The one proof of the cycle {truth_in, value_in}: each calls both with one level less. Assumes nothing.
+-- The one proof of the cycle {inner_value, truth_in, value_in}: value_in calls inner_value with the same depth left, all other
+-- calls are with one level less. Assumes nothing.
 use mathlib.Core.Path.{_≡_, sym, ap, _∙_}
-use Prim.Native.Nat.{ℕ, _<_, _≤_}
+use Prim.Native.Nat.{ℕ, _+_, _*_, _<_, _≤_}
 use native.Mathlib.Omega.{arith}
 use borrow.Author.Needs.{needs}
 use borrow.Fn.Kinds.{In}
@@ -9,19 +10,22 @@ use lib.ListN.{length, getD}
 use Rattle.bmap.specs.Meaning.{evalE, evalC}
 use Rattle.bmap.specs.Code.{codeOf}
 use Rattle.law.specs.declared.table.Node.the-variants.{Expression, Constraint}
-use Rattle.law.specs.Evaluate.{onward, historyOf}
+use Rattle.law.specs.Evaluate.{NoLeaf, onward, historyOf}
 use Rattle.law.specs.Packed.{valueIn, truthIn}
 use Rattle.law.specs.Table.{opened, sortIn, countIn}
 use Rattle.law.proofs.Trees.{deep-e, deep-c, end-e, end-c, no-expression, no-constraint}
 use Rattle.law.proofs.PackedLaws.{ends-nowhere, ends-there}
 use Rattle.law.proofs.Evals.{nothing-there, eval-leaf, eval-reified, eval-one, eval-two, eval-first}
 use Rattle.law.proofs.Evals.{eval-compared, eval-first-e, eval-occurrence, eval-truth, eval-negation, eval-junction, eval-first-c}
+use Rattle.law.proofs.eval.inner_value.Reads as inner-value
+use Rattle.law.proofs.eval.inner_value.Kinds as inner-value-kinds
+use Rattle.law.proofs.eval.+inner_value+truth_in+value_in.Lts-inner_value as inner-value-lts
 use Rattle.law.proofs.eval.truth_in.Reads as truth-in
 use Rattle.law.proofs.eval.truth_in.Kinds as truth-in-kinds
-use Rattle.law.proofs.eval.+truth_in+value_in.Lts-truth_in as truth-in-lts
+use Rattle.law.proofs.eval.+inner_value+truth_in+value_in.Lts-truth_in as truth-in-lts
 use Rattle.law.proofs.eval.value_in.Reads as value-in
 use Rattle.law.proofs.eval.value_in.Kinds as value-in-kinds
-use Rattle.law.proofs.eval.+truth_in+value_in.Lts-value_in as value-in-lts
+use Rattle.law.proofs.eval.+inner_value+truth_in+value_in.Lts-value_in as value-in-lts
 use Rattle.law.proofs.eval.changed_of.Reads as changed-of-reads
 use Rattle.law.proofs.eval.compared_of.Reads as compared-of-reads
 use Rattle.law.proofs.eval.joined_of.Reads as joined-of-reads
@@ -40,17 +44,26 @@ use Rattle.law.proofs.table.operation.Reads as operation-reads
 use Rattle.law.proofs.table.operator.Reads as operator-reads
 use Rattle.law.proofs.table.single.Reads as single-reads
 use Rattle.law.proofs.table.sort.Reads as sort-reads
-use Rattle.law.proofs.eval.+truth_in+value_in.{statement}
-use Rattle.law.proofs.eval.+truth_in+value_in.Tie.{close}
+use Rattle.law.proofs.eval.+inner_value+truth_in+value_in.{statement}
+use Rattle.law.proofs.eval.+inner_value+truth_in+value_in.Tie.{close}
+
+abbrev μ-inner-value : Measures 3 inner-value-kinds.ps ℕ
+μ-inner-value κs a = 2 * a .1 .1 .0
 
 abbrev μ-truth-in : Measures 3 truth-in-kinds.ps ℕ
-μ-truth-in κs a = a .1 .1 .0
+μ-truth-in κs a = 2 * a .1 .1 .0 + 1
 
 abbrev μ-value-in : Measures 3 value-in-kinds.ps ℕ
-μ-value-in κs a = a .1 .1 .0
+μ-value-in κs a = 2 * a .1 .1 .0 + 1
 
 module _ (t : ℕ) where
   -- what a call is given at the measure t, and what it asks below t
+  abbrev inner-value-at : In 3 inner-value-kinds.ps
+  inner-value-at = and 3 inner-value-kinds.ps (is 3 inner-value-kinds.ps μ-inner-value t) inner-value.Pre
+
+  abbrev inner-value-below : In 3 inner-value-kinds.ps
+  inner-value-below = and 3 inner-value-kinds.ps (falls 3 inner-value-kinds.ps _<_ μ-inner-value t) inner-value.Pre
+
   abbrev truth-in-at : In 3 truth-in-kinds.ps
   truth-in-at = and 3 truth-in-kinds.ps (is 3 truth-in-kinds.ps μ-truth-in t) truth-in.Pre
 
@@ -63,11 +76,14 @@ module _ (t : ℕ) where
   abbrev value-in-below : In 3 value-in-kinds.ps
   value-in-below = and 3 value-in-kinds.ps (falls 3 value-in-kinds.ps _<_ μ-value-in t) value-in.Pre
 
+  abbrev by-inner-value : inner-value-lts.Claims
+  by-inner-value = (sort-reads.Asked, sort-reads.Learnt, truth-in-below, truth-in.Post, reified-of-reads.Asked, reified-of-reads.Learnt, value-in-below, value-in.Post, count-reads.Asked, count-reads.Learnt, operator-reads.Asked, operator-reads.Learnt, single-reads.Asked, single-reads.Learnt, changed-of-reads.Asked, changed-of-reads.Learnt, end-of-reads.Asked, end-of-reads.Learnt, operation-reads.Asked, operation-reads.Learnt, operated-of-reads.Asked, operated-of-reads.Learnt)
+
   abbrev by-truth-in : truth-in-lts.Claims
   by-truth-in = (opens-reads.Asked, opens-reads.Learnt, sort-reads.Asked, sort-reads.Learnt, value-in-below, value-in.Post, end-of-reads.Asked, end-of-reads.Learnt, operator-reads.Asked, operator-reads.Learnt, comparison-reads.Asked, comparison-reads.Learnt, compared-of-reads.Asked, compared-of-reads.Learnt, occurrence-in-reads.Asked, occurrence-in-reads.Learnt, count-reads.Asked, count-reads.Learnt, with-truth-reads.Asked, with-truth-reads.Learnt, truth-in-below, truth-in.Post, negated-of-reads.Asked, negated-of-reads.Learnt, junction-reads.Asked, junction-reads.Learnt, joined-of-reads.Asked, joined-of-reads.Learnt)
 
   abbrev by-value-in : value-in-lts.Claims
-  by-value-in = (opens-reads.Asked, opens-reads.Learnt, sort-reads.Asked, sort-reads.Learnt, leaf-in-reads.Asked, leaf-in-reads.Learnt, truth-in-below, truth-in.Post, reified-of-reads.Asked, reified-of-reads.Learnt, value-in-below, value-in.Post, count-reads.Asked, count-reads.Learnt, operator-reads.Asked, operator-reads.Learnt, single-reads.Asked, single-reads.Learnt, changed-of-reads.Asked, changed-of-reads.Learnt, end-of-reads.Asked, end-of-reads.Learnt, operation-reads.Asked, operation-reads.Learnt, operated-of-reads.Asked, operated-of-reads.Learnt)
+  by-value-in = (opens-reads.Asked, opens-reads.Learnt, sort-reads.Asked, sort-reads.Learnt, leaf-in-reads.Asked, leaf-in-reads.Learnt, inner-value-below, inner-value.Post)
 
   -- where the row of the code is known
   abbrev Row-c : Type 0
@@ -75,14 +91,6 @@ module _ (t : ℕ) where
 
   abbrev start-c : Row-c → truth-in-lts.Start by-truth-in truth-in-at truth-in.Post
   start-c k = k .before .before .before .before .before .before .before
-
-  -- where the row of the code is known
-  abbrev Row-e : Type 0
-  Row-e = value-in-lts.After-known-told by-value-in value-in-at value-in.Post
-
-  abbrev start-e : Row-e → value-in-lts.Start by-value-in value-in-at value-in.Post
-  start-e k = k .before .before .before .before .before .before .before
-
 
   some-c : (k : Row-c) → start-c k .args .depth ≡ 0 → ⊥
   some-c k = k .before .before .before .before .before .before .if1 .left
@@ -115,6 +123,12 @@ module _ (t : ℕ) where
       let lt : a .at < length (a .s .now) = omega (arith, k .pre .1 .0 .held, c .before .before .before .if2 .left) in
       nothing-there (λ t. evalC t (historyOf (a .history .now)) (a .j)) (a .at) (no-constraint (a .s .now) (a .at) (a .depth) (c .before .before .before .before .if1 .left) lt _ (c .before .opens .ensures) (c .match .keys2))
 
+  -- where the row of the code is known
+  abbrev Row-e : Type 0
+  Row-e = value-in-lts.After-known-told by-value-in value-in-at value-in.Post
+
+  abbrev start-e : Row-e → value-in-lts.Start by-value-in value-in-at value-in.Post
+  start-e k = k .before .before .before .before .before .before .before
 
   some-e : (k : Row-e) → start-e k .args .depth ≡ 0 → ⊥
   some-e k = k .before .before .before .before .before .before .if1 .left
@@ -147,6 +161,18 @@ module _ (t : ℕ) where
       let lt : a .at < length (a .s .now) = omega (arith, k .pre .1 .0 .held, c .before .before .before .if2 .left) in
       nothing-there (λ t. evalE t (historyOf (a .history .now)) (a .j)) (a .at) (no-expression (a .s .now) (a .at) (a .depth) (c .before .before .before .before .if1 .left) lt _ (c .before .opens .ensures) (c .match .keys2))
 
+  -- what the caller of inner_value has seen to
+  abbrev Tree : Type 0
+  Tree = inner-value-lts.Start by-inner-value inner-value-at inner-value.Post
+
+  seen : (k : Tree) → NoLeaf (k .args .s .now) (k .args .at) (k .args .depth) (k .args .row)
+  seen k = k .pre .1 .1
+
+  some : (k : Tree) → k .args .depth ≡ 0 → ⊥
+  some k e = omega (arith, seen k .deep)
+
+  inside : (k : Tree) → k .args .at < length (k .args .s .now)
+  inside k = omega (arith, k .pre .1 .0 .0 .held, seen k .inside)
 
   truth-in-returns-4 : truth-in-lts.Need-returns-4 by-truth-in truth-in-at truth-in.Post
   truth-in-returns-4 c =
@@ -213,42 +239,70 @@ module _ (t : ℕ) where
       c .leaf-in .ensures ∙ eval-leaf (a .s .now) (a .at) (a .depth) (a .history .now) (a .j) (some-e k) (inside-e k) (opens-e k) q
 
   value-in-returns-5 : value-in-lts.Need-returns-5 by-value-in value-in-at value-in.Post
-  value-in-returns-5 c =
-      let k = c .before .before .before .before .before .before in
-      let a = start-e k .args in
-      let q : sortIn (row-e k) ≡ 3 = sym (c .before .before .before .sort2 .ensures) ∙ c .before .before .if4 .taken in
-      c .reified-of .ensures ∙ ap (onward _) (c .before .truth-in .ensures) ∙ eval-reified (a .s .now) (a .at) (a .depth) (a .history .now) (a .j) (some-e k) (inside-e k) (opens-e k) q
+  value-in-returns-5 c = c .inner-value .ensures
 
-  value-in-returns-6 : value-in-lts.Need-returns-6 by-value-in value-in-at value-in.Post
-  value-in-returns-6 c =
-      let k = c .before .before .before .before .before .before .before .before .before .before in
-      let a = start-e k .args in
-      let q : sortIn (row-e k) ≡ 1 → ⊥ = λ e. c .before .before .before .before .before .before .before .before .if3 .left (c .before .before .before .before .before .before .before .before .before .sort .ensures ∙ e) in
-      let r : sortIn (row-e k) ≡ 3 → ⊥ = λ e. c .before .before .before .before .before .before .if4 .left (c .before .before .before .before .before .before .before .sort2 .ensures ∙ e) in
-      let n : countIn (row-e k) ≡ 1 = sym (c .before .before .before .before .count .ensures) ∙ c .before .before .before .if5 .taken in
-      c .changed-of .ensures ∙ ap (onward _) (c .before .before .before .before .before .value-in .ensures) ∙ rw (c .before .single .ensures, c .before .before .operator .ensures) (eval-one (a .s .now) (a .at) (a .depth) (a .history .now) (a .j) (some-e k) (inside-e k) (opens-e k) q r n)
+  no-leaf : (c : value-in-lts.Else3 by-value-in value-in-at value-in.Post) → (let k = c .before .before in let a = start-e k .args in NoLeaf (a .s .now) (a .at) (a .depth) (row-e k))
+  no-leaf c =
+      let k = c .before .before in
+      record { deep = omega (arith, some-e k); inside = k .before .before .before .before .before .if2 .left; opens = opens-e k; tree = λ e. c .if3 .left (c .before .sort .ensures ∙ e) }
 
-  value-in-returns-7 : value-in-lts.Need-returns-7 by-value-in value-in-at value-in.Post
-  value-in-returns-7 c =
-      let k = c .before .before .before .before .before .before .before .before .before in
-      let a = start-e k .args in
-      let q : sortIn (row-e k) ≡ 1 → ⊥ = λ e. c .before .before .before .before .before .before .before .if3 .left (c .before .before .before .before .before .before .before .before .sort .ensures ∙ e) in
-      let r : sortIn (row-e k) ≡ 3 → ⊥ = λ e. c .before .before .before .before .before .if4 .left (c .before .before .before .before .before .before .sort2 .ensures ∙ e) in
-      let n : countIn (row-e k) ≡ 1 → ⊥ = λ e. c .before .before .if5 .left (c .before .before .before .count .ensures ∙ e) in
-      eval-first (a .s .now) (a .at) (a .depth) (a .history .now) (a .j) (some-e k) (inside-e k) (opens-e k) q r n (ends-nowhere (valueIn (c .before .before .before .before .value-in .result)) (c .before .end-of .ensures) (c .if6 .taken) ∙ c .before .before .before .before .value-in .ensures)
+  inner-value-returns : inner-value-lts.Need-returns by-inner-value inner-value-at inner-value.Post
+  inner-value-returns c =
+      let k = c .before .before .before .before in
+      let a = k .args in
+      let q : sortIn (a .row) ≡ 3 = sym (c .before .before .before .sort .ensures) ∙ c .before .before .if1 .taken in
+      c .reified-of .ensures ∙ ap (onward _) (c .before .truth-in .ensures) ∙ eval-reified (a .s .now) (a .at) (a .depth) (a .history .now) (a .j) (some k) (inside k) (seen k .opens) q
 
-  value-in-returns-8 : value-in-lts.Need-returns-8 by-value-in value-in-at value-in.Post
-  value-in-returns-8 c =
-      let k = c .before .before .before .before .before .before .before .before .before .before .before .before .before in
-      let a = start-e k .args in
-      let q : sortIn (row-e k) ≡ 1 → ⊥ = λ e. c .before .before .before .before .before .before .before .before .before .before .before .if3 .left (c .before .before .before .before .before .before .before .before .before .before .before .before .sort .ensures ∙ e) in
-      let r : sortIn (row-e k) ≡ 3 → ⊥ = λ e. c .before .before .before .before .before .before .before .before .before .if4 .left (c .before .before .before .before .before .before .before .before .before .before .sort2 .ensures ∙ e) in
-      let n : countIn (row-e k) ≡ 1 → ⊥ = λ e. c .before .before .before .before .before .before .if5 .left (c .before .before .before .before .before .before .before .count .ensures ∙ e) in
-      c .operated-of .ensures ∙ ap (onward _) (c .before .value-in2 .ensures) ∙ rw (c .before .before .operation .ensures, c .before .before .before .operator2 .ensures) (eval-two (a .s .now) (a .at) (a .depth) (a .history .now) (a .j) (some-e k) (inside-e k) (opens-e k) q r n (ends-there (valueIn (c .before .before .before .before .before .before .before .before .value-in .result)) (c .before .before .before .before .before .end-of .ensures) (c .before .before .before .before .if6 .left) ∙ c .before .before .before .before .before .before .before .before .value-in .ensures))
+  inner-value-returns-2 : inner-value-lts.Need-returns-2 by-inner-value inner-value-at inner-value.Post
+  inner-value-returns-2 c =
+      let k = c .before .before .before .before .before .before .before .before in
+      let a = k .args in
+      let r : sortIn (a .row) ≡ 3 → ⊥ = λ e. c .before .before .before .before .before .before .if1 .left (c .before .before .before .before .before .before .before .sort .ensures ∙ e) in
+      let n : countIn (a .row) ≡ 1 = sym (c .before .before .before .before .count .ensures) ∙ c .before .before .before .if2 .taken in
+      c .changed-of .ensures ∙ ap (onward _) (c .before .before .before .before .before .value-in .ensures) ∙ rw (c .before .single .ensures, c .before .before .operator .ensures) (eval-one (a .s .now) (a .at) (a .depth) (a .history .now) (a .j) (some k) (inside k) (seen k .opens) (seen k .tree) r n)
 
-pub +truth-in+value-in-spec : {M : Type 1} → statement M
-+truth-in+value-in-spec =
-    close μ-truth-in μ-value-in
+  inner-value-returns-3 : inner-value-lts.Need-returns-3 by-inner-value inner-value-at inner-value.Post
+  inner-value-returns-3 c =
+      let k = c .before .before .before .before .before .before .before in
+      let a = k .args in
+      let r : sortIn (a .row) ≡ 3 → ⊥ = λ e. c .before .before .before .before .before .if1 .left (c .before .before .before .before .before .before .sort .ensures ∙ e) in
+      let n : countIn (a .row) ≡ 1 → ⊥ = λ e. c .before .before .if2 .left (c .before .before .before .count .ensures ∙ e) in
+      eval-first (a .s .now) (a .at) (a .depth) (a .history .now) (a .j) (some k) (inside k) (seen k .opens) (seen k .tree) r n (ends-nowhere (valueIn (c .before .before .before .before .value-in .result)) (c .before .end-of .ensures) (c .if3 .taken) ∙ c .before .before .before .before .value-in .ensures)
+
+  inner-value-returns-4 : inner-value-lts.Need-returns-4 by-inner-value inner-value-at inner-value.Post
+  inner-value-returns-4 c =
+      let k = c .before .before .before .before .before .before .before .before .before .before .before in
+      let a = k .args in
+      let r : sortIn (a .row) ≡ 3 → ⊥ = λ e. c .before .before .before .before .before .before .before .before .before .if1 .left (c .before .before .before .before .before .before .before .before .before .before .sort .ensures ∙ e) in
+      let n : countIn (a .row) ≡ 1 → ⊥ = λ e. c .before .before .before .before .before .before .if2 .left (c .before .before .before .before .before .before .before .count .ensures ∙ e) in
+      c .operated-of .ensures ∙ ap (onward _) (c .before .value-in2 .ensures) ∙ rw (c .before .before .operation .ensures, c .before .before .before .operator2 .ensures) (eval-two (a .s .now) (a .at) (a .depth) (a .history .now) (a .j) (some k) (inside k) (seen k .opens) (seen k .tree) r n (ends-there (valueIn (c .before .before .before .before .before .before .before .before .value-in .result)) (c .before .before .before .before .before .end-of .ensures) (c .before .before .before .before .if3 .left) ∙ c .before .before .before .before .before .before .before .before .value-in .ensures))
+
+pub +inner-value+truth-in+value-in-spec : {M : Type 1} → statement M
++inner-value+truth-in+value-in-spec =
+    close μ-inner-value μ-truth-in μ-value-in
+    (λ t. inner-value-lts.spec (by-inner-value t) (inner-value-at t) inner-value.Post
+    (λ c κs. search needs)
+    (λ c. search needs)
+    (λ c. omega (arith, c .before .before .pre .1 .1 .deep))
+    (λ c κs. (omega (arith, c .before .before .pre .1 .1 .deep), c .before .before .pre .1 .0))
+    (λ c κs. search needs)
+    (inner-value-returns t)
+    (λ c. search needs)
+    (λ c. omega (arith, c .before .before .pre .1 .1 .deep))
+    (λ c κs. (omega (arith, c .before .before .pre .1 .1 .deep), c .before .before .pre .1 .0))
+    (λ c κs. search needs)
+    (λ c κs. search needs)
+    (λ c κs. search needs)
+    (λ c κs. search needs)
+    (inner-value-returns-2 t)
+    (λ c κs. search needs)
+    (inner-value-returns-3 t)
+    (λ c κs. search needs)
+    (λ c κs. search needs)
+    (λ c. omega (arith, c .before .before .before .before .before .before .before .before .before .pre .1 .1 .deep))
+    (λ c κs. (omega (arith, c .before .before .before .before .before .before .before .before .before .pre .1 .1 .deep), c .before .before .before .before .before .before .before .before .before .pre .1 .0))
+    (λ c κs. search needs)
+    (inner-value-returns-4 t))
     (λ t. truth-in-lts.spec (by-truth-in t) (truth-in-at t) truth-in.Post
     (truth-in-returns t)
     (truth-in-returns-2 t)
@@ -299,25 +353,5 @@ pub +truth-in+value-in-spec : {M : Type 1} → statement M
     (λ c κs. search needs)
     (λ c κs. search needs)
     (value-in-returns-4 t)
-    (λ c κs. search needs)
-    (λ c. search needs)
-    (λ c. search needs)
-    (λ c κs. (omega arith, c .before .before .before .before .before .before .before .before .before .before .before .pre .1))
-    (λ c κs. search needs)
-    (value-in-returns-5 t)
-    (λ c. search needs)
-    (λ c. search needs)
-    (λ c κs. (omega arith, c .before .before .before .before .before .before .before .before .before .before .before .pre .1))
-    (λ c κs. search needs)
-    (λ c κs. search needs)
-    (λ c κs. search needs)
-    (λ c κs. search needs)
-    (value-in-returns-6 t)
-    (λ c κs. search needs)
-    (value-in-returns-7 t)
-    (λ c κs. search needs)
-    (λ c κs. search needs)
-    (λ c. search needs)
-    (λ c κs. (omega arith, c .before .before .before .before .before .before .before .before .before .before .before .before .before .before .before .before .before .before .pre .1))
-    (λ c κs. search needs)
-    (value-in-returns-8 t))
+    (λ c κs. (omega arith, (c .before .before .before .before .before .before .before .before .before .pre .1, no-leaf t c)))
+    (value-in-returns-5 t))

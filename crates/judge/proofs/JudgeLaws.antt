@@ -3,14 +3,15 @@ use Prim.Native.Nat.{ℕ, zero, suc, _+_, _≤_}
 use mathlib.Core.Path.{_≡_, refl, sym, ap, _∙_}
 use mathlib.Core.List.{List, [], _∷_, _++_, map}
 use native.Mathlib.Omega.{arith}
-use lib.IntN.{ℤ}
-use lib.ListN.{length, getD, take, drop}
-use lib.Seq.{paste, take-suc, take-at, length-take-le}
+use lib.IntN.{ℤ, pos}
+use lib.ListN.{length, getD, take, drop, replicate}
+use lib.Seq.{paste, drop-paste, take-suc, take-at, length-take-le}
 use Rattle.bmap.specs.Plain.{numbers}
+use Rattle.bmap.specs.Limits.{mostFluents}
 use Rattle.bmap.specs.Domain.{Domain, Names, State, static, goal}
 use Rattle.bmap.specs.Judge.{pass, fault, Verdict, accepted, broken, Judged, history, allHold, carried, startOf, judge, ran, goalsAfter}
-use Rattle.judge.specs.States.{stateAt}
-use Rattle.judge.proofs.StateLaws.{map-snoc}
+use Rattle.judge.specs.States.{stateAt, Blank, marksFrom}
+use Rattle.judge.proofs.StateLaws.{map-snoc, same-after}
 
 module _ (d : Domain) (sheet : List Names) where
   pub judge-start : {kind n : ℕ} → allHold static 6 d (history d sheet (startOf d ∷ [])) 0 ≡ fault kind n → record { states = []; verdict = broken kind 0 n } ≡ judge d sheet
@@ -40,6 +41,16 @@ pub start-copied : (w : ℕ) (levels start h : List ℤ) {s : State} → w ≤ l
 start-copied w levels start h p e q =
     ap (λ (l : List ℤ). take w l) e
     ∙ (take-at (take w start) (drop (0 + w) levels) w (length-take-le w start p) ∙ sym q)
+
+-- nothing is written after it
+pub start-blank : (w : ℕ) (history start h : List ℤ) → w ≤ mostFluents → w ≤ length start → h ≡ paste history 0 (drop 0 start) w → Blank 0 history → Blank (marksFrom 0) h
+start-blank w history start h p q e blank i r =
+    same-after (pos 0) (0 + w) i history h (ap (drop (0 + w)) e ∙ drop-paste history 0 (drop 0 start) w (omega arith) q) (omega arith) ∙ blank i (omega arith)
+
+pub blank-zeros : (n i : ℕ) → getD (replicate n (pos 0)) i (pos 0) ≡ pos 0
+blank-zeros zero i = refl
+blank-zeros (suc n) zero = refl
+blank-zeros (suc n) (suc i) = blank-zeros n i
 
 -- the first levels of a list, one by one
 pub firsts : {A : Type 0} (z : A) (l : List A) (w : ℕ) → w ≤ length l → map (λ f. getD l f z) (numbers 0 w) ≡ take w l

@@ -1,5 +1,5 @@
 -- The new state, level by level, and check 5. Assumes nothing.
-use Prim.Native.Nat.{ℕ, _+_, _*_, _≤_, _<_}
+use Prim.Native.Nat.{ℕ, _+_, _≤_, _<_}
 use mathlib.Core.Path.{_≡_, refl, sym, ap, _∙_}
 use mathlib.Core.List.{List, map}
 use mathlib.Core.Bool.{Bool, true, false}
@@ -15,9 +15,9 @@ use mir.Syntax.{w16, w32}
 use mir.Val.{toZ, ofZ}
 use borrow.Author.Tests.{leb-true, eqb-true, eqb-false}
 use Rattle.bmap.specs.Plain.{both, if-else, numbers}
-use Rattle.bmap.specs.Limits.{mostFluents}
 use Rattle.bmap.specs.Domain.{Domain, Fluent, State}
 use Rattle.bmap.specs.Judge.{pass, fine, fault, unless, each, inRange, Setting, levelAfter, stateAfter}
+use Rattle.law.specs.Evaluate.{cellAt}
 use Rattle.number.proofs.BackLaws.{back32, back16}
 use Rattle.judge.specs.Answer.{kindOf}
 use Rattle.judge.specs.States.{stateAt, leaving}
@@ -47,10 +47,10 @@ filled-more z g l f {v} h before e k p = elim (decLt k f) [
 
 -- ---- settings over old levels
 
-pub laid-none : (w j : ℕ) (levels new : List ℤ) (fs : List ℕ) (vs : List ℤ) → ((f : ℕ) → f < w → getD new f (pos 0) ≡ getD levels (mostFluents * j + f) (pos 0))
-    → Laid w new (settingsOf 0 fs vs) (stateAt w levels j)
+pub laid-none : (w j : ℕ) (history new : List ℤ) (fs : List ℕ) (vs : List ℤ) → ((f : ℕ) → f < w → getD new f (pos 0) ≡ cellAt history j f)
+    → Laid w new (settingsOf 0 fs vs) (stateAt w history j)
 unfolding settingsOf levelAfter
-laid-none w j levels new fs vs e f p = e f p ∙ sym (level-of w j f levels p)
+laid-none w j history new fs vs e f p = e f p ∙ sym (level-of w j f history p)
 
 over-one : (b : Bool) (w : ℕ) (new : List ℤ) (f g : ℕ) (v : ℤ) (rest : ℤ) → eqb f g ≡ b → g < length new → getD new g (pos 0) ≡ rest → getD (set new f v) g (pos 0) ≡ if-else b v rest
 over-one true w new f g v rest t h e = let q : f ≡ g = eqb-true f g t in ap (λ (i : ℕ). getD (set new i v) g (pos 0)) q ∙ getD-set-same new g v (pos 0) h

@@ -43,23 +43,23 @@ stands d frame (executable e c) w = subst (λ (b : List ℕ). Constrained (count
 stands d frame (effect e c f x) w = subst (λ (b : List ℕ). Constrained (countsOf d) true b c) (drop-drop 1 2 frame) (says d frame (effect e c f x) w .1 .con)
 stands d frame (must s c) w = says d frame (must s c) w .1
 
-module _ (d : Domain) (asked : Bool) (h : History) (levels : List ℤ) (occurred : List ℕ) (j : ℕ) (seen : Seen asked d h levels occurred j) where
-  agreed : Agree (context (countsOf d) asked) j (historyOf levels occurred) h
+module _ (d : Domain) (asked : Bool) (h : History) (history : List ℤ) (j : ℕ) (seen : Seen asked d h history j) where
+  agreed : Agree (context (countsOf d) asked) j (historyOf history) h
   agreed = record { levels = λ k f p q. sym (seen .level k f p q); steps = λ a e k r p q. sym (seen .acted a k e p q r) }
 
-  pub con-seen : (c : Con) → allowedC (context (countsOf d) asked) c ≡ true → evalC c (historyOf levels occurred) j ≡ evalC c h j
+  pub con-seen : (c : Con) → allowedC (context (countsOf d) asked) c ≡ true → evalC c (historyOf history) j ≡ evalC c h j
   con-seen c fit = agree-c agreed c fit
 
-  pub expr-seen : (x : Expr) → allowedE (context (countsOf d) asked) x ≡ true → evalE x (historyOf levels occurred) j ≡ evalE x h j
+  pub expr-seen : (x : Expr) → allowedE (context (countsOf d) asked) x ≡ true → evalE x (historyOf history) j ≡ evalE x h j
   expr-seen x fit = agree-e agreed x fit
 
 -- what the evaluator answers of a law's constraint, where the law stands at place p
-pub truth-told : (d : Domain) (held : List ℕ) (p : ℕ) (l : Law) (h : History) (levels : List ℤ) (occurred : List ℕ) (j : ℕ) {at : ℕ} (w : Says d (drop p held) l) → at ≡ p + placeOf l → Seen (asksOf l) d h levels occurred j
-    → truthAt mostDepth held at levels occurred j ≡ gives (evalC (conOf l) h j) (at + stands d (drop p held) l w .used)
-truth-told d held p l h levels occurred j {at} w e seen =
+pub truth-told : (d : Domain) (held : List ℕ) (p : ℕ) (l : Law) (h : History) (history : List ℤ) (j : ℕ) {at : ℕ} (w : Says d (drop p held) l) → at ≡ p + placeOf l → Seen (asksOf l) d h history j
+    → truthAt mostDepth held at history j ≡ gives (evalC (conOf l) h j) (at + stands d (drop p held) l w .used)
+truth-told d held p l h history j {at} w e seen =
     let s = stands d (drop p held) l w in
     let read : parseC mostDepth (drop at held) ≡ some (record { tree = conOf l; used = s .used }) = ap (λ (k : ℕ). parseC mostDepth (drop k held)) e ∙ (ap (parseC mostDepth) (sym (drop-drop (placeOf l) p held)) ∙ s .read) in
-    rw read (ap (λ (v : Valued Bool). gives v (at + s .used)) (con-seen d (asksOf l) h levels occurred j seen (conOf l) (s .fit)))
+    rw read (ap (λ (v : Valued Bool). gives v (at + s .used)) (con-seen d (asksOf l) h history j seen (conOf l) (s .fit)))
 
 -- the same, of an answer that gives something, and of one that does not
 pub judged-given : {r : Judged} {t : Truth} {k : ℕ} {m : Meant (Valued Bool)} {v : Valued Bool} {n : ℕ} → judged r ≡ m → r ≡ truth-as.Gives t k → m ≡ gives v n → (truthOf t ≡ v) × (k ≡ n)
@@ -130,19 +130,19 @@ module _ (d : Domain) (held : List ℕ) (p : ℕ) (l : Law) (h : History) (j : �
       ap (λ (m : Law). sets d h j names m) (e .is)
       ∙ ap (λ (b : Bool). if-else b (setsIf (e .fluent) (evalE (e .expr) h j) (evalC (e .con) h j)) (value none)) (occurring (e .entry) (e .known) ∙ (ap (has mask) (e .owner ∙ getD-drop p held 2 0) ∙ q))
 
-  module _ (levels : List ℤ) (occurred : List ℕ) (seen : Seen true d h levels occurred j) where
-    pub effect-truth : truthAt mostDepth held (p + 3) levels occurred j ≡ gives (evalC (e .con) h j) (p + 3 + e .used)
-    effect-truth = rw (ap (parseC mostDepth) (sym (drop-drop 3 p held)) ∙ e .con-read) (ap (λ (v : Valued Bool). gives v (p + 3 + e .used)) (con-seen d true h levels occurred j seen (e .con) (e .con-fit)))
+  module _ (history : List ℤ) (seen : Seen true d h history j) where
+    pub effect-truth : truthAt mostDepth held (p + 3) history j ≡ gives (evalC (e .con) h j) (p + 3 + e .used)
+    effect-truth = rw (ap (parseC mostDepth) (sym (drop-drop 3 p held)) ∙ e .con-read) (ap (λ (v : Valued Bool). gives v (p + 3 + e .used)) (con-seen d true h history j seen (e .con) (e .con-fit)))
 
-    pub effect-value : settingFrom (getD held (p + 3 + e .used) 0) (valueAt mostDepth held (p + 3 + e .used + 1) levels occurred j) ≡ setsIf (e .fluent) (evalE (e .expr) h j) (value true)
+    pub effect-value : settingFrom (getD held (p + 3 + e .used) 0) (valueAt mostDepth held (p + 3 + e .used + 1) history j) ≡ setsIf (e .fluent) (evalE (e .expr) h j) (value true)
     effect-value =
         let after : p + 3 + e .used + 1 ≡ p + (3 + e .used + 1) = omega arith in
         let place : p + (3 + e .used) ≡ p + 3 + e .used = omega arith in
         let read : parseE mostDepth (drop (p + 3 + e .used + 1) held) ≡ some (record { tree = e .expr; used = e .expr-used }) = ap (λ (k : ℕ). parseE mostDepth (drop k held)) after ∙ (ap (parseE mostDepth) (sym (drop-drop (3 + e .used + 1) p held)) ∙ e .expr-read) in
         let target : e .fluent ≡ getD held (p + 3 + e .used) 0 = e .target ∙ (getD-drop p held (3 + e .used) 0 ∙ ap (λ (k : ℕ). getD held k 0) place) in
-        rw (read, ← target) (ap (λ (v : Valued ℤ). with1 (λ z. value (some (setting (e .fluent) z))) v) (expr-seen d true h levels occurred j seen (e .expr) (e .expr-fit)))
+        rw (read, ← target) (ap (λ (v : Valued ℤ). with1 (λ z. value (some (setting (e .fluent) z))) v) (expr-seen d true h history j seen (e .expr) (e .expr-fit)))
 
 -- nothing stands past the end
-pub no-value-past : (frame : List ℕ) (at f : ℕ) (levels : List ℤ) (occurred : List ℕ) (j : ℕ) → length frame ≤ at → no-value ≡ settingFrom f (valueAt mostDepth frame (at + 1) levels occurred j)
+pub no-value-past : (frame : List ℕ) (at f : ℕ) (history : List ℤ) (j : ℕ) → length frame ≤ at → no-value ≡ settingFrom f (valueAt mostDepth frame (at + 1) history j)
 unfolding parseE
-no-value-past frame at f levels occurred j h = rw (drop-of-length-le frame {i = at + 1} (omega arith))
+no-value-past frame at f history j h = rw (drop-of-length-le frame {i = at + 1} (omega arith))

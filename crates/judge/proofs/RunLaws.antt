@@ -8,23 +8,27 @@ use native.Mathlib.Omega.{arith}
 use native.Mathlib.Decide.{decLe}
 use native.Mathlib.Nat.{suc-mul}
 use lib.Dec.{eqb}
-use lib.ListN.{length, getD, take, drop, set, length-drop}
-use lib.Seq.{getD-drop, drop-drop, take-all, getD-set-same, getD-set-other}
+use lib.IntN.{ℤ, pos}
+use lib.ListN.{length, getD, take, drop, length-drop}
+use lib.Seq.{getD-drop, drop-drop, take-all}
 use borrow.Author.Tests.{eq-eqb, eqb-true}
 use Rattle.bmap.specs.Plain.{both, implies, all, any, numbers}
 use Rattle.bmap.proofs.PlainLaws.{both-false}
 use Rattle.bmap.specs.Domain.{Domain, Names, State, Entry, has, follows, occursIn, entryAt}
+use Rattle.bmap.specs.Limits.{mostFluents, mostEntries}
 use Rattle.bmap.specs.Sheet.{rows}
 use Rattle.bmap.specs.Judge.{broken, accepted, carries, step, carried}
+use Rattle.law.specs.Evaluate.{rowSize, marked, inStep}
 use Rattle.judge.specs.Answer.{kindOf}
 use Rattle.judge.specs.Masks.{joins, joinsAt, maskFrom, unionFrom}
-use Rattle.judge.specs.States.{leaving}
+use Rattle.judge.specs.States.{leaving, marksFrom}
 use Rattle.judge.specs.Told.{Occurring, Belonging, Acted}
 use Rattle.judge.specs.Prepared.{Entered}
 use Rattle.judge.specs.declared.verdict.Check.{Check}
 use Rattle.judge.specs.declared.verdict.Check.the-variants.{Passed, Failed}
 use Rattle.judge.specs.declared.verdict.Fault.{Fault}
 use Rattle.bmap.proofs.NumbersLaws.{map-at, map-length, all-at}
+use Rattle.judge.proofs.StateLaws.{same-before}
 use Rattle.judge.proofs.MaskLaws.{mask-bit, union-bit, any-map, any-same}
 
 -- ---- who acts
@@ -68,14 +72,21 @@ module _ (d : Domain) (names : Names) (actions crews : List ℕ) (count : ℕ) (
       (λ k p q. named a (entry k) h (occursIn d names (entry k)) refl (has (getD crews k 0) a) refl ∙ ap (λ (t : Bool). both t (has (getD crews k 0) a)) (sym (joins-is k)))
       ∙ (sym (union-bit (joinsAt names actions crews) crews 0 count a) ∙ ap (λ (k : ℕ). has k a) (sym m))))
 
--- the masks with one step more
-pub acted-more : (d : Domain) (sheet : List Names) (occurred : List ℕ) (j : ℕ) (names : Names) (mask : ℕ) → j + 1 < length occurred → getD sheet j [] ≡ names → Occurring d names mask → Acted d sheet occurred j
-    → Acted d sheet (set occurred (j + 1) mask) (j + 1)
-acted-more d sheet occurred j names mask h e o acted k i p q r = elim (decLe k j) [
-  | yes s ↦ acted k i p s r ∙ ap (λ (m : ℕ). has m i) (sym (getD-set-other occurred (j + 1) k mask 0 (λ z. omega arith)))
+-- ---- the marks of the steps
+
+-- those of earlier rows are kept
+pub acted-kept : (d : Domain) (sheet : List Names) (m n : ℕ) (h h′ : List ℤ) → length (d .entries) ≤ mostEntries → rowSize * m ≤ n → take n h′ ≡ take n h → Acted d sheet h m → Acted d sheet h′ m
+acted-kept d sheet m n h h′ few p e acted k i q r s =
+    acted k i q r s ∙ ap marked (sym (same-before (pos 0) n (rowSize * (k - 1) + (mostFluents + i)) h h′ e (omega arith)))
+
+-- with one step more
+pub acted-more : (d : Domain) (sheet : List Names) (j : ℕ) (h h′ : List ℤ) (names : Names) (mask : ℕ) → length (d .entries) ≤ mostEntries → take (marksFrom j) h′ ≡ take (marksFrom j) h → getD sheet j [] ≡ names
+    → Occurring d names mask → ((e : ℕ) → e < length (d .entries) → inStep h′ e (j + 1) ≡ has mask e) → Acted d sheet h j → Acted d sheet h′ (j + 1)
+acted-more d sheet j h h′ names mask few kept e o marks acted k i p q r = elim (decLe k j) [
+  | yes s ↦ acted-kept d sheet j (marksFrom j) h h′ few (omega arith) kept acted k i p s r
   | no s ↦ let z : k ≡ j + 1 = omega arith in
       ap (λ (m : ℕ). occursIn d (getD sheet m []) (entryAt d i)) (let y : k - 1 ≡ j = omega arith in y)
-      ∙ (ap (λ (l : Names). occursIn d l (entryAt d i)) e ∙ (o i r ∙ ap (λ (m : ℕ). has m i) (sym (ap (λ (m : ℕ). getD (set occurred (j + 1) mask) m 0) z ∙ getD-set-same occurred (j + 1) mask 0 h))))
+      ∙ (ap (λ (l : Names). occursIn d l (entryAt d i)) e ∙ (o i r ∙ (sym (marks i r) ∙ ap (inStep h′ i) (sym z))))
 ]
 
 -- ---- the steps of a sheet, row by row

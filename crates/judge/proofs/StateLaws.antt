@@ -1,18 +1,21 @@
 -- The states of a history, kept, filled and copied out. Assumes nothing.
-use Prim.Native.Nat.{ℕ, zero, suc, _+_, _*_, _≤_, _<_}
+use Prim.Native.Nat.{ℕ, zero, suc, _+_, _-_, _*_, _≤_, _<_}
 use mathlib.Core.Path.{_≡_, refl, sym, ap, _∙_}
+use mathlib.Core.Bool.{Bool, true, false}
 use mathlib.Core.List.{List, [], _∷_, _++_, map, append-assoc, append-nil}
 use native.Mathlib.Numerals.{add-one}
 use native.Mathlib.Omega.{arith}
 use native.Mathlib.Decide.{decLt}
 use lib.IntN.{ℤ, pos}
-use lib.ListN.{length, getD, take, drop, set, length-drop, length-append, List·getD-append}
-use lib.Seq.{getD-append-seam, getD-take, getD-drop, take-take, take-suc-set, drop-set-add, length-take-le, paste, paste-suc, take-append-seam, drop-append-add, drop-drop}
+use lib.ListN.{length, getD, take, drop, set, length-drop, length-append, length-set, List·getD-append}
+use lib.Seq.{getD-set-same, getD-set-other, getD-append-seam, getD-take, getD-drop, take-take, take-suc-set, take-set-le, drop-set-lt, drop-set-add, length-take-le, paste, paste-suc, take-append-seam, drop-append-add, drop-drop}
 use Rattle.bmap.specs.Plain.{flat, numbers}
-use Rattle.bmap.specs.Limits.{mostFluents}
-use Rattle.bmap.specs.Domain.{State}
+use Rattle.bmap.specs.Limits.{mostFluents, mostEntries}
+use Rattle.bmap.specs.Domain.{State, has}
+use Rattle.law.proofs.Bits.{no-bit}
 use Rattle.bmap.specs.Buffer.{over}
-use Rattle.judge.specs.States.{stateAt, statesOf}
+use Rattle.law.specs.Evaluate.{rowSize, cellAt, marked, inStep}
+use Rattle.judge.specs.States.{stateAt, statesOf, Between, Blank, marksFrom, markOf}
 
 -- ---- numbers copied one by one
 
@@ -39,11 +42,11 @@ states-at w (suc n) k h p = elim (decLt k n) [
       rw z (getD-append-seam (statesOf w n h) (stateAt w h n) [] [] ∙ ap (λ (m : ℕ). stateAt w h m) (sym (states-length w n h)))
 ]
 
-pub level-of : (w k f : ℕ) (h : List ℤ) → f < w → getD (stateAt w h k) f (pos 0) ≡ getD h (mostFluents * k + f) (pos 0)
-level-of w k f h p = getD-take w (drop (mostFluents * k) h) f (pos 0) p ∙ getD-drop (mostFluents * k) h f (pos 0)
+pub level-of : (w k f : ℕ) (h : List ℤ) → f < w → getD (stateAt w h k) f (pos 0) ≡ cellAt h k f
+level-of w k f h p = getD-take w (drop (rowSize * k) h) f (pos 0) p ∙ getD-drop (rowSize * k) h f (pos 0)
 
 -- a level of state k
-pub level-in : (w n k f : ℕ) (h : List ℤ) → k < n → f < w → getD (getD (statesOf w n h) k []) f (pos 0) ≡ getD h (mostFluents * k + f) (pos 0)
+pub level-in : (w n k f : ℕ) (h : List ℤ) → k < n → f < w → getD (getD (statesOf w n h) k []) f (pos 0) ≡ cellAt h k f
 level-in w n k f h p q = ap (λ (s : State). getD s f (pos 0)) (states-at w n k h p) ∙ level-of w k f h q
 
 pub part-take : {A : Type 0} (p w n : ℕ) (h : List A) → p + w ≤ n → take w (drop p (take n h)) ≡ take w (drop p h)
@@ -52,23 +55,62 @@ part-take (suc p) w zero h q = absurd (omega arith)
 part-take (suc p) w (suc n) [] q = refl
 part-take (suc p) w (suc n) (a ∷ h) q = part-take p w n h (omega arith)
 
-state-kept : (w n k : ℕ) (h h′ : List ℤ) → take n h′ ≡ take n h → mostFluents * k + w ≤ n → stateAt w h′ k ≡ stateAt w h k
-state-kept w n k h h′ e p = sym (part-take (mostFluents * k) w n h′ p) ∙ (ap (λ (l : List ℤ). take w (drop (mostFluents * k) l)) e ∙ part-take (mostFluents * k) w n h p)
+state-kept : (w n k : ℕ) (h h′ : List ℤ) → take n h′ ≡ take n h → rowSize * k + w ≤ n → stateAt w h′ k ≡ stateAt w h k
+state-kept w n k h h′ e p = sym (part-take (rowSize * k) w n h′ p) ∙ (ap (λ (l : List ℤ). take w (drop (rowSize * k) l)) e ∙ part-take (rowSize * k) w n h p)
 
-pub states-kept : (w n m : ℕ) (h h′ : List ℤ) → take n h′ ≡ take n h → w ≤ mostFluents → mostFluents * m ≤ n → statesOf w m h′ ≡ statesOf w m h
+pub states-kept : (w n m : ℕ) (h h′ : List ℤ) → take n h′ ≡ take n h → w ≤ mostFluents → rowSize * m ≤ n + mostEntries → statesOf w m h′ ≡ statesOf w m h
 unfolding statesOf
 states-kept w n zero h h′ e p q = refl
 states-kept w n (suc m) h h′ e p q = rw (states-kept w n m h h′ e p (omega arith), state-kept w n m h h′ e (omega arith))
 
 -- one more state
-pub states-more : (w j : ℕ) (h h′ : List ℤ) → take (mostFluents * (j + 1)) h′ ≡ take (mostFluents * (j + 1)) h → w ≤ mostFluents
+pub states-more : (w j : ℕ) (h h′ : List ℤ) → take (rowSize * (j + 1)) h′ ≡ take (rowSize * (j + 1)) h → w ≤ mostFluents
     → statesOf w (j + 1 + 1) h′ ≡ statesOf w (j + 1) h ++ (stateAt w h′ (j + 1) ∷ [])
 unfolding statesOf
-states-more w j h h′ e p = ap (λ (n : ℕ). statesOf w n h′) (add-one (j + 1)) ∙ ap (λ (l : List State). l ++ (stateAt w h′ (j + 1) ∷ [])) (states-kept w (mostFluents * (j + 1)) (j + 1) h h′ e p (omega arith))
+states-more w j h h′ e p = ap (λ (n : ℕ). statesOf w n h′) (add-one (j + 1)) ∙ ap (λ (l : List State). l ++ (stateAt w h′ (j + 1) ∷ [])) (states-kept w (rowSize * (j + 1)) (j + 1) h h′ e p (omega arith))
 
 pub states-one : (w : ℕ) (h : List ℤ) {s : State} → stateAt w h 0 ≡ s → statesOf w 1 h ≡ s ∷ []
 unfolding statesOf
 states-one w h e = ap (λ (s : State). s ∷ []) e
+
+-- ---- what a call leaves as it is
+
+pub same-before : {A : Type 0} (z : A) (n i : ℕ) (h h′ : List A) → take n h′ ≡ take n h → i < n → getD h′ i z ≡ getD h i z
+same-before {A} z n i h h′ e p = sym (getD-take n h′ i z p) ∙ (ap (λ (l : List A). getD l i z) e ∙ getD-take n h i z p)
+
+pub same-after : {A : Type 0} (z : A) (n i : ℕ) (h h′ : List A) → drop n h′ ≡ drop n h → n ≤ i → getD h′ i z ≡ getD h i z
+same-after {A} z n i h h′ e p =
+    let y : n + (i - n) ≡ i = omega arith in
+    ap (λ (k : ℕ). getD h′ k z) (sym y) ∙ (sym (getD-drop n h′ (i - n) z) ∙ (ap (λ (l : List A). getD l (i - n) z) e ∙ (getD-drop n h (i - n) z ∙ ap (λ (k : ℕ). getD h k z) y)))
+
+module _ (from to : ℕ) (h h′ : List ℤ) (b : Between from to h h′) where
+  pub between-set : (i : ℕ) (v : ℤ) → from ≤ i → i < to → Between from to h (set h′ i v)
+  between-set i v p q = record { before = take-set-le from h′ i v p ∙ b .before; after = drop-set-lt to h′ i v q ∙ b .after; long = length-set h′ i v ∙ b .long }
+
+  -- what was blank from a place on is so from the end of what may have changed
+  pub between-blank : (n : ℕ) → n ≤ to → Blank n h → Blank to h′
+  between-blank n p blank i q = same-after (pos 0) to i h h′ (b .after) q ∙ blank i (omega arith)
+
+-- ---- the marks of a step
+
+pub in-step : (h : List ℤ) (j e : ℕ) → inStep h e (j + 1) ≡ marked (getD h (marksFrom j + e) (pos 0))
+in-step h j e = ap (λ (k : ℕ). marked (getD h k (pos 0))) (let z : rowSize * (j + 1 - 1) + (mostFluents + e) ≡ rowSize * j + mostFluents + e = omega arith in z)
+
+-- none where nothing was written
+pub marks-none : (h : List ℤ) (j e : ℕ) → Blank (marksFrom j) h → inStep h e (j + 1) ≡ has 0 e
+marks-none h j e blank = in-step h j e ∙ (ap marked (blank (marksFrom j + e) (omega arith)) ∙ no-bit 0 0 e (omega arith) (omega arith))
+
+marked-is : (b : Bool) → marked (markOf b) ≡ b
+marked-is true = refl
+marked-is false = refl
+
+pub marks-more : (h : List ℤ) (at mask i : ℕ) {v : ℤ} → at + i < length h → v ≡ markOf (has mask i) → ((e : ℕ) → e < i → marked (getD h (at + e) (pos 0)) ≡ has mask e)
+    → (e : ℕ) → e < i + 1 → marked (getD (set h (at + i) v) (at + e) (pos 0)) ≡ has mask e
+marks-more h at mask i {v} p q before e r = elim (decLt e i) [
+  | yes s ↦ ap marked (getD-set-other h (at + i) (at + e) v (pos 0) (λ z. omega arith)) ∙ before e s
+  | no s ↦ let y : e ≡ i = omega arith in
+      ap (λ (k : ℕ). marked (getD (set h (at + i) v) (at + k) (pos 0))) y ∙ (ap marked (getD-set-same h (at + i) v (pos 0) p ∙ q) ∙ (marked-is (has mask i) ∙ ap (has mask) (sym y)))
+]
 
 -- ---- a row that is filled, a level at a time
 
@@ -97,9 +139,9 @@ unfolding flat
 flat-snoc [] s = append-nil s
 flat-snoc (a ∷ l) s = ap (λ (t : List ℤ). a ++ t) (flat-snoc l s) ∙ sym (append-assoc a (flat l) s)
 
-module _ (w k : ℕ) (h : List ℤ) (p : mostFluents * k + w ≤ length h) where
+module _ (w k : ℕ) (h : List ℤ) (p : rowSize * k + w ≤ length h) where
   pub state-length : length (stateAt w h k) ≡ w
-  state-length = length-take-le w (drop (mostFluents * k) h) (omega (arith, length-drop (mostFluents * k) h))
+  state-length = length-take-le w (drop (rowSize * k) h) (omega (arith, length-drop (rowSize * k) h))
 
   flat-more : flat (statesOf w (k + 1) h) ≡ flat (statesOf w k h) ++ stateAt w h k
   unfolding statesOf
@@ -110,7 +152,7 @@ module _ (w k : ℕ) (h : List ℤ) (p : mostFluents * k + w ≤ length h) where
 
   -- one more state, pasted after those that are written
   pub written-more : (d l : List ℤ) (at : ℕ) → at ≡ length (flat (statesOf w k h)) → l ≡ over (flat (statesOf w k h)) d
-      → paste l at (drop (mostFluents * k) h) w ≡ over (flat (statesOf w (k + 1) h)) d
+      → paste l at (drop (rowSize * k) h) w ≡ over (flat (statesOf w (k + 1) h)) d
   written-more d l at a e = rw (e, a, take-append-seam, drop-append-add, drop-drop, flat-length, flat-more)
 
 pub written-none : (w : ℕ) (h d : List ℤ) → d ≡ over (flat (statesOf w 0 h)) d

@@ -1,15 +1,15 @@
 -- A step, joined from its checks. Assumes nothing.
-use Prim.Native.Nat.{ℕ, suc, _+_, _*_, _≤_, _<_}
+use Prim.Native.Nat.{ℕ, suc, _+_, _≤_, _<_}
 use mathlib.Core.Path.{_≡_, refl, sym, ap, _∙_, subst}
 use mathlib.Core.List.{List, [], _∷_, _++_}
 use mathlib.Core.Bool.{true, false}
 use native.Mathlib.Numerals.{add-one}
 use native.Mathlib.Omega.{arith}
-use lib.IntN.{ℤ, pos}
+use lib.IntN.{ℤ}
 use lib.ListN.{length, getD}
-use Rattle.bmap.specs.Limits.{mostFluents}
 use Rattle.bmap.specs.Domain.{Domain, Names, State, static, concurrency}
 use Rattle.bmap.specs.Judge.{Checked, fine, fault, Pass, pass, next, each, inRange, Setting, settled, stateAfter, history, allHold, placed, mayOccur, step, landed}
+use Rattle.law.specs.Evaluate.{cellAt}
 use Rattle.judge.specs.Answer.{passOf, kindOf}
 use Rattle.judge.specs.States.{statesOf, leaving}
 use Rattle.judge.specs.Landing.{ranged}
@@ -21,18 +21,18 @@ use Rattle.judge.proofs.StateLaws.{level-in}
 
 -- ---- the history that the laws read
 
-module _ (d : Domain) (sheet : List Names) (w : ℕ) (levels : List ℤ) (occurred : List ℕ) (j : ℕ) (count : length (d .fluents) ≡ w) where
-  seen-level : (k f : ℕ) → k ≤ j → f < length (d .fluents) → history d sheet (statesOf w (j + 1) levels) .level k f ≡ getD levels (mostFluents * k + f) (pos 0)
+module _ (d : Domain) (sheet : List Names) (w : ℕ) (cells : List ℤ) (j : ℕ) (count : length (d .fluents) ≡ w) where
+  seen-level : (k f : ℕ) → k ≤ j → f < length (d .fluents) → history d sheet (statesOf w (j + 1) cells) .level k f ≡ cellAt cells k f
   unfolding history
-  seen-level k f p q = level-in w (j + 1) k f levels (omega arith) (omega arith)
+  seen-level k f p q = level-in w (j + 1) k f cells (omega arith) (omega arith)
 
-  pub seen-states : Seen false d (history d sheet (statesOf w (j + 1) levels)) levels occurred j
+  pub seen-states : Seen false d (history d sheet (statesOf w (j + 1) cells)) cells j
   seen-states = record { level = seen-level; acted = λ e. absurd (let z : _≡_ {A = ℕ} 0 1 = cc in omega arith) }
 
-  pub seen-at : {states : List State} → statesOf w (j + 1) levels ≡ states → Seen false d (history d sheet states) levels occurred j
-  seen-at e = subst (λ (s : List State). Seen false d (history d sheet s) levels occurred j) e seen-states
+  pub seen-at : {states : List State} → statesOf w (j + 1) cells ≡ states → Seen false d (history d sheet states) cells j
+  seen-at e = subst (λ (s : List State). Seen false d (history d sheet s) cells j) e seen-states
 
-  pub seen-all : Acted d sheet occurred (j + 1) → Seen true d (history d sheet (statesOf w (j + 1) levels)) levels occurred j
+  pub seen-all : Acted d sheet cells (j + 1) → Seen true d (history d sheet (statesOf w (j + 1) cells)) cells j
   unfolding history
   seen-all acted = record { level = seen-level; acted = λ e. acted }
 

@@ -6,16 +6,17 @@ use mathlib.Core.List.{List, map}
 use lib.IntN.{ℤ}
 use lib.ListN.{length, getD}
 use Rattle.bmap.specs.Plain.{numbers}
-use Rattle.bmap.specs.Limits.{mostSteps, levelsSize}
+use Rattle.bmap.specs.Limits.{mostSteps}
 use Rattle.bmap.specs.Refusal.{got}
 use Rattle.bmap.specs.Domain.{Domain}
 use Rattle.bmap.specs.Supplement.{Replacement, replaced, supplementIn}
 use Rattle.bmap.specs.Judge.{Judged}
+use Rattle.law.specs.Evaluate.{historySize}
 use Rattle.index.specs.Index.{domainOf}
 use Rattle.supplement.specs.Under.{underIn}
 use Rattle.supplement.specs.declared.under.Under.{Under}
 use Rattle.judge.specs.Answer.{verdictOf}
-use Rattle.judge.specs.States.{statesOf}
+use Rattle.judge.specs.States.{statesOf, Blank}
 use Rattle.judge.specs.Landing.{Ranged}
 use Rattle.judge.specs.Told.{Lawful, Owned, Ordered}
 use Rattle.judge.specs.declared.reading.Runs.{Runs}
@@ -33,11 +34,12 @@ pub record Governs (store supplement : List ℕ) (u : Under) (d : Domain) : Type
   pub is : replaced replacements (domainOf store (u .index)) ≡ d
 
 -- a sheet of so many steps that can be judged by it
-pub record Judgeable (store supplement : List ℕ) (u : Under) (sheet : List ℕ) (n : ℕ) (levels : List ℤ) : Type 0 where
+pub record Judgeable (store supplement : List ℕ) (u : Under) (sheet : List ℕ) (n : ℕ) (history : List ℤ) : Type 0 where
   pub accepted : Accepted store supplement u
   pub steps : n ≤ mostSteps
   pub whole : length sheet ≡ n * u .index .counts .agents
-  pub room : length levels ≡ levelsSize
+  pub room : length history ≡ historySize
+  pub blank : Blank 0 history
 
 -- the held laws, who may read them and where those of each kind stand, the fluents' bounds, the number of entries
 pub record Prepared (d : Domain) (held owners : List ℕ) (n : ℕ) (runs : Runs) (lowest highest : List ℤ) (w count : ℕ) : Type 0 where
@@ -53,4 +55,4 @@ Entered d actions crews count = d .entries ≡ map (λ i. record { name = getD a
 
 -- what a run leaves: its verdict, and the states that it reached in the history
 abbrev pub judgedOf : ℕ → Ran → List ℤ → Judged
-judgedOf w r levels = record { states = statesOf w (r .reached) levels; verdict = verdictOf (r .verdict) }
+judgedOf w r history = record { states = statesOf w (r .reached) history; verdict = verdictOf (r .verdict) }

@@ -4,10 +4,10 @@ use mathlib.Core.Path.{_≡_}
 use mathlib.Core.Bool.{Bool, true}
 use mathlib.Core.List.{List, [], _++_}
 use mathlib.Core.Option.{some}
-use lib.IntN.{ℤ, pos}
+use lib.IntN.{ℤ}
 use lib.ListN.{length, getD, take, drop}
 use Rattle.bmap.specs.Plain.{any, if-else}
-use Rattle.bmap.specs.Limits.{mostFluents, mostEntries, mostLaws, mostPayload, frameSize}
+use Rattle.bmap.specs.Limits.{mostEntries, mostLaws, mostPayload, frameSize}
 use Rattle.bmap.specs.Line.{effectKind, staticKind, concurrencyKind, goalKind}
 use Rattle.bmap.specs.Tree.{Con, always}
 use Rattle.bmap.specs.Meaning.{History}
@@ -16,7 +16,7 @@ use Rattle.bmap.specs.Judge.{carries}
 use Rattle.bmap.specs.Payload.{lawIn, asks}
 use Rattle.bmap.specs.Accept.{countsOf}
 use Rattle.index.specs.Index.{frameBytes, lawNumber}
-use Rattle.law.specs.Evaluate.{heldSize}
+use Rattle.law.specs.Evaluate.{heldSize, cellAt, inStep}
 use Rattle.supplement.specs.Force.{payloadOf}
 use Rattle.judge.specs.declared.reading.Runs.{Runs}
 
@@ -133,10 +133,10 @@ pub record Ordered (held owners : List ℕ) (n : ℕ) (runs : Runs) : Type 0 whe
 abbrev pub Few : Runs → Type 0
 Few runs = (((i : ℕ) → i < mostEntries → getD (runs .last) i 0 ≤ mostLaws) × (runs .effect .to ≤ mostLaws)) × ((runs .fixed .to ≤ mostLaws) × ((runs .concurrency .to ≤ mostLaws) × (runs .goal .to ≤ mostLaws)))
 
--- the levels of the states 0 to j are those of a history, and the masks of the steps 1 to j + 1 its occurrences, if they are asked
-pub record Seen (asked : Bool) (d : Domain) (h : History) (levels : List ℤ) (occurred : List ℕ) (j : ℕ) : Type 0 where
-  pub level : (k f : ℕ) → k ≤ j → f < length (d .fluents) → h .level k f ≡ getD levels (mostFluents * k + f) (pos 0)
-  pub acted : asked ≡ true → (k e : ℕ) → 1 ≤ k → k ≤ j + 1 → e < length (d .entries) → h .occurred e k ≡ has (getD occurred k 0) e
+-- the levels of the states 0 to j are those of a history, and the marks of the steps 1 to j + 1 its occurrences, if they are asked
+pub record Seen (asked : Bool) (d : Domain) (h : History) (history : List ℤ) (j : ℕ) : Type 0 where
+  pub level : (k f : ℕ) → k ≤ j → f < length (d .fluents) → h .level k f ≡ cellAt history k f
+  pub acted : asked ≡ true → (k e : ℕ) → 1 ≤ k → k ≤ j + 1 → e < length (d .entries) → h .occurred e k ≡ inStep history e k
 
 -- a mask has the entries that occur in a step
 abbrev pub Occurring : Domain → Names → ℕ → Type 0
@@ -146,6 +146,6 @@ Occurring d names mask = (e : ℕ) → e < length (d .entries) → occursIn d na
 abbrev pub Belonging : Domain → Names → ℕ → Type 0
 Belonging d names mask = (a : ℕ) → a < length names → any (carries d names a (getD names a 0)) (d .entries) ≡ has mask a
 
--- masks of the steps 1 to m of a sheet
-abbrev pub Acted : Domain → List Names → List ℕ → ℕ → Type 0
-Acted d sheet occurred m = (k e : ℕ) → 1 ≤ k → k ≤ m → e < length (d .entries) → occursIn d (getD sheet (k - 1) []) (entryAt d e) ≡ has (getD occurred k 0) e
+-- the marks of the steps 1 to m of a sheet
+abbrev pub Acted : Domain → List Names → List ℤ → ℕ → Type 0
+Acted d sheet history m = (k e : ℕ) → 1 ≤ k → k ≤ m → e < length (d .entries) → occursIn d (getD sheet (k - 1) []) (entryAt d e) ≡ inStep history e k

@@ -21,9 +21,8 @@ use crate::verdict::Check;
 use crate::verdict::Fault;
 use bmap::Counts;
 use bmap::FRAME;
-use bmap::LEVELS;
-use bmap::Sheet;
 use law::HELD;
+use law::HISTORY;
 use number::Truth;
 
 // 1: "each agent by number: it names an action but belongs to no occurring entry with that name". The mask has the agents
@@ -48,20 +47,19 @@ pub(crate) fn check_agents(names: &[u8], agents: u16) -> Check
 fn try_law(
     held: &[u8; HELD],
     owners: &[u8; Counts::LAWS],
-    levels: &[i16; LEVELS],
-    occurred: &[u64; Sheet::STEPS + 1],
+    history: &[i16; HISTORY],
     j: usize,
     i: usize,
     l: usize,
 ) -> Truth
     requires { ⌜ (i < mostEntries) × (l < mostLaws) ⌝ }
-    ensures { λ r. ⌜ ((d : Domain) (h : History) (n : ℕ) → Lawful d (now (held .entry)) n → l < n → Owned d (now (owners .entry)) → Seen true d h (now (levels .entry)) (now (occurred .entry)) j
+    ensures { λ r. ⌜ ((d : Domain) (h : History) (n : ℕ) → Lawful d (now (held .entry)) n → l < n → Owned d (now (owners .entry)) → Seen true d h (now (history .entry)) j
         → truthOf r ≡ permits d h j i (lawNumber d l)) ⌝ }
 {
     if wide(owners[l]) != i {
         return Truth::Is(false);
     }
-    constraint_of(held, FRAME * l + 3, levels, occurred, j)
+    constraint_of(held, FRAME * l + 3, history, j)
 }
 
 // "its A5 laws in order until one is true": entry i.
@@ -70,18 +68,17 @@ fn check_entry(
     owners: &[u8; Counts::LAWS],
     from: usize,
     to: usize,
-    levels: &[i16; LEVELS],
-    occurred: &[u64; Sheet::STEPS + 1],
+    history: &[i16; HISTORY],
     j: usize,
     i: usize,
 ) -> Check
     requires { ⌜ (i < mostEntries) × (to ≤ mostLaws) ⌝ }
     ensures { λ r. ⌜ ((d : Domain) (h : History) (n : ℕ) → Lawful d (now (held .entry)) n → Own (now (owners .entry)) n i from to → Owned d (now (owners .entry))
-        → Seen true d h (now (levels .entry)) (now (occurred .entry)) j → passOf r ≡ permitted d h j i 0 (d .laws)) ⌝ }
+        → Seen true d h (now (history .entry)) j → passOf r ≡ permitted d h j i 0 (d .laws)) ⌝ }
 {
     let mut l = from;
     while l < to {
-        match try_law(held, owners, levels, occurred, j, i, l) {
+        match try_law(held, owners, history, j, i, l) {
             Truth::NoTruth => {
                 return Check::Failed(Fault::NoValue, l);
             }
@@ -104,13 +101,12 @@ pub(crate) fn check_entries(
     last: &[u8; Counts::ENTRIES],
     entries: u64,
     count: usize,
-    levels: &[i16; LEVELS],
-    occurred: &[u64; Sheet::STEPS + 1],
+    history: &[i16; HISTORY],
     j: usize,
 ) -> Check
     requires { ⌜ (count ≤ mostEntries) × ((i : ℕ) → i < mostEntries → getD (now last) i 0 ≤ mostLaws) ⌝ }
     ensures { λ r. ⌜ ((d : Domain) (h : History) (n : ℕ) (names : Names) → Lawful d (now (held .entry)) n → Owns (now (owners .entry)) n (now (first .entry)) (now (last .entry)) → Owned d (now (owners .entry))
-        → Occurring d names entries → length (d .entries) ≡ count → Seen true d h (now (levels .entry)) (now (occurred .entry)) j → passOf r ≡ each (mayOccur d h j names) (d .entries)) ⌝ }
+        → Occurring d names entries → length (d .entries) ≡ count → Seen true d h (now (history .entry)) j → passOf r ≡ each (mayOccur d h j names) (d .entries)) ⌝ }
 {
     let mut i = 0;
     while i < count {
@@ -120,8 +116,7 @@ pub(crate) fn check_entries(
                 owners,
                 wide(first[i]),
                 wide(last[i]),
-                levels,
-                occurred,
+                history,
                 j,
                 i,
             ) {
@@ -139,19 +134,18 @@ fn check_law(
     at: usize,
     kind: u8,
     fault: Fault,
-    levels: &[i16; LEVELS],
-    occurred: &[u64; Sheet::STEPS + 1],
+    history: &[i16; HISTORY],
     j: usize,
     l: usize,
 ) -> Check
     requires { ⌜ at < heldSize ⌝ }
-    ensures { λ r. ⌜ ((d : Domain) (h : History) (s : Scope) (law : Law) → kind ≡ scopeKind s → Says d (drop at (now (held .entry))) law → Seen (asks s) d h (now (levels .entry)) (now (occurred .entry)) j
+    ensures { λ r. ⌜ ((d : Domain) (h : History) (s : Scope) (law : Law) → kind ≡ scopeKind s → Says d (drop at (now (held .entry))) law → Seen (asks s) d h (now (history .entry)) j
         → passOf r ≡ holds s (kindOf fault) h j l law) ⌝ }
 {
     if held[at] != kind {
         return Check::Passed;
     }
-    match constraint_of(held, at + 2, levels, occurred, j) {
+    match constraint_of(held, at + 2, history, j) {
         Truth::NoTruth => Check::Failed(Fault::NoValue, l),
         Truth::Is(met) => {
             if met {
@@ -169,13 +163,12 @@ pub(crate) fn check_laws(
     to: usize,
     kind: u8,
     fault: Fault,
-    levels: &[i16; LEVELS],
-    occurred: &[u64; Sheet::STEPS + 1],
+    history: &[i16; HISTORY],
     j: usize,
 ) -> Check
     requires { ⌜ to ≤ mostLaws ⌝ }
     ensures { λ r. ⌜ ((d : Domain) (h : History) (s : Scope) (n : ℕ) → kind ≡ scopeKind s → Lawful d (now (held .entry)) n → Within (now (held .entry)) n kind from to
-        → Seen (asks s) d h (now (levels .entry)) (now (occurred .entry)) j → passOf r ≡ allHold s (kindOf fault) d h j) ⌝ }
+        → Seen (asks s) d h (now (history .entry)) j → passOf r ≡ allHold s (kindOf fault) d h j) ⌝ }
 {
     let mut l = from;
     while l < to {
@@ -184,8 +177,7 @@ pub(crate) fn check_laws(
             FRAME * l,
             kind,
             fault,
-            levels,
-            occurred,
+            history,
             j,
             l,
         ) {

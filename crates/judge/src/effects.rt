@@ -18,9 +18,8 @@ use crate::reading::wanted;
 use crate::verdict::Fault;
 use bmap::Counts;
 use bmap::FRAME;
-use bmap::LEVELS;
-use bmap::Sheet;
 use law::HELD;
+use law::HISTORY;
 
 // So many settings, or the first fault and its law.
 pub enum Settled {
@@ -45,21 +44,20 @@ pub(crate) fn settle(
     from: usize,
     to: usize,
     entries: u64,
-    levels: &[i16; LEVELS],
-    occurred: &[u64; Sheet::STEPS + 1],
+    history: &[i16; HISTORY],
     j: usize,
     fluents: &mut [u8; Counts::LAWS],
     values: &mut [i32; Counts::LAWS],
 ) -> Settled
     requires { ⌜ (to ≤ mostLaws) × ((length (now fluents) ≡ mostLaws) × (length (now values) ≡ mostLaws)) ⌝ }
     ensures { λ r. ⌜ (countOf r ≤ mostLaws) × ((d : Domain) (h : History) (n : ℕ) (names : Names) → Lawful d (now (held .entry)) n → Within (now (held .entry)) n effectKind from to
-        → Occurring d names entries → Seen true d h (now (levels .entry)) (now (occurred .entry)) j → settledOf r (now (fluents .exit)) (now (values .exit)) ≡ settled d h j names 0 [] (d .laws)) ⌝ }
+        → Occurring d names entries → Seen true d h (now (history .entry)) j → settledOf r (now (fluents .exit)) (now (values .exit)) ≡ settled d h j names 0 [] (d .laws)) ⌝ }
 {
     let mut bad = to;
     let mut m = 0;
     let mut l = from;
     'laws: while l < to {
-        match wanted(held, FRAME * l, entries, levels, occurred, j) {
+        match wanted(held, FRAME * l, entries, history, j) {
             Wants::Blank => {
                 return Settled::Clash(Fault::NoValue, l);
             }

@@ -9,6 +9,7 @@ ghost use Rattle.bmap.specs.Sheet.{rows, sheetOf};
 ghost use Rattle.bmap.specs.Supplement.{judgeUnder};
 ghost use Rattle.bmap.specs.Judge.{judge};
 ghost use Rattle.bmap.specs.Verdict.{judgement, judgeSheet};
+ghost use Rattle.law.specs.Evaluate.{historySize};
 ghost use Rattle.judge.specs.Answer.{answerOf, statesIn, statesWritten, statesWrittenUnder};
 ghost use Rattle.judge.specs.Prepared.{judgedOf, Accepted, Governs, Judgeable};
 use crate::held::hold_laws;
@@ -23,6 +24,7 @@ use bmap::LEVELS;
 use bmap::Refusal;
 use bmap::Sheet;
 use law::HELD;
+use law::HISTORY;
 use supplement::Under;
 use supplement::index_of;
 
@@ -33,12 +35,12 @@ fn judge_steps<'a>(
     under: Under,
     sheet: &[u8],
     n: usize,
-    levels: &mut [i16; LEVELS],
+    history: &mut [i16; HISTORY],
 ) -> Ran
-    requires { ⌜ Judgeable (now store) (now supplement) under (now sheet) n (now levels) ⌝ }
-    ensures { λ r. ⌜ ((r .reached ≤ mostSteps + 1) × (length (now (levels .exit)) ≡ levelsSize))
+    requires { ⌜ Judgeable (now store) (now supplement) under (now sheet) n (now history) ⌝ }
+    ensures { λ r. ⌜ ((r .reached ≤ mostSteps + 1) × (length (now (history .exit)) ≡ historySize))
         × ((d : Domain) → Governs (now (store .entry)) (now (supplement .entry)) under d
-        → judgedOf (under .index .counts .fluents) r (now (levels .exit)) ≡ judge d (rows (under .index .counts .agents) n (now (sheet .entry)))) ⌝ }
+        → judgedOf (under .index .counts .fluents) r (now (history .exit)) ≡ judge d (rows (under .index .counts .agents) n (now (sheet .entry)))) ⌝ }
 {
     let counts = under.index.counts;
     let laws = under.index.laws;
@@ -75,7 +77,7 @@ fn judge_steps<'a>(
         counts.agents,
         sheet,
         n,
-        levels,
+        history,
     )
 }
 
@@ -114,7 +116,7 @@ fn judge_by<'a>(
             states: 0,
         };
     }
-    let mut history = [0i16; LEVELS];
+    let mut history = [0i16; HISTORY];
     let ran = judge_steps(store, supplement, under, sheet, n, &mut history);
     copy_states(&history, ran.reached, counts.fluents, levels);
     let verdict = ran.verdict;

@@ -4,26 +4,28 @@ ghost use mathlib.Core.List.{List};
 ghost use Prim.Native.Nat.{ℕ, _+_, _*_, _≤_, _<_};
 ghost use lib.IntN.{pos};
 ghost use lib.ListN.{length, getD, set};
-ghost use Rattle.bmap.specs.Limits.{mostFluents, mostSteps, mostLaws, levelsSize};
+ghost use Rattle.bmap.specs.Limits.{mostFluents, mostSteps, mostLaws};
 ghost use Rattle.bmap.specs.Domain.{Domain, State};
 ghost use Rattle.bmap.specs.Judge.{Setting, stateAfter};
+ghost use Rattle.law.specs.Evaluate.{historySize, cellAt};
 ghost use Rattle.judge.specs.States.{stateAt, leaving, Kept};
 ghost use Rattle.judge.specs.Settings.{settingsOf};
 ghost use Rattle.judge.specs.Landing.{Ranged, Laid, ranged, fitOf};
 use crate::verdict::Check;
 use crate::verdict::Fault;
 use bmap::Counts;
-use bmap::LEVELS;
+use law::HISTORY;
+use law::ROW;
 
 // The levels of state j, wide enough for what an expression gives.
-fn old_levels(levels: &[i16; LEVELS], j: usize, w: usize) -> [i32; Counts::FLUENTS]
-    requires { ⌜ (j ≤ mostSteps) × ((w ≤ mostFluents) × (length (now levels) ≡ levelsSize)) ⌝ }
-    ensures { λ r. ⌜ (length r ≡ mostFluents) × ((f : ℕ) → f < w → getD r f (pos 0) ≡ getD (now (levels .entry)) (mostFluents * j + f) (pos 0)) ⌝ }
+fn old_levels(history: &[i16; HISTORY], j: usize, w: usize) -> [i32; Counts::FLUENTS]
+    requires { ⌜ (j ≤ mostSteps) × ((w ≤ mostFluents) × (length (now history) ≡ historySize)) ⌝ }
+    ensures { λ r. ⌜ (length r ≡ mostFluents) × ((f : ℕ) → f < w → getD r f (pos 0) ≡ cellAt (now (history .entry)) j f) ⌝ }
 {
     let mut old = [0i32; Counts::FLUENTS];
     let mut f = 0;
     while f < w {
-        old[f] = levels[Counts::FLUENTS * j + f] as i32;
+        old[f] = history[ROW * j + f] as i32;
         f += 1;
     }
     old
@@ -41,17 +43,17 @@ fn put(new: &mut [i32; Counts::FLUENTS], f: u8, v: i32)
 
 // "Fluents that no law set keep their value": the settings over the old levels, the oldest first.
 pub(crate) fn new_levels(
-    levels: &[i16; LEVELS],
+    history: &[i16; HISTORY],
     j: usize,
     w: usize,
     fluents: &[u8; Counts::LAWS],
     values: &[i32; Counts::LAWS],
     m: usize,
 ) -> [i32; Counts::FLUENTS]
-    requires { ⌜ (j ≤ mostSteps) × ((w ≤ mostFluents) × ((length (now levels) ≡ levelsSize) × (m ≤ mostLaws))) ⌝ }
-    ensures { λ r. ⌜ (length r ≡ mostFluents) × Laid w r (settingsOf m (now (fluents .entry)) (now (values .entry))) (stateAt w (now (levels .entry)) j) ⌝ }
+    requires { ⌜ (j ≤ mostSteps) × ((w ≤ mostFluents) × ((length (now history) ≡ historySize) × (m ≤ mostLaws))) ⌝ }
+    ensures { λ r. ⌜ (length r ≡ mostFluents) × Laid w r (settingsOf m (now (fluents .entry)) (now (values .entry))) (stateAt w (now (history .entry)) j) ⌝ }
 {
-    let mut new = old_levels(levels, j, w);
+    let mut new = old_levels(history, j, w);
     let mut i = 0;
     while i < m {
         put(&mut new, fluents[i], values[i]);
@@ -82,12 +84,12 @@ pub(crate) fn put_state(
     highest: &[i16; Counts::FLUENTS],
     w: usize,
     new: &[i32; Counts::FLUENTS],
-    levels: &mut [i16; LEVELS],
+    history: &mut [i16; HISTORY],
     j: usize,
 ) -> Check
-    requires { ⌜ (j < mostSteps) × ((w ≤ mostFluents) × (((w ≤ length (now lowest)) × (w ≤ length (now highest))) × (length (now levels) ≡ levelsSize))) ⌝ }
-    ensures { λ r. ⌜ Kept j (now (levels .entry)) (now (levels .exit)) × ((d : Domain) (settings : List Setting) (old : State) → Ranged d (now (lowest .entry)) (now (highest .entry)) w → Laid w (now (new .entry)) settings old
-        → leaving r (stateAt w (now (levels .exit)) (j + 1)) ≡ ranged d (stateAfter d settings old)) ⌝ }
+    requires { ⌜ (j < mostSteps) × ((w ≤ mostFluents) × (((w ≤ length (now lowest)) × (w ≤ length (now highest))) × (length (now history) ≡ historySize))) ⌝ }
+    ensures { λ r. ⌜ Kept j (now (history .entry)) (now (history .exit)) × ((d : Domain) (settings : List Setting) (old : State) → Ranged d (now (lowest .entry)) (now (highest .entry)) w → Laid w (now (new .entry)) settings old
+        → leaving r (stateAt w (now (history .exit)) (j + 1)) ≡ ranged d (stateAfter d settings old)) ⌝ }
 {
     let mut f = 0;
     while f < w {
@@ -96,7 +98,7 @@ pub(crate) fn put_state(
                 return Check::Failed(Fault::Range, f);
             }
             Fit::In(z) => {
-                levels[Counts::FLUENTS * (j + 1) + f] = z;
+                history[ROW * (j + 1) + f] = z;
             }
         }
         f += 1;

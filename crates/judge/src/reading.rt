@@ -19,10 +19,9 @@ use crate::knowledge::first_own;
 use bmap::Counts;
 use bmap::FRAME;
 use bmap::Kind;
-use bmap::LEVELS;
-use bmap::Sheet;
 use law::Evaluated;
 use law::HELD;
+use law::HISTORY;
 use law::Judged;
 use number::Truth;
 use number::Value;
@@ -31,13 +30,12 @@ use number::Value;
 pub(crate) fn constraint_of(
     held: &[u8; HELD],
     at: usize,
-    levels: &[i16; LEVELS],
-    occurred: &[u64; Sheet::STEPS + 1],
+    history: &[i16; HISTORY],
     j: usize,
 ) -> Truth
-    ensures { λ r. ⌜ ((d : Domain) (h : History) (l : Law) (p : ℕ) → Says d (drop p (now (held .entry))) l → at ≡ p + placeOf l → Seen (asksOf l) d h (now (levels .entry)) (now (occurred .entry)) j → truthOf r ≡ evalC (conOf l) h j) ⌝ }
+    ensures { λ r. ⌜ ((d : Domain) (h : History) (l : Law) (p : ℕ) → Says d (drop p (now (held .entry))) l → at ≡ p + placeOf l → Seen (asksOf l) d h (now (history .entry)) j → truthOf r ≡ evalC (conOf l) h j) ⌝ }
 {
-    match law::constraint_at(held, at, levels, occurred, j) {
+    match law::constraint_at(held, at, history, j) {
         Judged::Gives(truth, _) => truth,
         Judged::Malformed => Truth::NoTruth,
     }
@@ -54,17 +52,16 @@ pub enum Wants {
 fn setting_at(
     held: &[u8; HELD],
     at: usize,
-    levels: &[i16; LEVELS],
-    occurred: &[u64; Sheet::STEPS + 1],
+    history: &[i16; HISTORY],
     j: usize,
 ) -> Wants
-    ensures { λ r. ⌜ (length (now (held .entry)) ≡ heldSize → wantsOf r ≡ settingFrom (getD (now (held .entry)) at 0) (valueAt mostDepth (now (held .entry)) (at + 1) (now (levels .entry)) (now (occurred .entry)) j)) ⌝ }
+    ensures { λ r. ⌜ (length (now (held .entry)) ≡ heldSize → wantsOf r ≡ settingFrom (getD (now (held .entry)) at 0) (valueAt mostDepth (now (held .entry)) (at + 1) (now (history .entry)) j)) ⌝ }
 {
     if HELD <= at {
         return Wants::Blank;
     }
     let f = held[at];
-    let Evaluated::Gives(value, _) = law::expression_at(held, at + 1, levels, occurred, j) else {
+    let Evaluated::Gives(value, _) = law::expression_at(held, at + 1, history, j) else {
         return Wants::Blank;
     };
     match value {
@@ -78,12 +75,11 @@ pub(crate) fn wanted(
     held: &[u8; HELD],
     at: usize,
     entries: u64,
-    levels: &[i16; LEVELS],
-    occurred: &[u64; Sheet::STEPS + 1],
+    history: &[i16; HISTORY],
     j: usize,
 ) -> Wants
     requires { ⌜ at + 2 < heldSize ⌝ }
-    ensures { λ r. ⌜ ((d : Domain) (h : History) (l : Law) (names : Names) → length (now (held .entry)) ≡ heldSize → Says d (drop at (now (held .entry))) l → Occurring d names entries → Seen true d h (now (levels .entry)) (now (occurred .entry)) j → wantsOf r ≡ sets d h j names l) ⌝ }
+    ensures { λ r. ⌜ ((d : Domain) (h : History) (l : Law) (names : Names) → length (now (held .entry)) ≡ heldSize → Says d (drop at (now (held .entry))) l → Occurring d names entries → Seen true d h (now (history .entry)) j → wantsOf r ≡ sets d h j names l) ⌝ }
 {
     if held[at] != Kind::EFFECT {
         return Wants::Leaves;
@@ -91,14 +87,14 @@ pub(crate) fn wanted(
     if !has_entry(entries, wide(held[at + 2])) {
         return Wants::Leaves;
     }
-    let Judged::Gives(truth, end) = law::constraint_at(held, at + 3, levels, occurred, j) else {
+    let Judged::Gives(truth, end) = law::constraint_at(held, at + 3, history, j) else {
         return Wants::Blank;
     };
     let Truth::Is(met) = truth else {
         return Wants::Blank;
     };
     if met {
-        return setting_at(held, end, levels, occurred, j);
+        return setting_at(held, end, history, j);
     }
     Wants::Leaves
 }

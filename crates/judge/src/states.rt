@@ -1,14 +1,19 @@
-// The history of a judgement: the states reached, each with room for the most fluents. Only where it is filled and copied
-// out is the domain's own width met.
+// The history of a judgement, in rows: the states reached, each with room for the most fluents, and the marks of the step from
+// it. Only where it is filled and copied out is the domain's own width met.
 ghost use mathlib.Core.Path.{_≡_};
-ghost use Prim.Native.Nat.{_+_, _*_, _≤_};
+ghost use Prim.Native.Nat.{ℕ, _+_, _*_, _≤_, _<_};
 ghost use lib.ListN.{length, drop};
 ghost use lib.Seq.{paste};
 ghost use Rattle.bmap.specs.Plain.{flat};
-ghost use Rattle.bmap.specs.Limits.{mostFluents, mostSteps, levelsSize};
+ghost use Rattle.bmap.specs.Limits.{mostFluents, mostEntries, mostSteps, levelsSize};
 ghost use Rattle.bmap.specs.Buffer.{over};
-ghost use Rattle.judge.specs.States.{statesOf};
+ghost use Rattle.bmap.specs.Domain.{has};
+ghost use Rattle.law.specs.Evaluate.{historySize, inStep};
+ghost use Rattle.judge.specs.States.{statesOf, Marking, Blank, marksFrom, markOf};
+use crate::acting::has_entry;
 use bmap::Counts;
+use law::HISTORY;
+use law::ROW;
 
 // So many levels, from a place of one buffer to a place of another.
 pub(crate) fn copy_levels(source: &[i16], from: usize, w: usize, levels: &mut [i16], at: usize)
@@ -24,14 +29,37 @@ pub(crate) fn copy_levels(source: &[i16], from: usize, w: usize, levels: &mut [i
 
 // "The levels buffer … receives the states reached, fluent by fluent"; "Numbers after them are untouched".
 pub(crate) fn copy_states(history: &[i16], n: usize, w: usize, levels: &mut [i16])
-    requires { ⌜ (n ≤ mostSteps + 1) × ((w ≤ mostFluents) × ((length (now history) ≡ levelsSize) × (levelsSize ≤ length (now levels)))) ⌝ }
+    requires { ⌜ (n ≤ mostSteps + 1) × ((w ≤ mostFluents) × ((length (now history) ≡ historySize) × (levelsSize ≤ length (now levels)))) ⌝ }
     ensures { λ _. ⌜ now (levels .exit) ≡ over (flat (statesOf w n (now (history .entry)))) (now (levels .entry)) ⌝ }
 {
     let mut at = 0;
     let mut k = 0;
     while k < n {
-        copy_levels(history, Counts::FLUENTS * k, w, levels, at);
+        copy_levels(history, ROW * k, w, levels, at);
         at += w;
         k += 1;
+    }
+}
+
+// 1 where an entry occurs.
+fn mark_of(occurs: bool) -> i16
+    ensures { λ r. ⌜ r ≡ markOf occurs ⌝ }
+{
+    if occurs { 1 } else { 0 }
+}
+
+// The marks of the step from state j, for the first n entries. Where none occurs nothing is done: nobody wrote there before.
+pub(crate) fn mark_step(history: &mut [i16; HISTORY], j: usize, entries: u64, n: usize)
+    requires { ⌜ (j < mostSteps) × ((n ≤ mostEntries) × (length (now history) ≡ historySize)) ⌝ }
+    ensures { λ _. ⌜ Marking j (now (history .entry)) (now (history .exit)) × (Blank (marksFrom j) (now (history .entry)) → (e : ℕ) → e < n → inStep (now (history .exit)) e (j + 1) ≡ has entries e) ⌝ }
+{
+    if entries == 0 {
+        return;
+    }
+    let from = ROW * j + Counts::FLUENTS;
+    let mut i = 0;
+    while i < n {
+        history[from + i] = mark_of(has_entry(entries, i));
+        i += 1;
     }
 }

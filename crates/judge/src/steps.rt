@@ -3,12 +3,13 @@ ghost use mathlib.Core.Path.{_≡_};
 ghost use mathlib.Core.List.{List};
 ghost use Prim.Native.Nat.{ℕ, _+_, _*_, _≤_, _<_};
 ghost use lib.ListN.{length, take};
-ghost use Rattle.bmap.specs.Limits.{mostAgents, mostFluents, mostEntries, mostSteps, levelsSize};
+ghost use Rattle.bmap.specs.Limits.{mostAgents, mostFluents, mostEntries, mostSteps};
 ghost use Rattle.bmap.specs.Domain.{Domain, Names};
 ghost use Rattle.bmap.specs.Sheet.{rows};
 ghost use Rattle.bmap.specs.Judge.{step, carried, judge, startOf, accepted, landed};
+ghost use Rattle.law.specs.Evaluate.{historySize};
 ghost use Rattle.judge.specs.Answer.{verdictOf};
-ghost use Rattle.judge.specs.States.{stateAt, statesOf, leaving, Kept};
+ghost use Rattle.judge.specs.States.{stateAt, statesOf, leaving, Kept, Blank, marksFrom};
 ghost use Rattle.judge.specs.Told.{Belonging, Occurring, Acted, Few};
 ghost use Rattle.judge.specs.Prepared.{Prepared, Entered, judgedOf};
 use crate::acting::Acting;
@@ -22,14 +23,14 @@ use crate::landing::new_levels;
 use crate::landing::put_state;
 use crate::reading::Runs;
 use crate::states::copy_levels;
+use crate::states::mark_step;
 use crate::verdict::Check;
 use crate::verdict::Fault;
 use crate::verdict::Verdict;
 use bmap::Counts;
 use bmap::Kind;
-use bmap::LEVELS;
-use bmap::Sheet;
 use law::HELD;
+use law::HISTORY;
 
 // Checks 4 to 6: what the effect laws set, the new state as state j + 1, the static laws on it.
 fn land(
@@ -39,14 +40,13 @@ fn land(
     highest: &[i16; Counts::FLUENTS],
     w: usize,
     entries: u64,
-    occurred: &[u64; Sheet::STEPS + 1],
-    levels: &mut [i16; LEVELS],
+    history: &mut [i16; HISTORY],
     j: usize,
 ) -> Check
-    requires { ⌜ ((j < mostSteps) × Few runs) × ((w ≤ mostFluents) × (((w ≤ length (now lowest)) × (w ≤ length (now highest))) × (length (now levels) ≡ levelsSize))) ⌝ }
-    ensures { λ r. ⌜ Kept j (now (levels .entry)) (now (levels .exit)) × ((d : Domain) (owners : List ℕ) (n count : ℕ) (sheet : List Names) (names : Names)
-        → Prepared d (now (held .entry)) owners n runs (now (lowest .entry)) (now (highest .entry)) w count → Occurring d names entries → Acted d sheet (now (occurred .entry)) (j + 1)
-        → leaving r (stateAt w (now (levels .exit)) (j + 1)) ≡ landed d sheet (statesOf w (j + 1) (now (levels .entry))) j names) ⌝ }
+    requires { ⌜ ((j < mostSteps) × Few runs) × ((w ≤ mostFluents) × (((w ≤ length (now lowest)) × (w ≤ length (now highest))) × (length (now history) ≡ historySize))) ⌝ }
+    ensures { λ r. ⌜ Kept j (now (history .entry)) (now (history .exit)) × ((d : Domain) (owners : List ℕ) (n count : ℕ) (sheet : List Names) (names : Names)
+        → Prepared d (now (held .entry)) owners n runs (now (lowest .entry)) (now (highest .entry)) w count → Occurring d names entries → Acted d sheet (now (history .entry)) (j + 1)
+        → leaving r (stateAt w (now (history .exit)) (j + 1)) ≡ landed d sheet (statesOf w (j + 1) (now (history .entry))) j names) ⌝ }
 {
     let mut fluents = [0u8; Counts::LAWS];
     let mut values = [0i32; Counts::LAWS];
@@ -59,16 +59,15 @@ fn land(
         effect.from,
         effect.to,
         entries,
-        levels,
-        occurred,
+        history,
         present,
         &mut fluents,
         &mut values,
     ) {
         Settled::Clash(fault, n) => Check::Failed(fault, n),
         Settled::Count(m) => {
-            let new = new_levels(levels, j, w, &fluents, &values, m);
-            if let Check::Failed(fault, n) = put_state(lowest, highest, w, &new, levels, j) {
+            let new = new_levels(history, j, w, &fluents, &values, m);
+            if let Check::Failed(fault, n) = put_state(lowest, highest, w, &new, history, j) {
                 return Check::Failed(fault, n);
             }
             let fixed = runs.fixed;
@@ -78,8 +77,7 @@ fn land(
                 fixed.to,
                 Kind::STATIC,
                 Fault::Static,
-                levels,
-                occurred,
+                history,
                 next,
             )
         }
@@ -97,15 +95,14 @@ fn take_step(
     count: usize,
     names: &[u8],
     acting: Acting,
-    occurred: &[u64; Sheet::STEPS + 1],
-    levels: &mut [i16; LEVELS],
+    history: &mut [i16; HISTORY],
     j: usize,
 ) -> Check
-    requires { ⌜ ((j < mostSteps) × Few runs) × (((length (now names) ≤ mostAgents) × (count ≤ mostEntries)) × ((w ≤ mostFluents) × (((w ≤ length (now lowest)) × (w ≤ length (now highest))) × (length (now levels) ≡ levelsSize)))) ⌝ }
-    ensures { λ r. ⌜ Kept j (now (levels .entry)) (now (levels .exit)) × ((d : Domain) (n : ℕ) (sheet : List Names)
+    requires { ⌜ ((j < mostSteps) × Few runs) × (((length (now names) ≤ mostAgents) × (count ≤ mostEntries)) × ((w ≤ mostFluents) × (((w ≤ length (now lowest)) × (w ≤ length (now highest))) × (length (now history) ≡ historySize)))) ⌝ }
+    ensures { λ r. ⌜ Kept j (now (history .entry)) (now (history .exit)) × ((d : Domain) (n : ℕ) (sheet : List Names)
         → Prepared d (now (held .entry)) (now (owners .entry)) n runs (now (lowest .entry)) (now (highest .entry)) w count
-        → Occurring d (now (names .entry)) (acting .entries) → Belonging d (now (names .entry)) (acting .agents) → Acted d sheet (now (occurred .entry)) (j + 1)
-        → leaving r (stateAt w (now (levels .exit)) (j + 1)) ≡ step d sheet (statesOf w (j + 1) (now (levels .entry))) j (now (names .entry))) ⌝ }
+        → Occurring d (now (names .entry)) (acting .entries) → Belonging d (now (names .entry)) (acting .agents) → Acted d sheet (now (history .entry)) (j + 1)
+        → leaving r (stateAt w (now (history .exit)) (j + 1)) ≡ step d sheet (statesOf w (j + 1) (now (history .entry))) j (now (names .entry))) ⌝ }
 {
     if let Check::Failed(fault, n) = check_agents(names, acting.agents) {
         return Check::Failed(fault, n);
@@ -119,8 +116,7 @@ fn take_step(
         &last,
         acting.entries,
         count,
-        levels,
-        occurred,
+        history,
         j,
     ) {
         return Check::Failed(fault, n);
@@ -132,8 +128,7 @@ fn take_step(
         together.to,
         Kind::CONCURRENCY,
         Fault::Concurrency,
-        levels,
-        occurred,
+        history,
         j,
     ) {
         return Check::Failed(fault, n);
@@ -145,8 +140,7 @@ fn take_step(
         highest,
         w,
         acting.entries,
-        occurred,
-        levels,
+        history,
         j,
     )
 }
@@ -157,7 +151,7 @@ pub struct Ran {
     pub reached: usize,
 }
 
-// The steps in turn, from state 0 of the history; the masks of those that were taken are kept for code 29.
+// The steps in turn, from state 0 of the history; who acted in each is marked for code 29.
 fn run_steps(
     held: &[u8; HELD],
     owners: &[u8; Counts::LAWS],
@@ -170,21 +164,20 @@ fn run_steps(
     agents: usize,
     sheet: &[u8],
     n: usize,
-    levels: &mut [i16; LEVELS],
-    occurred: &mut [u64; Sheet::STEPS + 1],
+    history: &mut [i16; HISTORY],
 ) -> Ran
     requires { ⌜ ((n ≤ mostSteps) × (Few runs × (length (now sheet) ≡ n * agents))) × (((agents ≤ mostAgents) × ((counts .entries ≤ mostEntries) × ((counts .entries ≤ length (now actions)) × (counts .entries ≤ length (now crews)))))
-        × ((counts .fluents ≤ mostFluents) × (((counts .fluents ≤ length (now lowest)) × (counts .fluents ≤ length (now highest))) × ((length (now levels) ≡ levelsSize) × (length (now occurred) ≡ mostSteps + 1))))) ⌝ }
-    ensures { λ r. ⌜ ((r .reached ≤ n + 1) × ((verdictOf (r .verdict) ≡ accepted → r .reached ≡ n + 1) × (length (now (levels .exit)) ≡ levelsSize))) × ((d : Domain) (l : ℕ)
+        × ((counts .fluents ≤ mostFluents) × (((counts .fluents ≤ length (now lowest)) × (counts .fluents ≤ length (now highest))) × ((length (now history) ≡ historySize) × Blank (marksFrom 0) (now history))))) ⌝ }
+    ensures { λ r. ⌜ ((r .reached ≤ n + 1) × ((verdictOf (r .verdict) ≡ accepted → r .reached ≡ n + 1) × (length (now (history .exit)) ≡ historySize))) × ((d : Domain) (l : ℕ)
         → Prepared d (now (held .entry)) (now (owners .entry)) l runs (now (lowest .entry)) (now (highest .entry)) (counts .fluents) (counts .entries) → Entered d (now (actions .entry)) (now (crews .entry)) (counts .entries) → d .agents ≡ agents
-        → judgedOf (counts .fluents) r (now (levels .exit)) ≡ carried d (rows agents n (now (sheet .entry))) 0 (statesOf (counts .fluents) 1 (now (levels .entry))) (rows agents n (now (sheet .entry)))) ⌝ }
+        → judgedOf (counts .fluents) r (now (history .exit)) ≡ carried d (rows agents n (now (sheet .entry))) 0 (statesOf (counts .fluents) 1 (now (history .entry))) (rows agents n (now (sheet .entry)))) ⌝ }
 {
     let mut rest = sheet;
     let mut j = 0;
     while j < n {
         let names = &rest[..agents];
         let acting = who_acts(names, actions, crews, counts.entries);
-        occurred[j + 1] = acting.entries;
+        mark_step(history, j, acting.entries, counts.entries);
         if let Check::Failed(fault, number) = take_step(
             held,
             owners,
@@ -195,8 +188,7 @@ fn run_steps(
             counts.entries,
             names,
             acting,
-            occurred,
-            levels,
+            history,
             j,
         ) {
             return Ran {
@@ -231,16 +223,15 @@ pub(crate) fn run_sheet(
     agents: usize,
     sheet: &[u8],
     n: usize,
-    levels: &mut [i16; LEVELS],
+    history: &mut [i16; HISTORY],
 ) -> Ran
     requires { ⌜ ((n ≤ mostSteps) × (Few runs × (length (now sheet) ≡ n * agents))) × (((agents ≤ mostAgents) × ((counts .entries ≤ mostEntries) × ((counts .entries ≤ length (now actions)) × (counts .entries ≤ length (now crews)))))
-        × ((counts .fluents ≤ mostFluents) × (((counts .fluents ≤ length (now lowest)) × (counts .fluents ≤ length (now highest))) × ((counts .fluents ≤ length (now start)) × (length (now levels) ≡ levelsSize))))) ⌝ }
-    ensures { λ r. ⌜ ((r .reached ≤ mostSteps + 1) × (length (now (levels .exit)) ≡ levelsSize)) × ((d : Domain) (l : ℕ)
+        × ((counts .fluents ≤ mostFluents) × (((counts .fluents ≤ length (now lowest)) × (counts .fluents ≤ length (now highest))) × ((counts .fluents ≤ length (now start)) × ((length (now history) ≡ historySize) × Blank 0 (now history)))))) ⌝ }
+    ensures { λ r. ⌜ ((r .reached ≤ mostSteps + 1) × (length (now (history .exit)) ≡ historySize)) × ((d : Domain) (l : ℕ)
         → Prepared d (now (held .entry)) (now (owners .entry)) l runs (now (lowest .entry)) (now (highest .entry)) (counts .fluents) (counts .entries) → Entered d (now (actions .entry)) (now (crews .entry)) (counts .entries) → d .agents ≡ agents
-        → startOf d ≡ take (counts .fluents) (now (start .entry)) → judgedOf (counts .fluents) r (now (levels .exit)) ≡ judge d (rows agents n (now (sheet .entry)))) ⌝ }
+        → startOf d ≡ take (counts .fluents) (now (start .entry)) → judgedOf (counts .fluents) r (now (history .exit)) ≡ judge d (rows agents n (now (sheet .entry)))) ⌝ }
 {
-    let mut occurred = [0u64; Sheet::STEPS + 1];
-    copy_levels(start, 0, counts.fluents, levels, 0);
+    copy_levels(start, 0, counts.fluents, history, 0);
     let fixed = runs.fixed;
     if let Check::Failed(fault, number) = check_laws(
         held,
@@ -248,8 +239,7 @@ pub(crate) fn run_sheet(
         fixed.to,
         Kind::STATIC,
         Fault::Static,
-        levels,
-        &occurred,
+        history,
         0,
     ) {
         return Ran {
@@ -273,8 +263,7 @@ pub(crate) fn run_sheet(
         agents,
         sheet,
         n,
-        levels,
-        &mut occurred,
+        history,
     );
     let verdict = ran.verdict;
     let Verdict::Accepted = verdict else {
@@ -288,8 +277,7 @@ pub(crate) fn run_sheet(
         goal.to,
         Kind::GOAL,
         Fault::Goal,
-        levels,
-        &occurred,
+        history,
         n,
     ) {
         return Ran {

@@ -16,11 +16,11 @@ use Rattle.judge.proofs.checks.check_entries.Statement.{statement}
 use Rattle.judge.proofs.checks.check_entries.Tie as tie
 
 abbrev Inv-loop : tie.InvT-loop
-Inv-loop held owners first last entries count levels occurred j i₀ i = (d : Domain) (h : History) (n : ℕ) (names : Names) → Lawful d held n → Owns owners n first last → Owned d owners → Occurring d names entries → length (d .entries) ≡ count → Seen true d h levels occurred j
+Inv-loop held owners first last entries count history j i₀ i = (d : Domain) (h : History) (n : ℕ) (names : Names) → Lawful d held n → Owns owners n first last → Owned d owners → Occurring d names entries → length (d .entries) ≡ count → Seen true d h history j
     → eachFrom 0 (mayOccur d h j names) (d .entries) ≡ eachFrom i (mayOccur d h j names) (drop i (d .entries))
 
 abbrev μ-loop : tie.MeasureT-loop
-μ-loop held owners first last entries count levels occurred j i₀ i = count - i
+μ-loop held owners first last entries count history j i₀ i = count - i
 
 loop-holds : tie.Need-loop-holds Inv-loop μ-loop
 loop-holds c = λ d h n names lawful owns owned occurring count seen. refl

@@ -17,10 +17,10 @@ use Rattle.judge.proofs.checks.check_entry.Statement.{statement}
 use Rattle.judge.proofs.checks.check_entry.Tie as tie
 
 abbrev Inv-loop : tie.InvT-loop
-Inv-loop held owners from to levels occurred j i l₀ l = (d : Domain) (h : History) (n : ℕ) → Lawful d held n → Own owners n i from to → Owned d owners → Seen true d h levels occurred j → permitted d h j i 0 (d .laws) ≡ permitted d h j i l (drop l (d .laws))
+Inv-loop held owners from to history j i l₀ l = (d : Domain) (h : History) (n : ℕ) → Lawful d held n → Own owners n i from to → Owned d owners → Seen true d h history j → permitted d h j i 0 (d .laws) ≡ permitted d h j i l (drop l (d .laws))
 
 abbrev μ-loop : tie.MeasureT-loop
-μ-loop held owners from to levels occurred j i l₀ l = to - l
+μ-loop held owners from to history j i l₀ l = to - l
 
 loop-holds : tie.Need-loop-holds Inv-loop μ-loop
 loop-holds c = λ d h n lawful own owned seen. let s = c .args in

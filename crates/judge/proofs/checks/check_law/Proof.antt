@@ -35,19 +35,19 @@ enum-known-met c = search needs
 returns-2 : tie.Need-returns-2
 returns-2 c = λ d h s law kind says seen. let a = c .before .before .before .before .before .before .before .args in
     let is = must-by-kind d (drop (a .at) (a .held .now)) s law says (front (a .held .now) (a .at) ∙ (c .before .before .before .before .before .if1 .left ∙ kind)) in
-    let v = c .before .before .before .before .constraint-of .ensures d h law (a .at) says (ap (λ (k : ℕ). a .at + k) (sym (ap placeOf is))) (subst (λ (b : Bool). Seen b d h (a .levels .now) (a .occurred .now) (a .j)) (sym (ap asksOf is)) seen) in
+    let v = c .before .before .before .before .constraint-of .ensures d h law (a .at) says (ap (λ (k : ℕ). a .at + k) (sym (ap placeOf is))) (subst (λ (b : Bool). Seen b d h (a .history .now) (a .j)) (sym (ap asksOf is)) seen) in
     sym (holds-same d (drop (a .at) (a .held .now)) s (kindOf (a .fault)) h (a .j) (a .l) law is v ∙ ap (λ (t : Valued Bool). next (reads (a .l) t) (unless (kindOf (a .fault)) (a .l))) (ap truthOf (c .before .before .met .given .1) ∙ ap value (c .if2 .taken)))
 
 returns-3 : tie.Need-returns-3
 returns-3 c = λ d h s law kind says seen. let a = c .before .before .before .before .before .args in
     let is = must-by-kind d (drop (a .at) (a .held .now)) s law says (front (a .held .now) (a .at) ∙ (c .before .before .before .if1 .left ∙ kind)) in
-    let v = c .before .before .constraint-of .ensures d h law (a .at) says (ap (λ (k : ℕ). a .at + k) (sym (ap placeOf is))) (subst (λ (b : Bool). Seen b d h (a .levels .now) (a .occurred .now) (a .j)) (sym (ap asksOf is)) seen) in
+    let v = c .before .before .constraint-of .ensures d h law (a .at) says (ap (λ (k : ℕ). a .at + k) (sym (ap placeOf is))) (subst (λ (b : Bool). Seen b d h (a .history .now) (a .j)) (sym (ap asksOf is)) seen) in
     sym (holds-same d (drop (a .at) (a .held .now)) s (kindOf (a .fault)) h (a .j) (a .l) law is v ∙ ap (λ (t : Valued Bool). next (reads (a .l) t) (unless (kindOf (a .fault)) (a .l))) (ap truthOf (c .enum-told .given .1)))
 
 returns-4 : tie.Need-returns-4
 returns-4 c = λ d h s law kind says seen. let a = c .before .before .before .before .before .before .before .args in
     let is = must-by-kind d (drop (a .at) (a .held .now)) s law says (front (a .held .now) (a .at) ∙ (c .before .before .before .before .before .if1 .left ∙ kind)) in
-    let v = c .before .before .before .before .constraint-of .ensures d h law (a .at) says (ap (λ (k : ℕ). a .at + k) (sym (ap placeOf is))) (subst (λ (b : Bool). Seen b d h (a .levels .now) (a .occurred .now) (a .j)) (sym (ap asksOf is)) seen) in
+    let v = c .before .before .before .before .constraint-of .ensures d h law (a .at) says (ap (λ (k : ℕ). a .at + k) (sym (ap placeOf is))) (subst (λ (b : Bool). Seen b d h (a .history .now) (a .j)) (sym (ap asksOf is)) seen) in
     sym (holds-same d (drop (a .at) (a .held .now)) s (kindOf (a .fault)) h (a .j) (a .l) law is v ∙ ap (λ (t : Valued Bool). next (reads (a .l) t) (unless (kindOf (a .fault)) (a .l))) (ap truthOf (c .before .before .met .given .1) ∙ ap value (c .if2 .left)))
 
 pub check-law-spec : {M : Type 1} → statement M

@@ -15,11 +15,11 @@ use Rattle.judge.proofs.checks.check_laws.Statement.{statement}
 use Rattle.judge.proofs.checks.check_laws.Tie as tie
 
 abbrev Inv-loop : tie.InvT-loop
-Inv-loop held from to kind fault levels occurred j l₀ l = (d : Domain) (h : History) (s : Scope) (n : ℕ) → kind ≡ scopeKind s → Lawful d held n → Within held n kind from to → Seen (asks s) d h levels occurred j
+Inv-loop held from to kind fault history j l₀ l = (d : Domain) (h : History) (s : Scope) (n : ℕ) → kind ≡ scopeKind s → Lawful d held n → Within held n kind from to → Seen (asks s) d h history j
     → eachFrom 0 (holds s (kindOf fault) h j) (d .laws) ≡ eachFrom l (holds s (kindOf fault) h j) (drop l (d .laws))
 
 abbrev μ-loop : tie.MeasureT-loop
-μ-loop held from to kind fault levels occurred j l₀ l = to - l
+μ-loop held from to kind fault history j l₀ l = to - l
 
 loop-holds : tie.Need-loop-holds Inv-loop μ-loop
 loop-holds c = λ d h s n kind lawful within seen. let a = c .args in let f = holds s (kindOf (a .fault)) h (a .j) in

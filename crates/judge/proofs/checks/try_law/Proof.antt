@@ -35,7 +35,7 @@ returns-2 c = λ d h n lawful p owned seen. let s = c .before .before .before .b
     let own = owned (s .l) (omega (arith, lawful .count)) in
     let place = owned-place d (lawNumber d (s .l)) own (sym (c .before .before .wide .ensures) ∙ c .before .if1 .left) (c .before .before .before .before .pre .0) in
     c .constraint-of .ensures d h (lawNumber d (s .l)) (frameSize * s .l) (lawful .law (s .l) p) (ap (λ (k : ℕ). frameSize * s .l + k) (place .0))
-    (subst (λ (b : Bool). Seen b d h (s .levels .now) (s .occurred .now) (s .j)) (place .1) seen)
+    (subst (λ (b : Bool). Seen b d h (s .history .now) (s .j)) (place .1) seen)
     ∙ sym (permits-mine d h (s .j) (s .i) (lawNumber d (s .l)) own (sym (c .before .before .wide .ensures) ∙ c .before .if1 .left) (c .before .before .before .before .pre .0))
 
 pub try-law-spec : {M : Type 1} → statement M

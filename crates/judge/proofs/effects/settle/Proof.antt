@@ -29,24 +29,24 @@ use Rattle.judge.proofs.effects.settle.Statement.{statement}
 use Rattle.judge.proofs.effects.settle.Tie as tie
 
 -- what the settling of all laws gives
-abbrev Gives : List ℕ → ℕ → ℕ → ℕ → List ℤ → List ℕ → ℕ → (Domain → History → Names → Checked (List Setting)) → Type 0
-Gives held from to entries levels occurred j y =
-    (d : Domain) (h : History) (n : ℕ) (names : Names) → Lawful d held n → Within held n 0xA6 from to → Occurring d names entries → Seen true d h levels occurred j
+abbrev Gives : List ℕ → ℕ → ℕ → ℕ → List ℤ → ℕ → (Domain → History → Names → Checked (List Setting)) → Type 0
+Gives held from to entries history j y =
+    (d : Domain) (h : History) (n : ℕ) (names : Names) → Lawful d held n → Within held n 0xA6 from to → Occurring d names entries → Seen true d h history j
     → settled d h j names 0 [] (d .laws) ≡ y d h names
 
 abbrev Inv-loop : tie.InvT-loop
-Inv-loop held from to entries levels occurred j fluents values bad₀ m l f v i₀ bad i = (bad ≡ bad₀) × ((i ≤ m) × (all (agrees (setting f (toZ w32 v))) (settingsOf m fluents values) ≡ all (agrees (setting f (toZ w32 v))) (settingsOf i fluents values)))
+Inv-loop held from to entries history j fluents values bad₀ m l f v i₀ bad i = (bad ≡ bad₀) × ((i ≤ m) × (all (agrees (setting f (toZ w32 v))) (settingsOf m fluents values) ≡ all (agrees (setting f (toZ w32 v))) (settingsOf i fluents values)))
 
 abbrev μ-loop : tie.MeasureT-loop
-μ-loop held from to entries levels occurred j fluents values bad₀ m l f v i₀ bad i = i
+μ-loop held from to entries history j fluents values bad₀ m l f v i₀ bad i = i
 
 abbrev Inv-laws : tie.InvT-laws
-Inv-laws held from to entries levels occurred j fluents₀ values₀ bad₀ m₀ l₀ fluents values bad m l =
+Inv-laws held from to entries history j fluents₀ values₀ bad₀ m₀ l₀ fluents values bad m l =
     ((bad ≡ to) × ((list.length fluents ≡ mostLaws) × (list.length values ≡ mostLaws))) × (((m ≤ l) × (m ≤ to))
-    × Gives held from to entries levels occurred j (λ d h names. settled d h j names l (settingsOf m fluents values) (drop l (d .laws))))
+    × Gives held from to entries history j (λ d h names. settled d h j names l (settingsOf m fluents values) (drop l (d .laws))))
 
 abbrev μ-laws : tie.MeasureT-laws
-μ-laws held from to entries levels occurred j fluents₀ values₀ bad₀ m₀ l₀ fluents values bad m l =
+μ-laws held from to entries history j fluents₀ values₀ bad₀ m₀ l₀ fluents values bad m l =
     to - l
 
 laws-holds : tie.Need-laws-holds Inv-loop μ-loop Inv-laws μ-laws
@@ -167,7 +167,7 @@ laws-again c = let s = c .before .before .before .before .args in let l = c .bef
 
 -- where the ways out of the loop over the laws meet: by its test, with all settled, or by the break, with the law at fault
 abbrev Whole : tie.Left-laws Inv-loop μ-loop Inv-laws μ-laws → (Domain → History → Names → Checked (List Setting)) → Type 0
-Whole c y = let s = c .before .before .args in Gives (s .held .now) (s .from) (s .to) (s .entries) (s .levels .now) (s .occurred .now) (s .j) y
+Whole c y = let s = c .before .before .args in Gives (s .held .now) (s .from) (s .to) (s .entries) (s .history .now) (s .j) y
 
 answer : (c : tie.Left-laws Inv-loop μ-loop Inv-laws μ-laws)
     → ((c .before .before .args .to ≤ c .laws-test .bad) × Whole c (λ d h names. fine (settingsOf (c .before .laws .m) (c .before .laws .fluents) (c .before .laws .values))))

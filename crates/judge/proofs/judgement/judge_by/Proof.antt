@@ -4,9 +4,11 @@ use native.Mathlib.Omega.{arith}
 use borrow.Author.Needs.{needs}
 use lib.ListN.{length}
 use Rattle.judge.specs.Prepared.{judgedOf}
+use Rattle.law.specs.Evaluate.{historySize}
 use Rattle.index.specs.Index.{Sound}
 use Rattle.judge.proofs.StateLaws.{states-length}
 use Rattle.judge.proofs.IndexLaws.{under-is}
+use Rattle.judge.proofs.JudgeLaws.{blank-zeros}
 use Rattle.judge.proofs.CallLaws.{whole, by-uneven, by-long, by-steps}
 use Rattle.judge.proofs.judgement.judge_by.Statement.{statement}
 use Rattle.judge.proofs.judgement.judge_by.Tie as tie
@@ -32,6 +34,7 @@ judge-steps-requires c κs = let start = c .before .before .before .before .befo
   steps = c .before .if2 .left;
   whole = whole (length (start .args .sheet .now)) (start .args .under .index .counts .agents) (c .before .before .if1 .left);
   room = refl;
+  blank = λ i h. blank-zeros historySize i;
 }
 
 slice-aggregate-copy-states : tie.Need-slice-aggregate-copy-states

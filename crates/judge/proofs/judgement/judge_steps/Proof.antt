@@ -86,7 +86,7 @@ run-sheet-requires c κs =
       ),
       (
         (sound .agents, (sound .entries, (omega (arith, sound .entries, long s .names), omega (arith, sound .entries, long s .crews)))),
-        (sound .fluents, ((omega (arith, sound .fluents, long s .lowest), omega (arith, sound .fluents, long s .highest)), (omega (arith, sound .fluents, long s .start), s .pre .room))),
+        (sound .fluents, ((omega (arith, sound .fluents, long s .lowest), omega (arith, sound .fluents, long s .highest)), (omega (arith, sound .fluents, long s .start), (s .pre .room, s .pre .blank)))),
       ),
     )
 

@@ -16,16 +16,16 @@ use Rattle.judge.proofs.landing.new_levels.Statement.{statement}
 use Rattle.judge.proofs.landing.new_levels.Tie as tie
 
 abbrev Inv-loop : tie.InvT-loop
-Inv-loop levels j w fluents values m new₀ i₀ new i = (i ≤ m) × ((length new ≡ mostFluents) × Laid w new (settingsOf i fluents values) (stateAt w levels j))
+Inv-loop history j w fluents values m new₀ i₀ new i = (i ≤ m) × ((length new ≡ mostFluents) × Laid w new (settingsOf i fluents values) (stateAt w history j))
 
 abbrev μ-loop : tie.MeasureT-loop
-μ-loop levels j w fluents values m new₀ i₀ new i = m - i
+μ-loop history j w fluents values m new₀ i₀ new i = m - i
 
 old-levels-requires : tie.Need-old-levels-requires Inv-loop μ-loop
 old-levels-requires c κs = search needs
 
 loop-holds : tie.Need-loop-holds Inv-loop μ-loop
-loop-holds c = let s = c .before .args in (search needs, (c .old-levels .ensures .0, laid-none (s .w) (s .j) (s .levels .now) (c .old-levels .result) (s .fluents .now) (s .values .now) (c .old-levels .ensures .1)))
+loop-holds c = let s = c .before .args in (search needs, (c .old-levels .ensures .0, laid-none (s .w) (s .j) (s .history .now) (c .old-levels .result) (s .fluents .now) (s .values .now) (c .old-levels .ensures .1)))
 
 element-copy-out-put : tie.Need-element-copy-out-put Inv-loop μ-loop
 element-copy-out-put c = search needs
@@ -50,7 +50,7 @@ loop-again c = let s = c .before .before .before .before .before .before .before
   omega arith,
   (
     ap length (c .put .ensures) ∙ simp length-set (c .before .before .before .before .before .loop .inv .1 .0),
-    λ f p. ap (λ (l : List ℤ). getD l f (pos 0)) (c .put .ensures) ∙ laid-more (s .w) i (c .before .before .before .before .before .loop .new) (s .fluents .now) (s .values .now) (stateAt (s .w) (s .levels .now) (s .j)) (omega (arith, c .before .before .before .before .before .before .before .pre .1 .0)) refl (back32 (getD (s .values .now) i (pos 0)) (c .before .put-arg2 .given)) (c .before .before .before .before .before .loop .inv .1 .1) f p,
+    λ f p. ap (λ (l : List ℤ). getD l f (pos 0)) (c .put .ensures) ∙ laid-more (s .w) i (c .before .before .before .before .before .loop .new) (s .fluents .now) (s .values .now) (stateAt (s .w) (s .history .now) (s .j)) (omega (arith, c .before .before .before .before .before .before .before .pre .1 .0)) refl (back32 (getD (s .values .now) i (pos 0)) (c .before .put-arg2 .given)) (c .before .before .before .before .before .loop .inv .1 .1) f p,
   ),
 )
 

@@ -1,10 +1,11 @@
-use Prim.Native.Nat.{ℕ, _+_, _-_, _*_, _≤_, _<_}
+use Prim.Native.Nat.{ℕ, _-_, _≤_, _<_}
 use mathlib.Core.Path.{_≡_}
 use native.Mathlib.Omega.{arith}
 use borrow.Author.Needs.{needs}
 use lib.IntN.{pos}
 use lib.ListN.{length, getD}
 use Rattle.bmap.specs.Limits.{mostFluents}
+use Rattle.law.specs.Evaluate.{cellAt}
 use Rattle.number.proofs.BackLaws.{widens16, widened16}
 use Rattle.judge.proofs.LandingLaws.{filled-more}
 use lib.ListN.{length-set}
@@ -12,10 +13,10 @@ use Rattle.judge.proofs.landing.old_levels.Statement.{statement}
 use Rattle.judge.proofs.landing.old_levels.Tie as tie
 
 abbrev Inv-loop : tie.InvT-loop
-Inv-loop levels j w old₀ f₀ old f = (f ≤ w) × ((length old ≡ mostFluents) × ((k : ℕ) → k < f → getD old k (pos 0) ≡ getD levels (mostFluents * j + k) (pos 0)))
+Inv-loop history j w old₀ f₀ old f = (f ≤ w) × ((length old ≡ mostFluents) × ((k : ℕ) → k < f → getD old k (pos 0) ≡ cellAt history j k))
 
 abbrev μ-loop : tie.MeasureT-loop
-μ-loop levels j w old₀ f₀ old f = w - f
+μ-loop history j w old₀ f₀ old f = w - f
 
 loop-holds : tie.Need-loop-holds Inv-loop μ-loop
 loop-holds c = (search needs, (search needs, λ k h. absurd (omega arith)))
@@ -33,7 +34,7 @@ element-copy-out-old : tie.Need-element-copy-out-old Inv-loop μ-loop
 element-copy-out-old c = search needs
 
 cast-old : tie.Need-cast-old Inv-loop μ-loop
-cast-old c = let s = c .before .before .before .args in widens16 (getD (s .levels .now) (mostFluents * s .j + c .before .before .loop .f) (pos 0)) (c .old .given)
+cast-old c = let s = c .before .before .before .args in widens16 (cellAt (s .history .now) (s .j) (c .before .before .loop .f)) (c .old .given)
 
 mul-old-3 : tie.Need-mul-old-3 Inv-loop μ-loop
 mul-old-3 c = search needs
@@ -52,8 +53,8 @@ loop-again c = let s = c .before .before .before .args in (
   omega arith,
   (
     simp length-set (c .before .before .loop .inv .1 .0),
-    filled-more (pos 0) (λ k. getD (s .levels .now) (mostFluents * s .j + k) (pos 0)) (c .before .before .loop .old) (c .before .before .loop .f) (omega arith) (c .before .before .loop .inv .1 .1)
-        (widened16 (getD (s .levels .now) (mostFluents * s .j + c .before .before .loop .f) (pos 0)) (c .old .given)),
+    filled-more (pos 0) (λ k. cellAt (s .history .now) (s .j) k) (c .before .before .loop .old) (c .before .before .loop .f) (omega arith) (c .before .before .loop .inv .1 .1)
+        (widened16 (cellAt (s .history .now) (s .j) (c .before .before .loop .f)) (c .old .given)),
   ),
 )
 

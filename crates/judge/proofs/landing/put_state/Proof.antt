@@ -4,33 +4,31 @@ use mathlib.Core.List.{List}
 use native.Mathlib.Omega.{arith}
 use borrow.Author.Needs.{needs}
 use lib.IntN.{pos}
-use lib.ListN.{length, getD, take, drop}
-use lib.ListN.{length-set}
-use lib.Seq.{take-set-le}
+use lib.ListN.{getD, take, drop}
 use Rattle.bmap.specs.Plain.{numbers}
-use Rattle.bmap.specs.Limits.{mostFluents, levelsSize}
 use Rattle.bmap.specs.Domain.{Domain, State}
 use Rattle.bmap.specs.Judge.{eachFrom, inRange, Setting, stateAfter}
 use mathlib.Core.List.{map}
 use Rattle.number.proofs.BackLaws.{back16}
-use Rattle.judge.specs.States.{stateAt}
+use Rattle.law.specs.Evaluate.{rowSize}
+use Rattle.judge.specs.States.{stateAt, Kept, marksFrom}
 use Rattle.judge.specs.Landing.{Ranged, Laid}
 use Rattle.judge.proofs.LoopLaws.{ends, stops, on, each-on, each-stop, each-none}
-use Rattle.judge.proofs.StateLaws.{row-none, row-more, row-whole}
+use Rattle.judge.proofs.StateLaws.{between-set, row-none, row-more, row-whole}
 use Rattle.judge.proofs.LandingLaws.{noFluent, levelThen, range-is, ranged-fine, ranged-fault, fit-told, unfit-told}
 use Rattle.judge.specs.declared.verdict.Fault.the-variants.{Range}
 use Rattle.judge.proofs.landing.put_state.Statement.{statement}
 use Rattle.judge.proofs.landing.put_state.Tie as tie
 
 abbrev Inv-loop : tie.InvT-loop
-Inv-loop lowest highest w new levels₀ j f₀ levels f = (f ≤ w) × ((length levels ≡ levelsSize) × ((take (mostFluents * (j + 1)) levels ≡ take (mostFluents * (j + 1)) levels₀) × ((d : Domain) (settings : List Setting) (old : State) → Ranged d lowest highest w → Laid w new settings old
-    → (take f (drop (mostFluents * (j + 1)) levels) ≡ map (levelThen settings old) (numbers 0 f)) × (eachFrom 0 (inRange (stateAfter d settings old)) (d .fluents) ≡ eachFrom f (inRange (stateAfter d settings old)) (drop f (d .fluents))))))
+Inv-loop lowest highest w new history₀ j f₀ history f = (f ≤ w) × (Kept j history₀ history × ((d : Domain) (settings : List Setting) (old : State) → Ranged d lowest highest w → Laid w new settings old
+    → (take f (drop (rowSize * (j + 1)) history) ≡ map (levelThen settings old) (numbers 0 f)) × (eachFrom 0 (inRange (stateAfter d settings old)) (d .fluents) ≡ eachFrom f (inRange (stateAfter d settings old)) (drop f (d .fluents)))))
 
 abbrev μ-loop : tie.MeasureT-loop
-μ-loop lowest highest w new levels₀ j f₀ levels f = w - f
+μ-loop lowest highest w new history₀ j f₀ history f = w - f
 
 loop-holds : tie.Need-loop-holds Inv-loop μ-loop
-loop-holds c = let s = c .args in (search needs, (c .pre .1 .1 .1, (refl, λ d settings old r l. (row-none (levelThen settings old) (mostFluents * (s .j + 1)) (s .levels .now), refl))))
+loop-holds c = let s = c .args in (search needs, (record { before = refl; after = refl; long = c .pre .1 .1 .1 }, λ d settings old r l. (row-none (levelThen settings old) (rowSize * (s .j + 1)) (s .history .now), refl)))
 
 mul-fitted : tie.Need-mul-fitted Inv-loop μ-loop
 mul-fitted c = search needs
@@ -58,10 +56,10 @@ enum-told c = search needs
 
 returns : tie.Need-returns Inv-loop μ-loop
 returns c = let s = c .before .before .before .before .before .before .before .before .args in let f = c .before .before .before .before .before .before .before .loop .f in (
-  record { states = c .before .before .before .before .before .before .before .loop .inv .1 .1 .0; long = c .before .before .before .before .before .before .before .loop .inv .1 .0 },
+  c .before .before .before .before .before .before .before .loop .inv .1 .0,
   λ d settings old r l.
-      let g = inRange (stateAfter d settings old) in let both′ = c .before .before .before .before .before .before .before .loop .inv .1 .1 .1 d settings old r l in
-      ranged-fault d settings old (s .lowest .now) (s .highest .now) (s .w) r (stateAt (s .w) (c .before .before .before .before .before .before .before .loop .levels) (s .j + 1)) Range
+      let g = inRange (stateAfter d settings old) in let both′ = c .before .before .before .before .before .before .before .loop .inv .1 .1 d settings old r l in
+      ranged-fault d settings old (s .lowest .now) (s .highest .now) (s .w) r (stateAt (s .w) (c .before .before .before .before .before .before .before .loop .history) (s .j + 1)) Range
       (both′ .1 ∙ stops (λ k q. eachFrom k g q) (d .fluents) noFluent f (omega (arith, r .count, c .before .before .before .before .before .before .loop-test .taken)) (each-stop g f _ _
       (range-is d settings old (s .lowest .now) (s .highest .now) (s .w) r f (c .before .before .before .before .before .before .loop-test .taken) (l f (c .before .before .before .before .before .before .loop-test .taken))
       (unfit-told (getD (s .lowest .now) f (pos 0)) (getD (s .new .now) f (pos 0)) (getD (s .highest .now) f (pos 0)) (c .before .before .before .before .before .fitted-arg .given) (c .before .before .before .fitted-arg3 .given) (c .before .before .before .before .fitted-arg2 .given) (c .before .before .fitted .ensures) (c .enum-told .given .1))))),
@@ -96,26 +94,23 @@ loop-again c = let s = c .before .before .before .before .before .before .before
     let fit = fit-told (getD (s .lowest .now) f (pos 0)) (getD (s .new .now) f (pos 0)) (getD (s .highest .now) f (pos 0)) (c .before .before .before .before .before .before .fitted-arg .given) (c .before .before .before .before .fitted-arg3 .given) (c .before .before .before .before .before .fitted-arg2 .given) (c .before .before .before .fitted .ensures) (c .before .z .given .1) in (
       omega arith,
       (
-        simp length-set (c .before .before .before .before .before .before .before .before .loop .inv .1 .0),
-        (
-          take-set-le (mostFluents * (s .j + 1)) (c .before .before .before .before .before .before .before .before .loop .levels) (mostFluents * (s .j + 1) + f) _ (omega arith) ∙ c .before .before .before .before .before .before .before .before .loop .inv .1 .1 .0,
-          λ d settings old r l. let g = inRange (stateAfter d settings old) in let both′ = c .before .before .before .before .before .before .before .before .loop .inv .1 .1 .1 d settings old r l in (
-            row-more (levelThen settings old) (mostFluents * (s .j + 1)) f _ (c .before .before .before .before .before .before .before .before .loop .levels) (omega arith) (both′ .0) (back16 (c .before .z .given .0 .0) (c .known-told .given .0 .1) ∙ (sym (fit .0) ∙ l f (c .before .before .before .before .before .before .before .loop-test .taken))),
+        between-set (rowSize * (s .j + 1)) (marksFrom (s .j + 1)) (s .history .now) (c .before .before .before .before .before .before .before .before .loop .history) (c .before .before .before .before .before .before .before .before .loop .inv .1 .0) (rowSize * (s .j + 1) + f) _ (omega arith) (omega arith),
+          λ d settings old r l. let g = inRange (stateAfter d settings old) in let both′ = c .before .before .before .before .before .before .before .before .loop .inv .1 .1 d settings old r l in (
+            row-more (levelThen settings old) (rowSize * (s .j + 1)) f _ (c .before .before .before .before .before .before .before .before .loop .history) (omega arith) (both′ .0) (back16 (c .before .z .given .0 .0) (c .known-told .given .0 .1) ∙ (sym (fit .0) ∙ l f (c .before .before .before .before .before .before .before .loop-test .taken))),
             both′ .1 ∙ on (λ k q. eachFrom k g q) (d .fluents) noFluent f (omega (arith, r .count, c .before .before .before .before .before .before .before .loop-test .taken)) (each-on g f _ _
                 (range-is d settings old (s .lowest .now) (s .highest .now) (s .w) r f (c .before .before .before .before .before .before .before .loop-test .taken) (l f (c .before .before .before .before .before .before .before .loop-test .taken)) (fit .1))),
           ),
-        ),
       ),
     )
 
 returns-2 : tie.Need-returns-2 Inv-loop μ-loop
 returns-2 c = let s = c .before .before .args in (
-  record { states = c .before .loop .inv .1 .1 .0; long = c .before .loop .inv .1 .0 },
+  c .before .loop .inv .1 .0,
   λ d settings old r l.
-      let f = inRange (stateAfter d settings old) in let both′ = c .before .loop .inv .1 .1 .1 d settings old r l in
-      ranged-fine d settings old (s .lowest .now) (s .highest .now) (s .w) r (stateAt (s .w) (c .before .loop .levels) (s .j + 1))
+      let f = inRange (stateAfter d settings old) in let both′ = c .before .loop .inv .1 .1 d settings old r l in
+      ranged-fine d settings old (s .lowest .now) (s .highest .now) (s .w) r (stateAt (s .w) (c .before .loop .history) (s .j + 1))
       (both′ .1 ∙ (ends (λ k q. eachFrom k f q) (d .fluents) noFluent (c .before .loop .f) (omega (arith, r .count, c .loop-test .left)) ∙ each-none f (c .before .loop .f)))
-      (row-whole (levelThen settings old) (mostFluents * (s .j + 1)) (c .before .loop .f) (s .w) (c .before .loop .levels) (omega arith) (both′ .0)),
+      (row-whole (levelThen settings old) (rowSize * (s .j + 1)) (c .before .loop .f) (s .w) (c .before .loop .history) (omega arith) (both′ .0)),
 )
 
 pub put-state-spec : {M : Type 1} → statement M

@@ -13,10 +13,10 @@ enum-told : tie.Need-enum-told
 enum-told c = search needs
 
 returns : tie.Need-returns
-returns c = λ d h l p says at seen. let s = c .before .before .before .before .args in judged-given (c .before .before .before .constraint-at .ensures) (c .before .truth .given .1) (truth-told d (s .held .now) p l h (s .levels .now) (s .occurred .now) (s .j) says at seen) .0
+returns c = λ d h l p says at seen. let s = c .before .before .before .before .args in judged-given (c .before .before .before .constraint-at .ensures) (c .before .truth .given .1) (truth-told d (s .held .now) p l h (s .history .now) (s .j) says at seen) .0
 
 returns-2 : tie.Need-returns-2
-returns-2 c = λ d h l p says at seen. let s = c .before .before .before .args in absurd (judged-malformed (c .before .before .constraint-at .ensures) (c .enum-told .given .1) (truth-told d (s .held .now) p l h (s .levels .now) (s .occurred .now) (s .j) says at seen))
+returns-2 c = λ d h l p says at seen. let s = c .before .before .before .args in absurd (judged-malformed (c .before .before .constraint-at .ensures) (c .enum-told .given .1) (truth-told d (s .held .now) p l h (s .history .now) (s .j) says at seen))
 
 pub constraint-of-spec : {M : Type 1} → statement M
 constraint-of-spec =

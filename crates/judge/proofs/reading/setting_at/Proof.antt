@@ -7,7 +7,7 @@ use Rattle.judge.proofs.reading.setting_at.Statement.{statement}
 use Rattle.judge.proofs.reading.setting_at.Tie as tie
 
 returns : tie.Need-returns
-returns c = λ long. let s = c .before .args in no-value-past (s .held .now) (s .at) (getD (s .held .now) (s .at) 0) (s .levels .now) (s .occurred .now) (s .j) (omega arith)
+returns c = λ long. let s = c .before .args in no-value-past (s .held .now) (s .at) (getD (s .held .now) (s .at) 0) (s .history .now) (s .j) (omega arith)
 
 element-copy-out-f : tie.Need-element-copy-out-f
 element-copy-out-f c = search needs

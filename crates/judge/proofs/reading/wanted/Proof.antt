@@ -56,7 +56,7 @@ enum-told c = search needs
 returns-3 : tie.Need-returns-3
 returns-3 c = λ d h l names long says occurring seen. let s = c .before .before .before .before .before .before .before .before .before .args in
     let e = effect-told d (drop (s .at) (s .held .now)) l says (front (s .held .now) (s .at) ∙ c .before .before .before .before .before .before .before .if1 .left) in
-    absurd (judged-malformed (c .before .before .constraint-at .ensures) (c .enum-told .given .1) (effect-truth d (s .held .now) (s .at) l h (s .j) names (s .entries) e occurring (s .levels .now) (s .occurred .now) seen))
+    absurd (judged-malformed (c .before .before .constraint-at .ensures) (c .enum-told .given .1) (effect-truth d (s .held .now) (s .at) l h (s .j) names (s .entries) e occurring (s .history .now) seen))
 
 enum-known-truth-2 : tie.Need-enum-known-truth-2
 enum-known-truth-2 c = search needs
@@ -67,7 +67,7 @@ enum-told-2 c = search needs
 returns-4 : tie.Need-returns-4
 returns-4 c = λ d h l names long says occurring seen. let s = c .before .before .before .before .before .before .before .before .before .before .before .before .args in
     let e = effect-told d (drop (s .at) (s .held .now)) l says (front (s .held .now) (s .at) ∙ c .before .before .before .before .before .before .before .before .before .before .if1 .left) in
-    let t = judged-given (c .before .before .before .before .before .constraint-at .ensures) (c .before .before .before .truth .given .1) (effect-truth d (s .held .now) (s .at) l h (s .j) names (s .entries) e occurring (s .levels .now) (s .occurred .now) seen) in
+    let t = judged-given (c .before .before .before .before .before .constraint-at .ensures) (c .before .before .before .truth .given .1) (effect-truth d (s .held .now) (s .at) l h (s .j) names (s .entries) e occurring (s .history .now) seen) in
     sym (sets-if d (s .held .now) (s .at) l h (s .j) names (s .entries) e occurring (ap (has (s .entries)) (sym (c .before .before .before .before .before .before .before .before .wide .ensures)) ∙ (sym (c .before .before .before .before .before .before .before .has-entry .ensures) ∙ not-false (c .before .before .before .before .before .before .before .has-entry .result) (c .before .before .before .before .before .before .if2 .left)))
     ∙ ap (λ (v : Valued Bool). setsIf (e .fluent) (evalE (e .expr) h (s .j)) v) (sym (t .0) ∙ ap truthOf (c .enum-told2 .given .1)))
 
@@ -77,16 +77,16 @@ setting-at-requires c κs = search needs
 returns-5 : tie.Need-returns-5
 returns-5 c = λ d h l names long says occurring seen. let s = c .before .before .before .before .before .before .before .before .before .before .before .before .before .before .before .args in
     let e = effect-told d (drop (s .at) (s .held .now)) l says (front (s .held .now) (s .at) ∙ c .before .before .before .before .before .before .before .before .before .before .before .before .before .if1 .left) in
-    let t = judged-given (c .before .before .before .before .before .before .before .before .constraint-at .ensures) (c .before .before .before .before .before .before .truth .given .1) (effect-truth d (s .held .now) (s .at) l h (s .j) names (s .entries) e occurring (s .levels .now) (s .occurred .now) seen) in
-    c .setting-at .ensures long ∙ (ap (λ (k : ℕ). settingFrom (getD (s .held .now) k 0) (valueAt mostDepth (s .held .now) (k + 1) (s .levels .now) (s .occurred .now) (s .j))) (t .1)
-    ∙ (effect-value d (s .held .now) (s .at) l h (s .j) names (s .entries) e occurring (s .levels .now) (s .occurred .now) seen
+    let t = judged-given (c .before .before .before .before .before .before .before .before .constraint-at .ensures) (c .before .before .before .before .before .before .truth .given .1) (effect-truth d (s .held .now) (s .at) l h (s .j) names (s .entries) e occurring (s .history .now) seen) in
+    c .setting-at .ensures long ∙ (ap (λ (k : ℕ). settingFrom (getD (s .held .now) k 0) (valueAt mostDepth (s .held .now) (k + 1) (s .history .now) (s .j))) (t .1)
+    ∙ (effect-value d (s .held .now) (s .at) l h (s .j) names (s .entries) e occurring (s .history .now) seen
     ∙ sym (sets-if d (s .held .now) (s .at) l h (s .j) names (s .entries) e occurring (ap (has (s .entries)) (sym (c .before .before .before .before .before .before .before .before .before .before .before .wide .ensures)) ∙ (sym (c .before .before .before .before .before .before .before .before .before .before .has-entry .ensures) ∙ not-false (c .before .before .before .before .before .before .before .before .before .before .has-entry .result) (c .before .before .before .before .before .before .before .before .before .if2 .left)))
     ∙ ap (λ (v : Valued Bool). setsIf (e .fluent) (evalE (e .expr) h (s .j)) v) (sym (t .0) ∙ (ap truthOf (c .before .before .before .truth2 .given .1) ∙ ap value (c .before .if3 .taken))))))
 
 returns-6 : tie.Need-returns-6
 returns-6 c = λ d h l names long says occurring seen. let s = c .before .before .before .before .before .before .before .before .before .before .before .before .before .before .args in
     let e = effect-told d (drop (s .at) (s .held .now)) l says (front (s .held .now) (s .at) ∙ c .before .before .before .before .before .before .before .before .before .before .before .before .if1 .left) in
-    let t = judged-given (c .before .before .before .before .before .before .before .constraint-at .ensures) (c .before .before .before .before .before .truth .given .1) (effect-truth d (s .held .now) (s .at) l h (s .j) names (s .entries) e occurring (s .levels .now) (s .occurred .now) seen) in
+    let t = judged-given (c .before .before .before .before .before .before .before .constraint-at .ensures) (c .before .before .before .before .before .truth .given .1) (effect-truth d (s .held .now) (s .at) l h (s .j) names (s .entries) e occurring (s .history .now) seen) in
     sym (sets-if d (s .held .now) (s .at) l h (s .j) names (s .entries) e occurring (ap (has (s .entries)) (sym (c .before .before .before .before .before .before .before .before .before .before .wide .ensures)) ∙ (sym (c .before .before .before .before .before .before .before .before .before .has-entry .ensures) ∙ not-false (c .before .before .before .before .before .before .before .before .before .has-entry .result) (c .before .before .before .before .before .before .before .before .if2 .left)))
     ∙ ap (λ (v : Valued Bool). setsIf (e .fluent) (evalE (e .expr) h (s .j)) v) (sym (t .0) ∙ (ap truthOf (c .before .before .truth2 .given .1) ∙ ap value (c .if3 .left))))
 

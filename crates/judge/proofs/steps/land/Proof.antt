@@ -39,10 +39,10 @@ returns : tie.Need-returns
 returns c = let s = c .before .before .before .before .before .before .before .before .before .before .before .before .before .before .before .before .before .before .args in (
   c .before .before .before .put-state .ensures .0,
   λ d owners n count sheet names p occurring acted.
-      let h = history d sheet (statesOf (s .w) (s .j + 1) (s .levels .now)) in let old = stateAt (s .w) (s .levels .now) (s .j) in
-      landed-fault d sheet (statesOf (s .w) (s .j + 1) (s .levels .now)) (s .j) names _ old
-      (sym (ap (λ (t : Settled). settledOf t (c .before .before .before .before .before .before .before .before .before .before .before .before .before .settle .last .1 .1 .1 .1 .1 .1 .1 .0) (c .before .before .before .before .before .before .before .before .before .before .before .before .before .settle .last .1 .1 .1 .1 .1 .1 .1 .1 .0)) (c .before .before .before .before .before .before .before .before .before .before .before .m .given .1)) ∙ c .before .before .before .before .before .before .before .before .before .before .before .before .before .settle .ensures .1 d h n names (p .lawful) (p .ordered .effect) occurring (seen-all d sheet (s .w) (s .levels .now) (s .occurred .now) (s .j) (p .ranged .count) acted))
-      (states-at (s .w) (s .j + 1) (s .j) (s .levels .now) (omega arith)) (c .before .before .before .put-state .result) _ (c .before .before .before .put-state .ensures .1 d _ old (p .ranged) (c .before .before .before .before .before .before .new-levels .ensures .1)) (c .before .fault2 .given .1),
+      let h = history d sheet (statesOf (s .w) (s .j + 1) (s .history .now)) in let old = stateAt (s .w) (s .history .now) (s .j) in
+      landed-fault d sheet (statesOf (s .w) (s .j + 1) (s .history .now)) (s .j) names _ old
+      (sym (ap (λ (t : Settled). settledOf t (c .before .before .before .before .before .before .before .before .before .before .before .before .before .settle .last .1 .1 .1 .1 .1 .1 .0) (c .before .before .before .before .before .before .before .before .before .before .before .before .before .settle .last .1 .1 .1 .1 .1 .1 .1 .0)) (c .before .before .before .before .before .before .before .before .before .before .before .m .given .1)) ∙ c .before .before .before .before .before .before .before .before .before .before .before .before .before .settle .ensures .1 d h n names (p .lawful) (p .ordered .effect) occurring (seen-all d sheet (s .w) (s .history .now) (s .j) (p .ranged .count) acted))
+      (states-at (s .w) (s .j + 1) (s .j) (s .history .now) (omega arith)) (c .before .before .before .put-state .result) _ (c .before .before .before .put-state .ensures .1 d _ old (p .ranged) (c .before .before .before .before .before .before .new-levels .ensures .1)) (c .before .fault2 .given .1),
 )
 
 enum-told : tie.Need-enum-told
@@ -53,23 +53,23 @@ check-laws-requires c κs = c .before .before .before .before .before .before .b
 
 returns-2 : tie.Need-returns-2
 returns-2 c = let s = c .before .before .before .before .before .before .before .before .args in (
-  record { states = refl; long = c .before .before .before .before .before .before .before .before .pre .1 .1 .1 },
+  record { before = refl; after = refl; long = c .before .before .before .before .before .before .before .before .pre .1 .1 .1 },
   λ d owners n count sheet names p occurring acted.
-      landed-clash d sheet (statesOf (s .w) (s .j + 1) (s .levels .now)) (s .j) names
-      (sym (ap (λ (t : Settled). settledOf t (c .before .before .before .settle .last .1 .1 .1 .1 .1 .1 .1 .0) (c .before .before .before .settle .last .1 .1 .1 .1 .1 .1 .1 .1 .0)) (c .before .fault .given .1)) ∙ c .before .before .before .settle .ensures .1 d (history d sheet (statesOf (s .w) (s .j + 1) (s .levels .now))) n names (p .lawful) (p .ordered .effect) occurring (seen-all d sheet (s .w) (s .levels .now) (s .occurred .now) (s .j) (p .ranged .count) acted)),
+      landed-clash d sheet (statesOf (s .w) (s .j + 1) (s .history .now)) (s .j) names
+      (sym (ap (λ (t : Settled). settledOf t (c .before .before .before .settle .last .1 .1 .1 .1 .1 .1 .0) (c .before .before .before .settle .last .1 .1 .1 .1 .1 .1 .1 .0)) (c .before .fault .given .1)) ∙ c .before .before .before .settle .ensures .1 d (history d sheet (statesOf (s .w) (s .j + 1) (s .history .now))) n names (p .lawful) (p .ordered .effect) occurring (seen-all d sheet (s .w) (s .history .now) (s .j) (p .ranged .count) acted)),
 )
 
 returns-3 : tie.Need-returns-3
-returns-3 c = let s = c .before .before .before .before .before .before .before .before .before .before .before .before .before .before .before .before .before .before .before .before .args in let levels = c .before .before .before .before .before .put-state .last .1 .1 .1 .1 .0 in (
+returns-3 c = let s = c .before .before .before .before .before .before .before .before .before .before .before .before .before .before .before .before .before .before .before .before .args in let after = c .before .before .before .before .before .put-state .last .1 .1 .1 .1 .0 in (
   c .before .before .before .before .before .put-state .ensures .0,
   λ d owners n count sheet names p occurring acted.
-      let h = history d sheet (statesOf (s .w) (s .j + 1) (s .levels .now)) in let old = stateAt (s .w) (s .levels .now) (s .j) in
-      landed-fine d sheet (statesOf (s .w) (s .j + 1) (s .levels .now)) (s .j) names _ old
-      (sym (ap (λ (t : Settled). settledOf t (c .before .before .before .before .before .before .before .before .before .before .before .before .before .before .before .settle .last .1 .1 .1 .1 .1 .1 .1 .0) (c .before .before .before .before .before .before .before .before .before .before .before .before .before .before .before .settle .last .1 .1 .1 .1 .1 .1 .1 .1 .0)) (c .before .before .before .before .before .before .before .before .before .before .before .before .before .m .given .1)) ∙ c .before .before .before .before .before .before .before .before .before .before .before .before .before .before .before .settle .ensures .1 d h n names (p .lawful) (p .ordered .effect) occurring (seen-all d sheet (s .w) (s .levels .now) (s .occurred .now) (s .j) (p .ranged .count) acted))
-      (states-at (s .w) (s .j + 1) (s .j) (s .levels .now) (omega arith)) (c .before .before .before .before .before .put-state .result) (c .check-laws .result) (stateAt (s .w) levels (s .j + 1)) (statesOf (s .w) (s .j + 1 + 1) levels)
+      let h = history d sheet (statesOf (s .w) (s .j + 1) (s .history .now)) in let old = stateAt (s .w) (s .history .now) (s .j) in
+      landed-fine d sheet (statesOf (s .w) (s .j + 1) (s .history .now)) (s .j) names _ old
+      (sym (ap (λ (t : Settled). settledOf t (c .before .before .before .before .before .before .before .before .before .before .before .before .before .before .before .settle .last .1 .1 .1 .1 .1 .1 .0) (c .before .before .before .before .before .before .before .before .before .before .before .before .before .before .before .settle .last .1 .1 .1 .1 .1 .1 .1 .0)) (c .before .before .before .before .before .before .before .before .before .before .before .before .before .m .given .1)) ∙ c .before .before .before .before .before .before .before .before .before .before .before .before .before .before .before .settle .ensures .1 d h n names (p .lawful) (p .ordered .effect) occurring (seen-all d sheet (s .w) (s .history .now) (s .j) (p .ranged .count) acted))
+      (states-at (s .w) (s .j + 1) (s .j) (s .history .now) (omega arith)) (c .before .before .before .before .before .put-state .result) (c .check-laws .result) (stateAt (s .w) after (s .j + 1)) (statesOf (s .w) (s .j + 1 + 1) after)
       (c .before .before .before .before .before .put-state .ensures .1 d _ old (p .ranged) (c .before .before .before .before .before .before .before .before .new-levels .ensures .1)) (c .before .before .before .enum-told .given .1)
-      (states-more (s .w) (s .j) (s .levels .now) levels (c .before .before .before .before .before .put-state .ensures .0 .states) (omega (arith, c .before .before .before .before .before .before .before .before .before .before .before .before .before .before .before .before .before .before .before .before .pre .1 .0)))
-      (c .check-laws .ensures d (history d sheet (statesOf (s .w) (s .j + 1 + 1) levels)) static n refl (p .lawful) (p .ordered .fixed) (seen-states d sheet (s .w) levels (s .occurred .now) (s .j + 1) (p .ranged .count))),
+      (states-more (s .w) (s .j) (s .history .now) after (c .before .before .before .before .before .put-state .ensures .0 .before) (omega (arith, c .before .before .before .before .before .before .before .before .before .before .before .before .before .before .before .before .before .before .before .before .pre .1 .0)))
+      (c .check-laws .ensures d (history d sheet (statesOf (s .w) (s .j + 1 + 1) after)) static n refl (p .lawful) (p .ordered .fixed) (seen-states d sheet (s .w) after (s .j + 1) (p .ranged .count))),
 )
 
 pub land-spec : {M : Type 1} → statement M

@@ -10,7 +10,7 @@ use Rattle.judge.specs.Answer.{passOf, verdictOf}
 use Rattle.judge.specs.States.{statesOf}
 use Rattle.judge.proofs.StateLaws.{states-one}
 use Rattle.judge.proofs.RunLaws.{rows-length}
-use Rattle.judge.proofs.JudgeLaws.{start-copied, judge-start, judge-broken, judge-goal, judge-accepted}
+use Rattle.judge.proofs.JudgeLaws.{start-copied, start-blank, judge-start, judge-broken, judge-goal, judge-accepted}
 use Rattle.judge.proofs.StepLaws.{seen-at}
 use Rattle.judge.proofs.steps.run_sheet.Statement.{statement}
 use Rattle.judge.proofs.steps.run_sheet.Tie as tie
@@ -26,19 +26,19 @@ enum-known-fault c = search needs
 
 returns : tie.Need-returns
 unfolding statesOf
-returns c = let s = c .before .before .before .before .before .before .before .before .before .before .before .args in let l₁ = c .before .before .before .before .before .before .before .copy-levels .last .1 .1 .1 .0 in (
-  (omega arith, c .before .before .before .before .before .before .before .copy-levels .kept .1 .1 .1 .0 ∙ c .before .before .before .before .before .before .before .before .before .before .before .pre .1 .1 .1 .1 .1),
+returns c = let s = c .before .before .before .before .before .before .before .before .before .before .args in let l₁ = c .before .before .before .before .before .before .copy-levels .last .1 .1 .1 .0 in (
+  (omega arith, c .before .before .before .before .before .before .copy-levels .kept .1 .1 .1 .0 ∙ c .before .before .before .before .before .before .before .before .before .before .pre .1 .1 .1 .1 .1 .0),
   λ d l p entered agents start.
       let sheet = rows (s .agents) (s .n) (s .sheet .now) in
-      let first = states-one (s .counts .fluents) l₁ (start-copied (s .counts .fluents) (s .levels .now) (s .start .now) l₁ (c .before .before .before .before .before .before .before .before .before .before .before .pre .1 .1 .1 .1 .0) (c .before .before .before .before .before .before .before .copy-levels .ensures) start) in
-      judge-start d sheet (sym (c .before .before .before .check-laws .ensures d (history d sheet (startOf d ∷ [])) static l refl (p .lawful) (p .ordered .fixed) (seen-at d sheet (s .counts .fluents) l₁ _ 0 (p .ranged .count) first)) ∙ ap passOf (c .before .fault .given .1)),
+      let first = states-one (s .counts .fluents) l₁ (start-copied (s .counts .fluents) (s .history .now) (s .start .now) l₁ (c .before .before .before .before .before .before .before .before .before .before .pre .1 .1 .1 .1 .0) (c .before .before .before .before .before .before .copy-levels .ensures) start) in
+      judge-start d sheet (sym (c .before .before .before .check-laws .ensures d (history d sheet (startOf d ∷ [])) static l refl (p .lawful) (p .ordered .fixed) (seen-at d sheet (s .counts .fluents) l₁ 0 (p .ranged .count) first)) ∙ ap passOf (c .before .fault .given .1)),
 )
 
 enum-told : tie.Need-enum-told
 enum-told c = search needs
 
 run-steps-requires : tie.Need-run-steps-requires
-run-steps-requires c κs = (c .before .before .before .before .before .before .before .before .before .before .before .before .pre .0, (c .before .before .before .before .before .before .before .before .before .before .before .before .pre .1 .0, (c .before .before .before .before .before .before .before .before .before .before .before .before .pre .1 .1 .0, (c .before .before .before .before .before .before .before .before .before .before .before .before .pre .1 .1 .1 .0, (c .before .before .before .before .before .before .before .before .copy-levels .kept .1 .1 .1 .0 ∙ c .before .before .before .before .before .before .before .before .before .before .before .before .pre .1 .1 .1 .1 .1, refl)))))
+run-steps-requires c κs = (c .before .before .before .before .before .before .before .before .before .before .pre .0, (c .before .before .before .before .before .before .before .before .before .before .pre .1 .0, (c .before .before .before .before .before .before .before .before .before .before .pre .1 .1 .0, (c .before .before .before .before .before .before .before .before .before .before .pre .1 .1 .1 .0, (c .before .before .before .before .before .before .copy-levels .kept .1 .1 .1 .0 ∙ c .before .before .before .before .before .before .before .before .before .before .pre .1 .1 .1 .1 .1 .0, start-blank (c .before .before .before .before .before .before .before .before .before .before .args .counts .fluents) (c .before .before .before .before .before .before .before .before .before .before .args .history .now) (c .before .before .before .before .before .before .before .before .before .before .args .start .now) _ (c .before .before .before .before .before .before .before .before .before .before .pre .1 .1 .0) (c .before .before .before .before .before .before .before .before .before .before .pre .1 .1 .1 .1 .0) (c .before .before .before .before .before .before .copy-levels .ensures) (c .before .before .before .before .before .before .before .before .before .before .pre .1 .1 .1 .1 .1 .1))))))
 
 enum-told-2 : tie.Need-enum-told-2
 enum-told-2 c = search needs
@@ -47,52 +47,52 @@ enum-told-3 : tie.Need-enum-told-3
 enum-told-3 c = search needs
 
 returns-2 : tie.Need-returns-2
-returns-2 c = let s = c .before .before .before .before .before .before .before .before .before .before .before .before .before .before .before .args in let l₁ = c .before .before .before .before .before .before .before .before .before .before .before .copy-levels .last .1 .1 .1 .0 in let l₂ = c .before .before .run-steps .last .1 .1 .1 .1 .1 .1 .1 .1 .1 .1 .1 .0 in (
-  (omega (arith, c .before .before .run-steps .ensures .0 .0, c .before .before .before .before .before .before .before .before .before .before .before .before .before .before .before .pre .0 .0), c .before .before .run-steps .ensures .0 .1 .1),
+returns-2 c = let s = c .before .before .before .before .before .before .before .before .before .before .before .before .before .args in let l₁ = c .before .before .before .before .before .before .before .before .before .copy-levels .last .1 .1 .1 .0 in let l₂ = c .before .before .run-steps .last .1 .1 .1 .1 .1 .1 .1 .1 .1 .1 .1 .0 in (
+  (omega (arith, c .before .before .run-steps .ensures .0 .0, c .before .before .before .before .before .before .before .before .before .before .before .before .before .pre .0 .0), c .before .before .run-steps .ensures .0 .1 .1),
   λ d l p entered agents start.
       let sheet = rows (s .agents) (s .n) (s .sheet .now) in
-      let first = states-one (s .counts .fluents) l₁ (start-copied (s .counts .fluents) (s .levels .now) (s .start .now) l₁ (c .before .before .before .before .before .before .before .before .before .before .before .before .before .before .before .pre .1 .1 .1 .1 .0) (c .before .before .before .before .before .before .before .before .before .before .before .copy-levels .ensures) start) in
-      judge-broken d sheet (sym (c .before .before .before .before .before .before .before .check-laws .ensures d (history d sheet (startOf d ∷ [])) static l refl (p .lawful) (p .ordered .fixed) (seen-at d sheet (s .counts .fluents) l₁ _ 0 (p .ranged .count) first)) ∙ ap passOf (c .before .before .before .before .before .enum-told .given .1))
+      let first = states-one (s .counts .fluents) l₁ (start-copied (s .counts .fluents) (s .history .now) (s .start .now) l₁ (c .before .before .before .before .before .before .before .before .before .before .before .before .before .pre .1 .1 .1 .1 .0) (c .before .before .before .before .before .before .before .before .before .copy-levels .ensures) start) in
+      judge-broken d sheet (sym (c .before .before .before .before .before .before .check-laws .ensures d (history d sheet (startOf d ∷ [])) static l refl (p .lawful) (p .ordered .fixed) (seen-at d sheet (s .counts .fluents) l₁ 0 (p .ranged .count) first)) ∙ ap passOf (c .before .before .before .before .enum-told .given .1))
       (c .before .before .run-steps .ensures .1 d l p entered agents ∙ ap (λ (h : List State). carried d sheet 0 h sheet) first) (ap verdictOf (c .enum-told3 .given .1)),
 )
 
 check-laws-requires-2 : tie.Need-check-laws-requires-2
-check-laws-requires-2 c κs = c .before .before .before .before .before .before .before .before .before .before .before .before .before .before .before .before .before .before .pre .0 .1 .0 .1 .1 .1
+check-laws-requires-2 c κs = c .before .before .before .before .before .before .before .before .before .before .before .before .before .before .before .pre .0 .1 .0 .1 .1 .1
 
 enum-known-fault-2 : tie.Need-enum-known-fault-2
 enum-known-fault-2 c = search needs
 
-add-t39 : tie.Need-add-t39
-add-t39 c = omega (arith, c .before .before .before .before .before .before .before .before .before .before .before .before .before .before .before .before .before .before .before .before .before .before .pre .0 .0)
+add-t35 : tie.Need-add-t35
+add-t35 c = omega (arith, c .before .before .before .before .before .before .before .before .before .before .before .before .before .before .before .before .before .before .before .pre .0 .0)
 
 returns-3 : tie.Need-returns-3
-returns-3 c = let s = c .before .before .before .before .before .before .before .before .before .before .before .before .before .before .before .before .before .before .before .before .before .before .args in let l₁ = c .before .before .before .before .before .before .before .before .before .before .before .before .before .before .before .before .before .before .copy-levels .last .1 .1 .1 .0 in let l₂ = c .before .before .before .before .before .before .before .before .before .run-steps .last .1 .1 .1 .1 .1 .1 .1 .1 .1 .1 .1 .0 in
-    let all = c .before .before .before .before .before .before .before .before .before .run-steps .ensures .0 .1 .0 (ap verdictOf (c .before .before .before .before .before .before .before .enum-told2 .given .1)) in (
-      (omega (arith, c .before .before .before .before .before .before .before .before .before .before .before .before .before .before .before .before .before .before .before .before .before .before .pre .0 .0), c .before .before .before .before .before .before .before .before .before .run-steps .ensures .0 .1 .1),
+returns-3 c = let s = c .before .before .before .before .before .before .before .before .before .before .before .before .before .before .before .before .before .before .before .args in let l₁ = c .before .before .before .before .before .before .before .before .before .before .before .before .before .before .before .copy-levels .last .1 .1 .1 .0 in let l₂ = c .before .before .before .before .before .before .before .before .run-steps .last .1 .1 .1 .1 .1 .1 .1 .1 .1 .1 .1 .0 in
+    let all = c .before .before .before .before .before .before .before .before .run-steps .ensures .0 .1 .0 (ap verdictOf (c .before .before .before .before .before .before .enum-told2 .given .1)) in (
+      (omega (arith, c .before .before .before .before .before .before .before .before .before .before .before .before .before .before .before .before .before .before .before .pre .0 .0), c .before .before .before .before .before .before .before .before .run-steps .ensures .0 .1 .1),
       λ d l p entered agents start.
           let sheet = rows (s .agents) (s .n) (s .sheet .now) in
-          let first = states-one (s .counts .fluents) l₁ (start-copied (s .counts .fluents) (s .levels .now) (s .start .now) l₁ (c .before .before .before .before .before .before .before .before .before .before .before .before .before .before .before .before .before .before .before .before .before .before .pre .1 .1 .1 .1 .0) (c .before .before .before .before .before .before .before .before .before .before .before .before .before .before .before .before .before .before .copy-levels .ensures) start) in
+          let first = states-one (s .counts .fluents) l₁ (start-copied (s .counts .fluents) (s .history .now) (s .start .now) l₁ (c .before .before .before .before .before .before .before .before .before .before .before .before .before .before .before .before .before .before .before .pre .1 .1 .1 .1 .0) (c .before .before .before .before .before .before .before .before .before .before .before .before .before .before .before .copy-levels .ensures) start) in
           let reached = ap (λ (k : ℕ). statesOf (s .counts .fluents) k l₂) all in
-          judge-goal d sheet (sym (c .before .before .before .before .before .before .before .before .before .before .before .before .before .before .check-laws .ensures d (history d sheet (startOf d ∷ [])) static l refl (p .lawful) (p .ordered .fixed) (seen-at d sheet (s .counts .fluents) l₁ _ 0 (p .ranged .count) first)) ∙ ap passOf (c .before .before .before .before .before .before .before .before .before .before .before .before .enum-told .given .1))
-          (sym (ap (λ (h : List State). record { states = h; verdict = verdictOf (c .before .before .before .before .before .before .before .before .before .run-steps .result .verdict) }) reached) ∙ (c .before .before .before .before .before .before .before .before .before .run-steps .ensures .1 d l p entered agents ∙ ap (λ (h : List State). carried d sheet 0 h sheet) first)) (ap verdictOf (c .before .before .before .before .before .before .before .enum-told2 .given .1))
+          judge-goal d sheet (sym (c .before .before .before .before .before .before .before .before .before .before .before .before .check-laws .ensures d (history d sheet (startOf d ∷ [])) static l refl (p .lawful) (p .ordered .fixed) (seen-at d sheet (s .counts .fluents) l₁ 0 (p .ranged .count) first)) ∙ ap passOf (c .before .before .before .before .before .before .before .before .before .before .enum-told .given .1))
+          (sym (ap (λ (h : List State). record { states = h; verdict = verdictOf (c .before .before .before .before .before .before .before .before .run-steps .result .verdict) }) reached) ∙ (c .before .before .before .before .before .before .before .before .run-steps .ensures .1 d l p entered agents ∙ ap (λ (h : List State). carried d sheet 0 h sheet) first)) (ap verdictOf (c .before .before .before .before .before .before .enum-told2 .given .1))
           (sym (rows-length (s .agents) (s .n) (s .sheet .now)))
-          (sym (c .before .before .before .check-laws2 .ensures d (history d sheet (statesOf (s .counts .fluents) (s .n + 1) l₂)) goal l refl (p .lawful) (p .ordered .goal) (seen-at d sheet (s .counts .fluents) l₂ _ (s .n) (p .ranged .count) refl)) ∙ ap passOf (c .before .fault2 .given .1)),
+          (sym (c .before .before .before .check-laws2 .ensures d (history d sheet (statesOf (s .counts .fluents) (s .n + 1) l₂)) goal l refl (p .lawful) (p .ordered .goal) (seen-at d sheet (s .counts .fluents) l₂ (s .n) (p .ranged .count) refl)) ∙ ap passOf (c .before .fault2 .given .1)),
     )
 
 enum-told-4 : tie.Need-enum-told-4
 enum-told-4 c = search needs
 
 returns-4 : tie.Need-returns-4
-returns-4 c = let s = c .before .before .before .before .before .before .before .before .before .before .before .before .before .before .before .before .before .before .before .before .before .args in let l₁ = c .before .before .before .before .before .before .before .before .before .before .before .before .before .before .before .before .before .copy-levels .last .1 .1 .1 .0 in let l₂ = c .before .before .before .before .before .before .before .before .run-steps .last .1 .1 .1 .1 .1 .1 .1 .1 .1 .1 .1 .0 in
-    let all = c .before .before .before .before .before .before .before .before .run-steps .ensures .0 .1 .0 (ap verdictOf (c .before .before .before .before .before .before .enum-told2 .given .1)) in (
-      (omega (arith, c .before .before .before .before .before .before .before .before .run-steps .ensures .0 .0, c .before .before .before .before .before .before .before .before .before .before .before .before .before .before .before .before .before .before .before .before .before .pre .0 .0), c .before .before .before .before .before .before .before .before .run-steps .ensures .0 .1 .1),
+returns-4 c = let s = c .before .before .before .before .before .before .before .before .before .before .before .before .before .before .before .before .before .before .args in let l₁ = c .before .before .before .before .before .before .before .before .before .before .before .before .before .before .copy-levels .last .1 .1 .1 .0 in let l₂ = c .before .before .before .before .before .before .before .run-steps .last .1 .1 .1 .1 .1 .1 .1 .1 .1 .1 .1 .0 in
+    let all = c .before .before .before .before .before .before .before .run-steps .ensures .0 .1 .0 (ap verdictOf (c .before .before .before .before .before .enum-told2 .given .1)) in (
+      (omega (arith, c .before .before .before .before .before .before .before .run-steps .ensures .0 .0, c .before .before .before .before .before .before .before .before .before .before .before .before .before .before .before .before .before .before .pre .0 .0), c .before .before .before .before .before .before .before .run-steps .ensures .0 .1 .1),
       λ d l p entered agents start.
           let sheet = rows (s .agents) (s .n) (s .sheet .now) in
-          let first = states-one (s .counts .fluents) l₁ (start-copied (s .counts .fluents) (s .levels .now) (s .start .now) l₁ (c .before .before .before .before .before .before .before .before .before .before .before .before .before .before .before .before .before .before .before .before .before .pre .1 .1 .1 .1 .0) (c .before .before .before .before .before .before .before .before .before .before .before .before .before .before .before .before .before .copy-levels .ensures) start) in
-          judge-accepted d sheet (sym (c .before .before .before .before .before .before .before .before .before .before .before .before .before .check-laws .ensures d (history d sheet (startOf d ∷ [])) static l refl (p .lawful) (p .ordered .fixed) (seen-at d sheet (s .counts .fluents) l₁ _ 0 (p .ranged .count) first)) ∙ ap passOf (c .before .before .before .before .before .before .before .before .before .before .before .enum-told .given .1))
-          (c .before .before .before .before .before .before .before .before .run-steps .ensures .1 d l p entered agents ∙ ap (λ (h : List State). carried d sheet 0 h sheet) first) (ap verdictOf (c .before .before .before .before .before .before .enum-told2 .given .1))
+          let first = states-one (s .counts .fluents) l₁ (start-copied (s .counts .fluents) (s .history .now) (s .start .now) l₁ (c .before .before .before .before .before .before .before .before .before .before .before .before .before .before .before .before .before .before .pre .1 .1 .1 .1 .0) (c .before .before .before .before .before .before .before .before .before .before .before .before .before .before .copy-levels .ensures) start) in
+          judge-accepted d sheet (sym (c .before .before .before .before .before .before .before .before .before .before .before .check-laws .ensures d (history d sheet (startOf d ∷ [])) static l refl (p .lawful) (p .ordered .fixed) (seen-at d sheet (s .counts .fluents) l₁ 0 (p .ranged .count) first)) ∙ ap passOf (c .before .before .before .before .before .before .before .before .before .enum-told .given .1))
+          (c .before .before .before .before .before .before .before .run-steps .ensures .1 d l p entered agents ∙ ap (λ (h : List State). carried d sheet 0 h sheet) first) (ap verdictOf (c .before .before .before .before .before .enum-told2 .given .1))
           (sym (rows-length (s .agents) (s .n) (s .sheet .now)))
-          (sym (c .before .before .check-laws2 .ensures d (history d sheet (statesOf (s .counts .fluents) (c .before .before .before .before .before .before .before .before .run-steps .result .reached) l₂)) goal l refl (p .lawful) (p .ordered .goal) (seen-at d sheet (s .counts .fluents) l₂ _ (s .n) (p .ranged .count) (sym (ap (λ (k : ℕ). statesOf (s .counts .fluents) k l₂) all)))) ∙ ap passOf (c .enum-told4 .given .1)),
+          (sym (c .before .before .check-laws2 .ensures d (history d sheet (statesOf (s .counts .fluents) (c .before .before .before .before .before .before .before .run-steps .result .reached) l₂)) goal l refl (p .lawful) (p .ordered .goal) (seen-at d sheet (s .counts .fluents) l₂ (s .n) (p .ranged .count) (sym (ap (λ (k : ℕ). statesOf (s .counts .fluents) k l₂) all)))) ∙ ap passOf (c .enum-told4 .given .1)),
     )
 
 pub run-sheet-spec : {M : Type 1} → statement M
@@ -110,7 +110,7 @@ run-sheet-spec =
     returns-2
     check-laws-requires-2
     enum-known-fault-2
-    add-t39
+    add-t35
     returns-3
     enum-told-4
     returns-4)

@@ -172,15 +172,7 @@ pub(crate) fn check_laws(
 {
     let mut l = from;
     while l < to {
-        if let Check::Failed(found, n) = check_law(
-            held,
-            FRAME * l,
-            kind,
-            fault,
-            history,
-            j,
-            l,
-        ) {
+        if let Check::Failed(found, n) = check_law(held, FRAME * l, kind, fault, history, j, l) {
             return Check::Failed(found, n);
         }
         l += 1;

@@ -49,12 +49,7 @@ pub enum Wants {
 }
 
 // A fluent and the expression after it.
-fn setting_at(
-    held: &[u8; HELD],
-    at: usize,
-    history: &[i16; HISTORY],
-    j: usize,
-) -> Wants
+fn setting_at(held: &[u8; HELD], at: usize, history: &[i16; HISTORY], j: usize) -> Wants
     ensures { λ r. ⌜ (length (now (held .entry)) ≡ heldSize → wantsOf r ≡ settingFrom (getD (now (held .entry)) at 0) (valueAt mostDepth (now (held .entry)) (at + 1) (now (history .entry)) j)) ⌝ }
 {
     if HELD <= at {

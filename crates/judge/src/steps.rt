@@ -133,16 +133,7 @@ fn take_step(
     ) {
         return Check::Failed(fault, n);
     }
-    land(
-        held,
-        runs,
-        lowest,
-        highest,
-        w,
-        acting.entries,
-        history,
-        j,
-    )
+    land(held, runs, lowest, highest, w, acting.entries, history, j)
 }
 
 // A verdict, and how many states were reached.

@@ -95,11 +95,11 @@ loop-again c = let s = c .before .before .before .before .before .before .before
       omega arith,
       (
         between-set (rowSize * (s .j + 1)) (marksFrom (s .j + 1)) (s .history .now) (c .before .before .before .before .before .before .before .before .loop .history) (c .before .before .before .before .before .before .before .before .loop .inv .1 .0) (rowSize * (s .j + 1) + f) _ (omega arith) (omega arith),
-          λ d settings old r l. let g = inRange (stateAfter d settings old) in let both′ = c .before .before .before .before .before .before .before .before .loop .inv .1 .1 d settings old r l in (
-            row-more (levelThen settings old) (rowSize * (s .j + 1)) f _ (c .before .before .before .before .before .before .before .before .loop .history) (omega arith) (both′ .0) (back16 (c .before .z .given .0 .0) (c .known-told .given .0 .1) ∙ (sym (fit .0) ∙ l f (c .before .before .before .before .before .before .before .loop-test .taken))),
-            both′ .1 ∙ on (λ k q. eachFrom k g q) (d .fluents) noFluent f (omega (arith, r .count, c .before .before .before .before .before .before .before .loop-test .taken)) (each-on g f _ _
-                (range-is d settings old (s .lowest .now) (s .highest .now) (s .w) r f (c .before .before .before .before .before .before .before .loop-test .taken) (l f (c .before .before .before .before .before .before .before .loop-test .taken)) (fit .1))),
-          ),
+        λ d settings old r l. let g = inRange (stateAfter d settings old) in let both′ = c .before .before .before .before .before .before .before .before .loop .inv .1 .1 d settings old r l in (
+          row-more (levelThen settings old) (rowSize * (s .j + 1)) f _ (c .before .before .before .before .before .before .before .before .loop .history) (omega arith) (both′ .0) (back16 (c .before .z .given .0 .0) (c .known-told .given .0 .1) ∙ (sym (fit .0) ∙ l f (c .before .before .before .before .before .before .before .loop-test .taken))),
+          both′ .1 ∙ on (λ k q. eachFrom k g q) (d .fluents) noFluent f (omega (arith, r .count, c .before .before .before .before .before .before .before .loop-test .taken)) (each-on g f _ _
+              (range-is d settings old (s .lowest .now) (s .highest .now) (s .w) r f (c .before .before .before .before .before .before .before .loop-test .taken) (l f (c .before .before .before .before .before .before .before .loop-test .taken)) (fit .1))),
+        ),
       ),
     )
 

@@ -2,9 +2,9 @@
 use Prim.Native.Nat.{ℕ, min, zero, suc, _+_, _-_, _*_, _/_, _%_, _≤_, _<_, zero-le, suc-le-suc}
 use native.Mathlib.Numerals.{add-one}
 use native.Mathlib.Omega.{arith}
-use mathlib.Core.Path.{_≡_, refl, sym, ap}
+use mathlib.Core.Path.{_≡_, refl, sym, ap, _∙_}
 use mathlib.Core.Logic.{_⊎_, inl, inr}
-use mathlib.Core.Bool.{Bool, true, false}
+use mathlib.Core.Bool.{Bool, true, false, _&&_, _||_}
 use mathlib.Core.List.{List, [], _∷_, _++_, append-nil, append-assoc}
 use lib.Dec.{T, eqb, leb, ltb, eqb→eq}
 use lib.ListN.{length, getD, take, drop, set, replicate, length-drop, take-append-drop}
@@ -15,7 +15,7 @@ use Rattle.bmap.specs.Refusal.{Answer, got, refused}
 use Rattle.bmap.specs.Line.{digit, digitFor}
 use Rattle.bmap.specs.Buffer.{over}
 use Rattle.line.specs.Read.{pair, andThen, spelt}
-use Rattle.line.specs.Within.{worth, pairOf}
+use Rattle.line.specs.Within.{worth, pairOf, isDigit}
 use Rattle.line.proofs.Table.{at}
 
 -- ---- what is no digit
@@ -110,7 +110,62 @@ worth-most c = go (digit-is c)
     go (inl (d, x)) = rw (x .is) (omega (arith, x .small))
     go (inr e) = rw e (omega arith)
 
+-- the ranges that the code tests
+pub in-ranges : (c : ℕ) → ((leb 48 c && leb c 57) || (leb 65 c && leb c 70)) ≡ isDigit c
+unfolding isDigit digit
+in-ranges c = go (leb 48 c) (leb c 57) (leb 65 c) (leb c 70) refl refl
+  where
+    go : (p q r t : Bool) → leb c 57 ≡ q → leb c 70 ≡ t
+        → ((p && q) || (r && t)) ≡ ltb (worth (if-else (both p q) (got (c - 48)) (if-else (both r t) (got (c - 55)) (refused 1)))) 256
+    go true true r t e f = let l = leb-true c 57 e in sym (lt-ltb (c - 48) 256 (omega arith))
+    go true false true true e f = let l = leb-true c 70 f in sym (lt-ltb (c - 55) 256 (omega arith))
+    go true false true false e f = refl
+    go true false false t e f = refl
+    go false q true true e f = let l = leb-true c 70 f in sym (lt-ltb (c - 55) 256 (omega arith))
+    go false q true false e f = refl
+    go false q false t e f = refl
+
+-- what the code subtracts from a digit
+pub record Shifted (c : ℕ) : Type 0 where
+  pub least : 48 ≤ c
+  pub number : c < 58 → c - 48 ≡ worth (digit c)
+  pub letter : 58 ≤ c → c - 55 ≡ worth (digit c)
+
+known : (c : ℕ) → isDigit c ≡ true → (d : ℕ) × Digit c d
+unfolding isDigit
+known c h = go (digit-is c)
+  where
+    go : ((d : ℕ) × Digit c d) ⊎ (digit c ≡ refused 1) → (d : ℕ) × Digit c d
+    go (inl x) = x
+    go (inr e) = absurd (let z : 256 < 256 = ltb-true 256 256 (ap (λ (y : Answer ℕ). ltb (worth y) 256) (sym e) ∙ h) in omega arith)
+
+pub shifted : (c : ℕ) → isDigit c ≡ true → Shifted c
+unfolding digitFor
+shifted c h = let (d, x) = known c h in go d x (ltb d 10) refl
+  where
+    go : (d : ℕ) → Digit c d → (b : Bool) → ltb d 10 ≡ b → Shifted c
+    go d x true e =
+        let l = ltb-true d 10 e in
+        let k : d + 48 ≡ c = simp e at (x .back) in
+        record { least = omega arith; number = λ m. rw (x .is) (omega arith); letter = λ m. absurd (omega arith) }
+    go d x false e =
+        let l = ltb-false d 10 e in
+        let k : d + 55 ≡ c = simp e at (x .back) in
+        record { least = omega arith; number = λ m. absurd (omega arith); letter = λ m. rw (x .is) (omega arith) }
+
 -- ---- a pair
+
+-- a pair spells a byte where both characters are digits, and only there
+pub digits-pair : (a b : ℕ) → isDigit a ≡ true → isDigit b ≡ true → pairOf a b ≤ 255
+unfolding pairOf
+digits-pair a b h k =
+    let (d, x) = known a h in
+    let (e, y) = known b k in
+    rw (x .is, y .is) (omega (arith, x .small, y .small))
+
+pub pair-digits : (a b : ℕ) → pairOf a b ≤ 255 → (isDigit a ≡ true) × (isDigit b ≡ true)
+unfolding pairOf isDigit
+pair-digits a b h = (lt-ltb (worth (digit a)) 256 (omega arith), lt-ltb (worth (digit b)) 256 (omega arith))
 
 -- what two characters are: a byte's digits, or not
 pub record Pair (a b x : ℕ) : Type 0 where

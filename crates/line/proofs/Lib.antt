@@ -9,6 +9,7 @@ pub mod Spelling
 pub mod HexLaws
 -- What the functions' proofs cite, and callers of `read_line` and `put_line`.
 pub mod FirstLaws
+pub mod WholeLaws
 pub mod LineLaws
 pub mod WriteLaws
 pub mod FrameLaws

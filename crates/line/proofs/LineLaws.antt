@@ -15,11 +15,12 @@ use Rattle.bmap.specs.Refusal.{Answer, got, refused, then}
 use Rattle.bmap.specs.Line.{Line, Frame, lineFeed, linesOf, bytes, decode, stored, hex, lineFor}
 use Rattle.bmap.specs.Buffer.{over}
 use Rattle.line.specs.Read.{Taken, firstOf, lineRead, bytesRead, spelt}
-use Rattle.line.specs.Within.{Begins}
+use Rattle.line.specs.Within.{Begins, Whole}
 use Rattle.line.proofs.Digits.{spelt-most}
 use Rattle.line.proofs.Spelling.{spelt-all}
 use Rattle.line.proofs.Lines.{after, firstLine, front, lines-nonempty, text-first}
 use Rattle.line.proofs.FirstLaws.{decoded, first-is, sizeIn}
+use Rattle.line.proofs.WholeLaws.{spelt-full, whole-spelt, whole-said}
 use Rattle.line.proofs.HexLaws.{hex-bytes, length-hex}
 use Rattle.line.proofs.Answers.{then-got-inv, then-refused}
 -- the first line, and a frame's line there and back, for callers that cite this module
@@ -70,6 +71,17 @@ module _ (text out p : List ℕ) (n : ℕ) (room : frameSize ≤ length out) (co
   pub read-done : (answer : Option (Answer Taken)) → answer ≡ firstOf (linesOf text)
       → (answer ≡ lineRead text out) × (p ++ drop frameSize out ≡ bytesRead text out)
   read-done answer e = (e ∙ sym (read-in-room text out room), at-front ∙ sym (bytes-in-room text out room))
+
+-- a line that was seen to be whole and right
+pub read-whole : (text out p : List ℕ) (n : ℕ) → frameSize ≤ length out → Whole text n → p ≡ spelt (length (take n out)) text
+    → (some (got (record { bytes = n; characters = 2 * n + 1 })) ≡ lineRead text out) × (p ++ drop n out ≡ bytesRead text out)
+read-whole text out p n room w e =
+    let l : length (take n out) ≡ n = length-take-le n out (omega (arith, w .size)) in
+    let q : p ≡ spelt frameSize text = e ∙ ap (λ (k : ℕ). spelt k text) l ∙ sym (whole-spelt text n w) in
+    let m : length (spelt frameSize text) ≡ n = ap length (whole-spelt text n w) ∙ spelt-full n text (w .spells) in (
+      whole-said text n w ∙ sym (read-in-room text out room),
+      rw q (ap (λ (k : ℕ). spelt frameSize text ++ drop k out) (sym m)) ∙ sym (bytes-in-room text out room),
+    )
 
 first-nothing : (s : List ℕ) → firstOf (linesOf s) ≡ none → s ≡ []
 unfolding linesOf

@@ -1,12 +1,13 @@
 -- What the functions within `read_line` promise each other.
 use Prim.Native.Nat.{ℕ, _+_, _*_, _<_, _≤_}
 use mathlib.Core.Path.{_≡_}
+use mathlib.Core.Bool.{Bool}
 use mathlib.Core.List.{List}
-use lib.Dec.{eqb}
+use lib.Dec.{eqb, ltb}
 use lib.ListN.{length, getD}
 use Rattle.bmap.specs.Plain.{if-else}
 use Rattle.bmap.specs.Refusal.{Answer, got, refused}
-use Rattle.bmap.specs.Line.{digit}
+use Rattle.bmap.specs.Line.{digit, lineFeed}
 use Rattle.bmap.specs.declared.refusal.Refusal.the-variants.{BadLine, BadCount}
 use Rattle.bmap.specs.Limits.{frameSize}
 use Rattle.line.specs.Read.{spelt}
@@ -21,6 +22,21 @@ worth (refused n) = 256
 -- the byte that two digits spell, above 255 where one is none
 unfoldable pub pairOf : ℕ → ℕ → ℕ
 pairOf a b = worth (digit a) * 16 + worth (digit b)
+
+unfoldable pub isDigit : ℕ → Bool
+isDigit c = ltb (worth (digit c)) 256
+
+-- the first n pairs of characters spell bytes
+pub record Spells (text : List ℕ) (n : ℕ) : Type 0 where
+  pub within : 2 * n ≤ length text
+  pub pairs : (i : ℕ) → i < n → pairOf (getD text (2 * i) 0) (getD text (2 * i + 1) 0) ≤ 255
+
+-- the first line of the text is whole and right by its count: n bytes, and a LF
+pub record Whole (text : List ℕ) (n : ℕ) : Type 0 where
+  pub spells : Spells text n
+  pub feed : getD text (2 * n) 0 ≡ lineFeed
+  pub count : pairOf (getD text 2 0) (getD text 3 0) + 2 ≡ n
+  pub size : n ≤ frameSize
 
 -- the text begins with n pairs of digits, as many as stand there or as a frame has bytes at most; the second byte is a count
 pub record Begins (text : List ℕ) (n count : ℕ) : Type 0 where

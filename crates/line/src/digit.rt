@@ -1,8 +1,11 @@
 // The characters of a line: its digits, each with its value, and its LF.
 ghost use mathlib.Core.Path.{_≡_};
-ghost use Prim.Native.Nat.{_/_, _%_, _<_};
-ghost use Rattle.bmap.specs.Line.{digit, digitFor};
-ghost use Rattle.line.specs.Within.{pairOf, worth};
+ghost use mathlib.Core.Bool.{true};
+ghost use Prim.Native.Nat.{_/_, _%_, _<_, _≤_};
+ghost use lib.Dec.{eqb};
+ghost use lib.ListN.{getD};
+ghost use Rattle.bmap.specs.Line.{digit, digitFor, lineFeed};
+ghost use Rattle.line.specs.Within.{pairOf, worth, isDigit};
 
 pub(crate) const LINE_FEED: u8 = 10;
 
@@ -37,6 +40,41 @@ fn value(c: u8) -> u16
         70 => 15,
         _ => 256,
     }
+}
+
+// Whether a character is a digit. No test here is a jump, so that a loop asks many characters at a time.
+pub(crate) fn is_digit(c: u8) -> bool
+    ensures { λ r. ⌜ r ≡ isDigit c ⌝ }
+{
+    ((48 <= c) & (c <= 57)) | ((65 <= c) & (c <= 70))
+}
+
+// The byte that two digits spell. It reads no table, so that a loop makes many bytes at a time.
+pub(crate) fn byte_of(high: u8, low: u8) -> u8
+    requires { ⌜ pairOf high low ≤ 255 ⌝ }
+    ensures { λ r. ⌜ r ≡ pairOf high low ⌝ }
+{
+    digit_value(high) * 16 + digit_value(low)
+}
+
+fn digit_value(c: u8) -> u8
+    requires { ⌜ isDigit c ≡ true ⌝ }
+    ensures { λ r. ⌜ r ≡ worth (digit c) ⌝ }
+{
+    if c < 58 {
+        return c - 48;
+    }
+    c - 55
+}
+
+// Whether a LF stands at a place.
+pub(crate) fn feed_at(text: &[u8], at: usize) -> bool
+    ensures { λ r. ⌜ r ≡ eqb (getD (now (text .entry)) at 0) lineFeed ⌝ }
+{
+    if at >= text.len() {
+        return false;
+    }
+    text[at] == LINE_FEED
 }
 
 // The two digits of a byte.

@@ -5,6 +5,7 @@ mod buffer;
 mod digit;
 mod frame;
 mod read;
+mod whole;
 mod write;
 
 pub use buffer::is_zero_from;

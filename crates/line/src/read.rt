@@ -1,14 +1,15 @@
 // The line at the front of a text, to the bytes of its frame.
-use crate::digit::LINE_FEED;
+use crate::digit::feed_at;
 use crate::digit::pair;
+use crate::whole::decode;
+use crate::whole::whole_line;
 use bmap::FRAME;
 use bmap::Refusal;
 ghost use mathlib.Core.Path.{_≡_};
 ghost use Prim.Native.Nat.{min, _≤_, _*_};
-ghost use lib.ListN.{length, getD};
-ghost use lib.Dec.{eqb};
+ghost use lib.ListN.{length};
 ghost use Rattle.bmap.specs.Buffer.{over};
-ghost use Rattle.bmap.specs.Line.{linesOf, lineFeed};
+ghost use Rattle.bmap.specs.Line.{linesOf};
 ghost use Rattle.bmap.specs.Limits.{frameSize};
 ghost use Rattle.line.specs.Read.{said, firstOf, lineRead, spelt, bytesRead};
 ghost use Rattle.line.specs.Within.{Begins, frameOf};
@@ -31,6 +32,16 @@ pub fn read_line(text: &[u8], out: &mut [u8]) -> FirstLine
     }
     if text.len() == 0 {
         return FirstLine::Nothing;
+    }
+    // Almost every line is whole and right; what is wrong with another is found the long way.
+    let whole = whole_line(text);
+    if whole > 0 {
+        decode(text, &mut out[..whole]);
+        let characters = 2 * whole + 1;
+        return FirstLine::Frame {
+            bytes: whole,
+            characters,
+        };
     }
     let n = spell(text, &mut out[..FRAME]);
     line_of(text, n, out[1])
@@ -72,16 +83,6 @@ fn frame_of(n: usize, count: u8) -> FirstLine
         bytes: n,
         characters: 2 * n + 1,
     }
-}
-
-// Whether a LF stands at a place.
-fn feed_at(text: &[u8], at: usize) -> bool
-    ensures { λ r. ⌜ r ≡ eqb (getD (now (text .entry)) at 0) lineFeed ⌝ }
-{
-    if at >= text.len() {
-        return false;
-    }
-    text[at] == LINE_FEED
 }
 
 // How many pairs of digits stand at the front.

@@ -1,8 +1,8 @@
 use lib.ListN.{List·getD-eq-default}
 use native.Mathlib.Omega.{arith}
 use borrow.Author.Needs.{needs}
-use Rattle.line.proofs.read.feed_at.Statement.{statement}
-use Rattle.line.proofs.read.feed_at.Tie as tie
+use Rattle.line.proofs.digit.feed_at.Statement.{statement}
+use Rattle.line.proofs.digit.feed_at.Tie as tie
 
 returns : tie.Need-returns
 returns c = rw (List·getD-eq-default (c .before .args .text .now) 0 {n = c .before .args .at} (omega arith))

@@ -1,9 +1,10 @@
--- Laws of lists: zeros after a front, a part to the end, what is written over a front.
+-- Laws of lists: zeros after a front, a part to the end, what is written over a front, what is asked of every element.
 use Prim.Native.Nat.{ℕ, min, zero, suc, _+_, _-_, _≤_, _<_}
+use native.Mathlib.Nat.{le-of-suc-le-suc, not-suc-le-zero}
 use native.Mathlib.Numerals.{add-one}
 use native.Mathlib.Omega.{arith}
 use mathlib.Core.Path.{_≡_, refl, sym, ap, _∙_}
-use mathlib.Core.Bool.{Bool, true, false}
+use mathlib.Core.Bool.{Bool, true, false, _&&_}
 use mathlib.Core.List.{List, [], _∷_, _++_, append-nil, append-assoc}
 use lib.Dec.{T, eqb, ltb}
 use lib.Bits.{bitOr, or-add-and, and-le-l, and-le-r}
@@ -76,6 +77,32 @@ zero-end b at i h k e =
     let n : i - at ≡ length b - min at (length b) = omega arith in
     rw (drop-of-length-le b e, append-nil, length-take at b, n)
 
+-- ---- every element is asked, and none ends the asking
+
+module _ (p : ℕ → Bool) where
+  -- those so far are asked, those from i on are still to be asked
+  abbrev pub asking : List ℕ → Bool → ℕ → Bool
+  asking s so-far i = both so-far (all p (drop i s))
+
+  pub ask-more : (s : List ℕ) (so-far next : Bool) (i : ℕ) → i < length s → next ≡ both so-far (p (getD s i 0)) → asking s so-far i ≡ asking s next (i + 1)
+  unfolding all
+  ask-more s so-far next i h e = rw (e, add-one i, drop-cons s i 0 h) (both-assoc so-far (p (getD s i 0)) (all p (drop (suc i) s)))
+
+  pub ask-end : (s : List ℕ) (so-far : Bool) (i : ℕ) → length s ≤ i → asking s so-far i ≡ so-far
+  unfolding all
+  ask-end s so-far i h = rw (drop-of-length-le s h) (both-end so-far)
+
+  pub all-at : (s : List ℕ) → all p s ≡ true → (i : ℕ) → i < length s → p (getD s i 0) ≡ true
+  unfolding all
+  all-at [] e i h = absurd (not-suc-le-zero h)
+  all-at (x ∷ s) e zero h = both-true (p x) (all p s) e .0
+  all-at (x ∷ s) e (suc i) h = all-at s (both-true (p x) (all p s) e .1) i (le-of-suc-le-suc h)
+
+-- the operator of the code
+pub and-both : (a b : Bool) → (a && b) ≡ both a b
+and-both true b = refl
+and-both false b = refl
+
 -- ---- zeros from a place, asked for by joining the bytes
 
 pub or-zero : (a b : ℕ) → eqb (bitOr a b) 0 ≡ both (eqb a 0) (eqb b 0)
@@ -97,16 +124,14 @@ or-zero a b = go (eqb a 0) (eqb b 0) refl refl
 
 -- the bytes so far are joined, those from i on are still to be asked
 abbrev pub joining : List ℕ → ℕ → ℕ → Bool
-joining s joined i = both (eqb joined 0) (zeros (drop i s))
+joining s joined i = asking (λ x. eqb x 0) s (eqb joined 0) i
 
 module _ (s : List ℕ) (joined i : ℕ) where
   pub join-more : i < length s → joining s joined i ≡ joining s (bitOr joined (getD s i 0)) (i + 1)
-  unfolding all
-  join-more h = rw (or-zero joined (getD s i 0), add-one i, drop-cons s i 0 h) (both-assoc (eqb joined 0) (eqb (getD s i 0) 0) (zeros (drop (suc i) s)))
+  join-more h = ask-more (λ x. eqb x 0) s (eqb joined 0) (eqb (bitOr joined (getD s i 0)) 0) i h (or-zero joined (getD s i 0))
 
   pub join-end : length s ≤ i → joining s joined i ≡ eqb joined 0
-  unfolding all
-  join-end h = rw (drop-of-length-le s h) (both-end (eqb joined 0))
+  join-end h = ask-end (λ x. eqb x 0) s (eqb joined 0) i h
 
 -- ---- nothing but zeros
 

@@ -1,49 +1,26 @@
 -- A line that is whole and right by its own count: what is seen of it, and its bytes decoded block after block.
 use Prim.Native.Nat.{ℕ, zero, suc, _+_, _-_, _*_, _≤_, _<_}
-use native.Mathlib.Nat.{zero-add, suc-add, le-of-lt, not-suc-le-zero}
+use native.Mathlib.Nat.{zero-add, suc-add, le-of-lt}
 use native.Mathlib.Numerals.{add-one}
 use native.Mathlib.Omega.{arith}
 use mathlib.Core.Path.{_≡_, refl, sym, ap, _∙_}
 use mathlib.Core.Logic.{_⊎_, inl, inr}
-use mathlib.Core.Bool.{Bool, true, false, _&&_}
+use mathlib.Core.Bool.{true}
 use mathlib.Core.Option.{some}
 use mathlib.Core.List.{List, [], _∷_, _++_, append-nil, append-assoc}
-use lib.ListN.{length, getD, take, drop, set, drop-of-length-le, length-append, length-drop, take-append-drop, List·getD-eq-default}
-use lib.Seq.{drop-cons, take-length, length-take-le, getD-take, getD-drop, take-at, paste-suc}
+use lib.ListN.{length, getD, take, drop, set, drop-of-length-le, length-drop}
+use lib.Seq.{take-length, length-take-le, getD-take, getD-drop, take-at, paste-suc}
 use borrow.Author.Tests.{eq-eqb, ne-eqb}
-use Rattle.bmap.specs.Plain.{both, all}
+use Rattle.bmap.specs.Plain.{all}
 use Rattle.bmap.specs.Refusal.{Answer, got, refused}
 use Rattle.bmap.specs.Line.{lineFeed, linesOf}
 use Rattle.bmap.specs.Limits.{mostPayload, frameSize}
 use Rattle.bmap.specs.Buffer.{over}
-use Rattle.bmap.proofs.PlainLaws.{both-true, both-assoc, both-end}
-use Rattle.line.specs.Read.{Taken, said, firstOf, pair, andThen, spelt, lineRead, bytesRead}
+use Rattle.line.specs.Read.{firstOf, pair, andThen, spelt}
 use Rattle.line.specs.Within.{pairOf, isDigit, Spells, Whole, Begins, frameOf}
-use Rattle.line.proofs.Lists.{part-to-end}
+use Rattle.line.proofs.Lists.{part-to-end, all-at}
 use Rattle.line.proofs.Digits.{Pair, NoPair, pair-is, digits-pair, two-suc, spelt-more}
 use Rattle.line.proofs.FirstLaws.{line-ends}
-
--- ---- every character is asked, and none ends the asking
-
-module _ (p : ℕ → Bool) where
-  -- those so far are asked, those from i on are still to be asked
-  abbrev pub asking : List ℕ → Bool → ℕ → Bool
-  asking s so-far i = both so-far (all p (drop i s))
-
-  pub ask-more : (s : List ℕ) (so-far : Bool) (i : ℕ) → i < length s → asking s so-far i ≡ asking s (so-far && p (getD s i 0)) (i + 1)
-  unfolding all
-  ask-more s true i h = rw (add-one i, drop-cons s i 0 h) refl
-  ask-more s false i h = refl
-
-  pub ask-end : (s : List ℕ) (so-far : Bool) (i : ℕ) → length s ≤ i → asking s so-far i ≡ so-far
-  unfolding all
-  ask-end s so-far i h = rw (drop-of-length-le s h) (both-end so-far)
-
-  all-at : (s : List ℕ) → all p s ≡ true → (i : ℕ) → i < length s → p (getD s i 0) ≡ true
-  unfolding all
-  all-at [] e i h = absurd (not-suc-le-zero h)
-  all-at (x ∷ s) e zero h = both-true (p x) (all p s) e .0
-  all-at (x ∷ s) e (suc i) h = all-at s (both-true (p x) (all p s) e .1) i (omega arith)
 
 -- ---- pairs that spell bytes
 

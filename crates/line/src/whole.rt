@@ -29,11 +29,10 @@ pub(crate) fn whole_line(text: &[u8]) -> usize
     }
     let n = count + 2;
     let end = 2 * n;
-    if !feed_at(text, end) {
-        return 0;
-    }
-    if all_digits(&text[..end]) {
-        return n;
+    if feed_at(text, end) {
+        if all_digits(&text[..end]) {
+            return n;
+        }
     }
     0
 }

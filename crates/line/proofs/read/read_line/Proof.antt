@@ -1,6 +1,5 @@
 use mathlib.Core.Path.{sym}
 use native.Mathlib.Omega.{arith}
-use lib.ListN.{length}
 use lib.Seq.{length-take-le}
 use Rattle.bmap.specs.Limits.{frameSize}
 use Rattle.line.specs.Within.{Whole}

@@ -1,11 +1,11 @@
 use Prim.Native.Nat.{_-_}
-use mathlib.Core.Path.{_≡_, refl, sym, _∙_}
+use mathlib.Core.Path.{_≡_, refl, sym, ap, _∙_}
 use lib.ListN.{length}
 use native.Mathlib.Omega.{arith}
 use borrow.Author.Needs.{needs}
-use Rattle.bmap.specs.Plain.{all}
+use Rattle.bmap.specs.Plain.{both, all}
 use Rattle.line.specs.Within.{isDigit}
-use Rattle.line.proofs.WholeLaws.{asking, ask-more, ask-end}
+use Rattle.line.proofs.Lists.{asking, ask-more, ask-end, and-both}
 use Rattle.line.proofs.whole.all_digits.Statement.{statement}
 use Rattle.line.proofs.whole.all_digits.Tie as tie
 
@@ -33,7 +33,9 @@ loop-less c = omega arith
 loop-again : tie.Need-loop-again Inv-loop μ-loop
 loop-again c =
     let l = c .before .before .before in
-    rw (c .is-digit .ensures) (l .loop .inv ∙ ask-more isDigit (l .before .before .args .text .now) (l .loop .so-far) (l .loop .i) (omega arith))
+    l .loop .inv
+    ∙ ask-more isDigit (l .before .before .args .text .now) (l .loop .so-far) _ (l .loop .i) (omega arith)
+    (and-both (l .loop .so-far) (c .is-digit .result) ∙ ap (both (l .loop .so-far)) (c .is-digit .ensures))
 
 returns : tie.Need-returns Inv-loop μ-loop
 returns c =

@@ -5,7 +5,7 @@ use lib.ListN.{getD}
 use lib.Seq.{length-take-le}
 use native.Mathlib.Omega.{arith}
 use borrow.Author.Needs.{needs}
-use borrow.Author.Tests.{eqb-true, not-false}
+use borrow.Author.Tests.{eqb-true}
 use Rattle.bmap.specs.Line.{lineFeed}
 use Rattle.line.proofs.WholeLaws.{whole-is, feed-within}
 use Rattle.line.proofs.whole.whole_line.Statement.{statement}
@@ -38,12 +38,9 @@ mul-end c = search needs
 feed-at-requires : tie.Need-feed-at-requires
 feed-at-requires c κs = search needs
 
-returns-3 : tie.Need-returns-3
-returns-3 c = search needs
-
 -- a LF stands where the count says
 fed : (c : tie.After-all-digits-arg) → getD (c .before .before .before .before .before .before .before .before .before .args .text .now) (2 * (c .before .before .before .before .pair .result + 2)) 0 ≡ lineFeed
-fed c = eqb-true _ _ (sym (c .before .before .feed-at .ensures) ∙ not-false _ (c .before .if3 .left))
+fed c = eqb-true _ _ (sym (c .before .before .feed-at .ensures) ∙ c .before .if3 .taken)
 
 slice-aggregate-all-digits : tie.Need-slice-aggregate-all-digits
 slice-aggregate-all-digits c =
@@ -54,11 +51,14 @@ slice-aggregate-all-digits c =
 all-digits-requires : tie.Need-all-digits-requires
 all-digits-requires c κs = search needs
 
-returns-4 : tie.Need-returns-4
-returns-4 c h =
+returns-3 : tie.Need-returns-3
+returns-3 c h =
     let d = c .before .before in
     let p = d .before .before .before .before in
     whole-is (p .before .before .before .before .before .args .text .now) (p .pair .result) (p .pair .ensures) (omega arith) (fed d) (sym (c .before .all-digits .ensures) ∙ c .if4 .taken)
+
+returns-4 : tie.Need-returns-4
+returns-4 c = search needs
 
 returns-5 : tie.Need-returns-5
 returns-5 c = search needs
@@ -76,8 +76,8 @@ whole-line-spec =
     add-n
     mul-end
     feed-at-requires
-    returns-3
     slice-aggregate-all-digits
     all-digits-requires
+    returns-3
     returns-4
     returns-5)

@@ -25,14 +25,14 @@ use Rattle.line.proofs.FirstLaws.{line-ends}
 -- ---- pairs that spell bytes
 
 module _ (s : List ℕ) (n : ℕ) where
-  pub digits-spell : 2 * n ≤ length s → all isDigit (take (2 * n) s) ≡ true → Spells s n
+  digits-spell : 2 * n ≤ length s → all isDigit (take (2 * n) s) ≡ true → Spells s n
   digits-spell h e = record { within = h; pairs = λ i k. digits-pair (getD s (2 * i) 0) (getD s (2 * i + 1) 0) (asked (2 * i) (omega arith)) (asked (2 * i + 1) (omega arith)) }
     where
       asked : (i : ℕ) → i < 2 * n → isDigit (getD s i 0) ≡ true
       asked i k = rw (getD-take (2 * n) s i 0 k) at (all-at isDigit (take (2 * n) s) e i (rw (length-take-le (2 * n) s h) k))
 
   -- m of them from the a-th on
-  pub spells-on : (a m : ℕ) → a + m ≤ n → Spells s n → Spells (drop (2 * a) s) m
+  spells-on : (a m : ℕ) → a + m ≤ n → Spells s n → Spells (drop (2 * a) s) m
   spells-on a m h w = record {
     within = rw (length-drop (2 * a) s) (omega (arith, w .within));
     pairs = λ i k.
@@ -50,15 +50,14 @@ unfolding spelt
 spelt-full zero s w = refl
 spelt-full (suc n) [] w = absurd (omega (arith, w .within))
 spelt-full (suc n) (a ∷ []) w = absurd (omega (arith, w .within))
-spelt-full (suc n) (a ∷ b ∷ s) w =
-    go (pair-is a b) (spelt-full n s (spells-on (a ∷ b ∷ s) (suc n) 1 n (omega arith) w))
+spelt-full (suc n) (a ∷ b ∷ s) w = go (pair-is a b) (spelt-full n s (spells-on (a ∷ b ∷ s) (suc n) 1 n (omega arith) w))
   where
     go : ((x : ℕ) × Pair a b x) ⊎ NoPair a b → length (spelt n s) ≡ n → length (andThen (pair a b) (spelt n s)) ≡ suc n
     go (inl (x, p)) r = rw (p .is, r) refl
     go (inr p) r = absurd (omega (arith, p .of, w .pairs 0 (omega arith)))
 
 -- the first of them, and those after them
-pub spelt-join : (a b : ℕ) (s : List ℕ) → length (spelt a s) ≡ a → spelt (a + b) s ≡ spelt a s ++ spelt b (drop (2 * a) s)
+spelt-join : (a b : ℕ) (s : List ℕ) → length (spelt a s) ≡ a → spelt (a + b) s ≡ spelt a s ++ spelt b (drop (2 * a) s)
 unfolding spelt
 spelt-join zero b s e = rw (zero-add b) refl
 spelt-join (suc a) b [] e = absurd (omega arith)
@@ -93,10 +92,10 @@ copy-done s d i e = rw (e, take-length s) refl
 -- ---- block after block
 
 module _ (text out : List ℕ) (m at : ℕ) (w : Spells text m) (size : length out ≡ m) (inside : at ≤ m) (so-far : take at out ≡ spelt at text) where
-  full : (n : ℕ) → at + n ≤ m → spelt (at + n) text ≡ spelt at text ++ spelt n (drop (2 * at) text)
-  full n h = spelt-join at n text (spelt-full at text (spells-on text m 0 at (omega arith) w))
+  with-next : (n : ℕ) → at + n ≤ m → spelt (at + n) text ≡ spelt at text ++ spelt n (drop (2 * at) text)
+  with-next n h = spelt-join at n text (spelt-full at text (spells-on text m 0 at (omega arith) w))
 
-  -- the bytes so far, those of the next block, and what was there after them
+  -- a block more
   pub block-more : (n : ℕ) (p : List ℕ) → at + n ≤ m
       → p ≡ over (spelt n (take (length text - 2 * at) (drop (2 * at) text))) (take (length out - at) (drop at out))
       → take (at + n) (take at out ++ (p ++ drop (length out - at) (drop at out))) ≡ spelt (at + n) text
@@ -107,16 +106,17 @@ module _ (text out : List ℕ) (m at : ℕ) (w : Spells text m) (size : length o
       let l : length (spelt (at + n) text) ≡ at + n = spelt-full (at + n) text (spells-on text m 0 (at + n) (omega arith) w) in
       let q : p ≡ b ++ kept = rw (part-to-end text (2 * at)) at e in
       let laid : take at out ++ (p ++ after) ≡ spelt (at + n) text ++ (kept ++ after)
-      = rw (so-far, q, append-assoc b kept after, ← append-assoc (spelt at text) b (kept ++ after), full n h) refl in
+      = rw (so-far, q, append-assoc b kept after, ← append-assoc (spelt at text) b (kept ++ after), with-next n h) refl in
       ap (take (at + n)) laid ∙ take-at (spelt (at + n) text) (kept ++ after) (at + n) l
 
+  -- and the rest of them
   pub blocks-done : (p : List ℕ) → p ≡ spelt (length (take (length out - at) (drop at out))) (take (length text - 2 * at) (drop (2 * at) text))
       → take at out ++ (p ++ drop (length out - at) (drop at out)) ≡ spelt m text
   blocks-done p e =
       let none : drop (length out - at) (drop at out) ≡ [] = drop-of-length-le (drop at out) {i = length out - at} (simp length-drop (omega arith)) in
       let l : length (take (length out - at) (drop at out)) ≡ m - at = ap length (part-to-end out at) ∙ length-drop at out ∙ omega arith in
       let k : at + (m - at) ≡ m = omega arith in
-      rw (none, append-nil, so-far, e, l, part-to-end text (2 * at)) (sym (full (m - at) (omega arith)) ∙ ap (λ (i : ℕ). spelt i text) k)
+      rw (none, append-nil, so-far, e, l, part-to-end text (2 * at)) (sym (with-next (m - at) (omega arith)) ∙ ap (λ (i : ℕ). spelt i text) k)
 
 -- ---- the line
 
@@ -138,6 +138,7 @@ feed-within [] i e = absurd (omega arith)
 feed-within (c ∷ s) zero e = omega arith
 feed-within (c ∷ s) (suc i) e = let h = feed-within s i e in omega arith
 
+-- what the code asks of it
 pub whole-is : (s : List ℕ) (count : ℕ) → count ≡ pairOf (getD s 2 0) (getD s 3 0) → count ≤ mostPayload → getD s (2 * (count + 2)) 0 ≡ lineFeed
     → all isDigit (take (2 * (count + 2)) s) ≡ true → Whole s (count + 2)
 whole-is s count e h f a = record {
@@ -156,6 +157,7 @@ module _ (s : List ℕ) (n : ℕ) (w : Whole s n) where
       let none : spelt (frameSize - n) (drop (2 * n) s) ≡ [] = feed-first (frameSize - n) (drop (2 * n) s) (getD-drop (2 * n) s 0 0 ∙ ap (λ (i : ℕ). getD s i 0) (omega arith) ∙ w .feed) in
       ap (λ (i : ℕ). spelt i s) (sym k) ∙ spelt-join n (frameSize - n) s (spelt-full n s (w .spells)) ∙ rw none (append-nil (spelt n s))
 
+  -- and its second byte is its count
   whole-begins : Begins s n (pairOf (getD s 2 0) (getD s 3 0))
   whole-begins = record {
     some = omega (arith, w .spells .within, w .count);

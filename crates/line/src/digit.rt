@@ -49,7 +49,7 @@ pub(crate) fn is_digit(c: u8) -> bool
     ((48 <= c) & (c <= 57)) | ((65 <= c) & (c <= 70))
 }
 
-// The byte that two digits spell. It reads no table, so that a loop makes many bytes at a time.
+// The byte that two characters spell that are known to be digits. It reads no table, so that a loop makes many at a time.
 pub(crate) fn byte_of(high: u8, low: u8) -> u8
     requires { ⌜ pairOf high low ≤ 255 ⌝ }
     ensures { λ r. ⌜ r ≡ pairOf high low ⌝ }

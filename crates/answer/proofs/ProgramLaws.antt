@@ -31,7 +31,7 @@ use Rattle.domain.specs.Found.{indexWith, foundIn}
 use Rattle.domain.specs.declared.found.Found.{Found}
 use Rattle.domain.specs.declared.reader.ReadStore.{ReadStore}
 use Rattle.domain.specs.declared.reader.ReadStore.the-variants as given
-use Rattle.domain.proofs.Accepted.{found-got, found-not, found-ok, found-none}
+use Rattle.domain.proofs.Accepted.{found-got, found-ok}
 use Rattle.domain.proofs.RoundTrip as stores
 use Rattle.sheet.specs.Answer as sheets
 use Rattle.sheet.specs.Step.{agentsAllowed, outcome}
@@ -47,7 +47,7 @@ use Rattle.judge.specs.declared.verdict.Judgement.the-variants as said
 use Rattle.supplement.proofs.Theorems.{empty-changes-nothing}
 use Rattle.answer.specs.Put.{Put}
 use Rattle.answer.specs.Cut.{CutIn}
-use Rattle.answer.specs.Room.{outputSize}
+use Rattle.answer.specs.Room.{outputSize, Few}
 use Rattle.answer.specs.Answer.{Answered, answered}
 use Rattle.answer.proofs.PutLaws.{put-then}
 use Rattle.answer.proofs.StatesLaws.{judge-reached}
@@ -122,35 +122,21 @@ lines-most (c ∷ s) = go (eqb c lineFeed) (linesOf s) (lines-most s)
     go true ls h = omega arith
     go false ls h = more ls h
 
-module _ (store : List ℕ) {found : Found} (is : found ≡ foundIn store) where
-  abbrev counts : Counts
-  counts = found .index .counts
+-- the counts of a domain keep their limits
+pub few-counts : (store : List ℕ) (d : Domain) → domainIn store ≡ got d → {counts : Counts} → counts ≡ countsOf d → (1 ≤ counts .agents) × Few counts
+unfolding indexWith
+few-counts store d domain {counts} e =
+    let k = found-ok store (ap (λ (f : Found). f .ok) (found-got store d domain)) .sound in
+    let are : foundIn store .index .counts ≡ counts = ap (λ (f : Found). f .index .counts) (found-got store d domain) ∙ sym e in
+    subst (λ (n : Counts). (1 ≤ n .agents) × Few n) are (k .someAgent, record { agents = k .agents; fluents = k .fluents })
 
-  -- the numbers that are found keep their limits, be the store accepted or not
-  counts-small : (counts .agents ≤ mostAgents) × (counts .fluents ≤ mostFluents)
-  unfolding indexWith
-  counts-small = subst (λ (f : Found). (f .index .counts .agents ≤ mostAgents) × (f .index .counts .fluents ≤ mostFluents)) (sym is) (go (foundIn store .ok) refl)
-    where
-      go : (b : Bool) → foundIn store .ok ≡ b → (foundIn store .index .counts .agents ≤ mostAgents) × (foundIn store .index .counts .fluents ≤ mostFluents)
-      go true k = (found-ok store k .sound .agents, found-ok store k .sound .fluents)
-      go false k = rw (found-not store 15 (found-none store k)) (omega arith, omega arith)
-
-  pub fluents-small : counts .fluents ≤ mostFluents
-  fluents-small = counts-small .1
-
-  module _ (d : Domain) (domain : domainIn store ≡ got d) where
-    counts-are : counts ≡ countsOf d
-    unfolding indexWith
-    counts-are = ap (λ (f : Found). f .index .counts) (is ∙ found-got store d domain)
-
+module _ (store : List ℕ) (counts : Counts) (few : Few counts) where
+  module _ (d : Domain) (domain : domainIn store ≡ got d) (are : counts ≡ countsOf d) where
     agents-are : counts .agents ≡ d .agents
-    agents-are = ap (λ (n : Counts). n .agents) counts-are
+    agents-are = ap (λ (n : Counts). n .agents) are
 
     agents-fit : agentsAllowed (counts .agents) ≡ true
-    agents-fit =
-        let k = found-ok store (ap (λ (f : Found). f .ok) (found-got store d domain)) .sound in
-        let some : 1 ≤ counts .agents = subst (λ (f : Found). 1 ≤ f .index .counts .agents) (sym is) (k .someAgent) in
-        simp (le-leb 1 (counts .agents) some, le-leb (counts .agents) mostAgents (counts-small .0))
+    agents-fit = simp (le-leb 1 (counts .agents) (few-counts store d domain are .0), le-leb (counts .agents) mostAgents (few .agents))
 
   module _ (s names : List ℕ) {after : List ℕ} (answer : ReadSheet)
       (told : (sheets.readingOf answer ≡ readSheet (counts .agents) s names .answer) × (after ≡ readSheet (counts .agents) s names .buffer)) (room : length names ≡ sheetSize) where
@@ -164,13 +150,13 @@ module _ (store : List ℕ) {found : Found} (is : found ≡ foundIn store) where
     line-small r line e = omega (arith, turned-at r line e .within, lines-most s)
 
     pub used-most : (n : ℕ) → answer ≡ Read n → n * counts .agents ≤ sheetSize
-    used-most n e = product-most n (counts .agents) (kept-at n e .few) (counts-small .0) refl
+    used-most n e = product-most n (counts .agents) (kept-at n e .few) (few .agents) refl
 
-    module _ {out new : List ℕ} {q : ℕ} (lines : ℕ) (d : Domain) (l : List Replacement) (domain : domainIn store ≡ got d) where
+    module _ {out new : List ℕ} {q : ℕ} (lines : ℕ) (d : Domain) (l : List Replacement) (domain : domainIn store ≡ got d) (are : counts ≡ countsOf d) where
       pub sheet-refused : {number line : ℕ} (r : Refusal) → answer ≡ Refused r line → number ≡ numberOf r → Put out 0 (refusedText number (lines + line)) q new
           → Put out 0 (judgedBy (replaced l d) lines (stepsFrom (d .agents) [] (map decode (linesOf s)))) q new
       sheet-refused {number} {line} r e k x =
-          let goes : outcome (d .agents) s ≡ refusedAt (numberOf r) line = subst (λ (a : ℕ). outcome a s ≡ refusedAt (numberOf r) line) (agents-are d domain) (turned-at r line e .goes (agents-fit d domain)) in
+          let goes : outcome (d .agents) s ≡ refusedAt (numberOf r) line = subst (λ (a : ℕ). outcome a s ≡ refusedAt (numberOf r) line) (agents-are d domain are) (turned-at r line e .goes (agents-fit d domain are)) in
           subst (λ (o : Reading (List Names)). Put out 0 (judgedBy (replaced l d) lines o) q new) (sym goes) (subst (λ (m : ℕ). Put out 0 (refusedText m (lines + line)) q new) k x)
 
       pub sheet-judged : (n : ℕ) (supplement : List ℕ) → supplementIn d supplement ≡ got l → answer ≡ Read n
@@ -179,12 +165,12 @@ module _ (store : List ℕ) {found : Found} (is : found ≡ foundIn store) where
           → Put out 0 (judgedBy (replaced l d) lines (stepsFrom (d .agents) [] (map decode (linesOf s)))) q new
       sheet-judged n supplement accepted e judges =
           let k = kept-at n e in
-          let goes : outcome (d .agents) s ≡ read (k .steps) = subst (λ (a : ℕ). outcome a s ≡ read (k .steps)) (agents-are d domain) (k .goes) in
+          let goes : outcome (d .agents) s ≡ read (k .steps) = subst (λ (a : ℕ). outcome a s ≡ read (k .steps)) (agents-are d domain are) (k .goes) in
           let names-are : sheetOf (d .agents) (take (n * counts .agents) after) ≡ got (k .steps) =
           ap (λ (x : List ℕ). sheetOf (d .agents) (take (n * counts .agents) x)) (told .1)
-          ∙ subst (λ (a : ℕ). sheetOf a (take (n * counts .agents) (readSheet (counts .agents) s names .buffer)) ≡ got (k .steps)) (agents-are d domain) (k .sheet) in
+          ∙ subst (λ (a : ℕ). sheetOf a (take (n * counts .agents) (readSheet (counts .agents) s names .buffer)) ≡ got (k .steps)) (agents-are d domain are) (k .sheet) in
           subst (λ (o : Reading (List Names)). Put out 0 (judgedBy (replaced l d) lines o) q new) (sym goes)
-          (judges d l (k .steps) domain accepted (ap (λ (c : Counts). c .fluents) (counts-are d domain)) names-are)
+          (judges d l (k .steps) domain accepted (ap (λ (c : Counts). c .fluents) are) names-are)
 
 -- ---- a part of an input
 
@@ -211,6 +197,17 @@ pub domain-refused : (s store : List ℕ) → length store ≡ storeSize → (an
     → reading s ≡ refusedAt (numberOf r) line
 unfolding readDomain
 domain-refused s store size answer told r e = refused-reading storeSize store (omega (arith, size)) _ (reading s) (sym told ∙ ap domains.readingOf e)
+
+-- the counts that a reading hands out are those of the domain that was read
+module _ (s store : List ℕ) (size : length store ≡ storeSize) {counts : Counts} (counted : counts ≡ domains.countsRead s store) where
+  pub counts-of : (k : stores.Kept s store) → counts ≡ countsOf (k .domain)
+  unfolding domains.countsRead
+  counts-of k = counted ∙ rw (le-leb storeSize (length store) (omega (arith, size))) (ap domains.countsIn (k .reads))
+
+  pub few-read : (answer : ReadStore) → domains.readingOf answer ≡ readDomain s store .answer → {n : ℕ} → answer ≡ given.Read n → Few counts
+  few-read answer told {n} e =
+      let k = stores.kept s store n (sym told ∙ ap domains.readingOf e) in
+      few-counts (readDomain s store .buffer) (k .domain) (k .holds) (counts-of k) .1
 
 -- ---- an input
 
@@ -247,11 +244,11 @@ module _ (input : List ℕ) {at lines : ℕ} (short : length input ≤ mostInput
     pub output-refused : {line : ℕ} (r : Refusal) → length store ≡ storeSize → answer ≡ given.Refused r line → output input ≡ refusedText (numberOf r) line
     output-refused r size e = output-is ∙ ap (answeredBy parts) (domain-refused (take at input) store size answer (told .0) r e)
 
-    pub output-read : {out new : List ℕ} {q : ℕ} (n : ℕ) → answer ≡ given.Read n
-        → ((d : Domain) (s : List Replacement) → domainIn after ≡ got d → supplementIn d (take 0 input) ≡ got s
+    pub output-read : {counts : Counts} {out new : List ℕ} {q : ℕ} (n : ℕ) → length store ≡ storeSize → counts ≡ domains.countsRead (take at input) store → answer ≡ given.Read n
+        → ((d : Domain) (s : List Replacement) → domainIn after ≡ got d → counts ≡ countsOf d → supplementIn d (take 0 input) ≡ got s
         → Put out 0 (judgedBy (replaced s d) lines (stepsFrom (d .agents) [] (map decode (linesOf (take (length input - at) (drop at input)))))) q new)
         → Put out 0 (output input) q new
-    output-read {out} {new} {q} n e judges =
+    output-read {out = out} {new = new} {q = q} n size counted e judges =
         let k = stores.kept (take at input) store n (sym (told .0) ∙ ap domains.readingOf e) in
         let d = k .domain in
         let is : output input ≡ judgedBy (replaced [] d) lines (stepsFrom (d .agents) [] (map decode (linesOf (take (length input - at) (drop at input))))) =
@@ -259,7 +256,7 @@ module _ (input : List ℕ) {at lines : ℕ} (short : length input ≤ mostInput
         ∙ ap (λ (m : ℕ). judgedBy d m (stepsFrom (d .agents) [] (map decode (parts .from)))) (sym (cut .count))
         ∙ ap (λ (ls : List Line). judgedBy d lines (stepsFrom (d .agents) [] (map decode ls))) (sym (rest-lines cut))
         ∙ ap (λ (x : Domain). judgedBy x lines (stepsFrom (d .agents) [] (map decode (linesOf (take (length input - at) (drop at input)))))) (sym (empty-changes-nothing .laws d)) in
-        subst (λ (t : List ℕ). Put out 0 t q new) (sym is) (judges d [] (ap domainIn (told .1) ∙ k .holds) (empty-changes-nothing .accepted d 0))
+        subst (λ (t : List ℕ). Put out 0 t q new) (sym is) (judges d [] (ap domainIn (told .1) ∙ k .holds) (counts-of (take at input) store size counted k) (empty-changes-nothing .accepted d 0))
 
 -- ---- for callers: what is counted stands in the buffer
 

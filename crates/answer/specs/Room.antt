@@ -1,6 +1,7 @@
 -- The bytes that a text of the output takes, at most.
-use Prim.Native.Nat.{ℕ, _+_, _*_}
-use Rattle.bmap.specs.Limits.{mostFluents, mostSteps}
+use Prim.Native.Nat.{ℕ, _+_, _*_, _≤_}
+use Rattle.bmap.specs.Limits.{mostAgents, mostFluents, mostSteps}
+use Rattle.bmap.specs.declared.limits.Counts.{Counts}
 
 -- a space and the digits of a number of 64 bits
 abbrev pub numberRoom : ℕ
@@ -33,3 +34,8 @@ refusedRoom = 7 + 2 * numberRoom + 1
 -- room for every output: the states of the longest sheet, and the last line
 abbrev pub outputSize : ℕ
 outputSize = statesRoom (mostSteps + 1) + lastRoom
+
+-- no more agents and fluents than a domain may have
+pub record Few (counts : Counts) : Type 0 where
+  pub agents : counts .agents ≤ mostAgents
+  pub fluents : counts .fluents ≤ mostFluents

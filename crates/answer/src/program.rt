@@ -7,6 +7,7 @@ use crate::print::put_accepted;
 use crate::print::put_broken;
 use crate::print::put_refused;
 use crate::print::put_states;
+use bmap::Counts;
 use bmap::INPUT;
 use bmap::LEVELS;
 use bmap::Refusal;
@@ -25,6 +26,7 @@ ghost use Rattle.bmap.specs.Limits.{mostFluents, mostInput};
 ghost use Rattle.bmap.specs.Refusal.{got, read};
 ghost use Rattle.bmap.specs.Line.{linesOf, decode};
 ghost use Rattle.bmap.specs.Domain.{Domain, Names};
+ghost use Rattle.bmap.specs.Accept.{countsOf};
 ghost use Rattle.bmap.specs.Store.{domainIn};
 ghost use Rattle.bmap.specs.Sheet.{stepsFrom, sheetOf};
 ghost use Rattle.bmap.specs.Supplement.{Replacement, replaced, supplementIn};
@@ -32,7 +34,7 @@ ghost use Rattle.bmap.specs.Judge as paper;
 ghost use Rattle.bmap.specs.Program.{lastLine, judgedText, judgedBy, split, sheetMark, output, answeredUnder, lowWater};
 ghost use Rattle.judge.specs.Answer.{verdictOf};
 ghost use Rattle.answer.specs.Put.{Put};
-ghost use Rattle.answer.specs.Room.{lastRoom, outputSize};
+ghost use Rattle.answer.specs.Room.{lastRoom, outputSize, Few};
 ghost use Rattle.answer.specs.Cut.{CutTwice};
 ghost use Rattle.answer.specs.Answer.{answered};
 
@@ -80,22 +82,20 @@ fn put_judged<'a>(
     }
 }
 
-// The sheet's lines after so many of an accepted domain and its supplement.
+// The sheet's lines after so many of an accepted domain, of which the reading has counted what it has, and its supplement.
 fn put_sheet<'a>(
     store: &'a [u8],
     supplement: &'a [u8],
+    counts: Counts,
     before: usize,
     text: &[u8],
     out: &mut [u8],
 ) -> usize
-    requires { ⌜ (before ≤ mostInput) × (length (now text) ≤ mostInput) × (outputSize ≤ length (now out)) ⌝ }
-    ensures { λ r. ⌜ ((d : Domain) (s : List Replacement) → domainIn (now (store .entry)) ≡ got d → supplementIn d (now (supplement .entry)) ≡ got s
+    requires { ⌜ ((before ≤ mostInput) × (length (now text) ≤ mostInput) × (outputSize ≤ length (now out))) × Few counts ⌝ }
+    ensures { λ r. ⌜ ((d : Domain) (s : List Replacement) → domainIn (now (store .entry)) ≡ got d → counts ≡ countsOf d → supplementIn d (now (supplement .entry)) ≡ got s
         → Put (now (out .entry)) 0 (judgedBy (replaced s d) before (stepsFrom (d .agents) [] (map decode (linesOf (now (text .entry)))))) r (now (out .exit))) ⌝ }
     ensures { λ r. ⌜ r ≤ outputSize ⌝ }
 {
-    let found = domain::index_of(store);
-    let index = found.index;
-    let counts = index.counts;
     let mut names = [0u8; Sheet::BYTES];
     let answer = sheet::read(text, counts.agents, &mut names);
     match answer {
@@ -120,18 +120,26 @@ pub fn answer(input: &[u8], out: &mut [u8]) -> usize
     let cut = line_starting(input, b'B', b'1');
     let at = cut.at;
     let mut store = [0u8; STORE];
-    let answer = domain::read(&input[..at], &mut store);
+    let reading = domain::read_counted(&input[..at], &mut store);
+    let answer = reading.answer;
     match answer {
         ReadStore::Refused { refusal, line } => put_refused(out, refusal.number(), line),
         // An empty supplement changes nothing.
-        ReadStore::Read(_) => put_sheet(&store, &input[..0], cut.lines, &input[at..], out),
+        ReadStore::Read(_) => put_sheet(
+            &store,
+            &input[..0],
+            reading.counts,
+            cut.lines,
+            &input[at..],
+            out,
+        ),
     }
 }
 
 // What follows the lines of an accepted domain in an input that is cut twice: the supplement's, then the sheet's.
-fn put_under(store: &[u8], input: &[u8], supplement: Cut, sheet: Cut, out: &mut [u8]) -> usize
-    requires { ⌜ CutTwice (now input) supplement sheet × (outputSize ≤ length (now out)) ⌝ }
-    ensures { λ r. ⌜ ((d : Domain) → domainIn (now (store .entry)) ≡ got d
+fn put_under(store: &[u8], counts: Counts, input: &[u8], supplement: Cut, sheet: Cut, out: &mut [u8]) -> usize
+    requires { ⌜ (CutTwice (now input) supplement sheet × (outputSize ≤ length (now out))) × Few counts ⌝ }
+    ensures { λ r. ⌜ ((d : Domain) → domainIn (now (store .entry)) ≡ got d → counts ≡ countsOf d
         → Put (now (out .entry)) 0 (answeredUnder (split sheetMark (linesOf (now (input .entry)))) (read d)) r (now (out .exit))) ⌝ }
     ensures { λ r. ⌜ r ≤ outputSize ⌝ }
 {
@@ -143,7 +151,7 @@ fn put_under(store: &[u8], input: &[u8], supplement: Cut, sheet: Cut, out: &mut 
         ReadStore::Refused { refusal, line } => {
             put_refused(out, refusal.number(), supplement.lines + line)
         }
-        ReadStore::Read(_) => put_sheet(store, &laws, sheet.lines, &input[to..], out),
+        ReadStore::Read(_) => put_sheet(store, &laws, counts, sheet.lines, &input[to..], out),
     }
 }
 
@@ -162,9 +170,10 @@ pub fn low_water(input: &[u8], out: &mut [u8]) -> usize
     let supplement = line_starting(&input[..end], b'A', b'F');
     let at = supplement.at;
     let mut store = [0u8; STORE];
-    let answer = domain::read(&input[..at], &mut store);
+    let reading = domain::read_counted(&input[..at], &mut store);
+    let answer = reading.answer;
     match answer {
         ReadStore::Refused { refusal, line } => put_refused(out, refusal.number(), line),
-        ReadStore::Read(_) => put_under(&store, input, supplement, sheet, out),
+        ReadStore::Read(_) => put_under(&store, reading.counts, input, supplement, sheet, out),
     }
 }

@@ -1,7 +1,7 @@
 use mathlib.Core.Path.{refl, sym}
 use native.Mathlib.Omega.{arith}
 use lib.Seq.{length-take-le}
-use Rattle.answer.proofs.ProgramLaws.{no-room, long-output, answered-refusal, answered-by, output-refused, output-read, lines-small, rest-small}
+use Rattle.answer.proofs.ProgramLaws.{no-room, long-output, answered-refusal, answered-by, output-refused, output-read, lines-small, rest-small, few-read}
 use borrow.Author.Needs.{needs}
 use Rattle.answer.proofs.program.answer.Statement.{statement}
 use Rattle.answer.proofs.program.answer.Tie as tie
@@ -32,14 +32,14 @@ returns-2 c = let p = c .before .before in
 line-starting-requires : tie.Need-line-starting-requires
 line-starting-requires c κs = search needs
 
-slice-aggregate-read : tie.Need-slice-aggregate-read
-slice-aggregate-read c = sym (length-take-le _ _ (c .before .line-starting .ensures .within))
+slice-aggregate-read-counted : tie.Need-slice-aggregate-read-counted
+slice-aggregate-read-counted c = sym (length-take-le _ _ (c .before .line-starting .ensures .within))
 
-slice-aggregate-read-2 : tie.Need-slice-aggregate-read-2
-slice-aggregate-read-2 c = search needs
+slice-aggregate-read-counted-2 : tie.Need-slice-aggregate-read-counted-2
+slice-aggregate-read-counted-2 c = search needs
 
-read-requires : tie.Need-read-requires
-read-requires c κs = search needs
+read-counted-requires : tie.Need-read-counted-requires
+read-counted-requires c κs = search needs
 
 enum-known-answer : tie.Need-enum-known-answer
 enum-known-answer c = search needs
@@ -70,21 +70,22 @@ part-put-sheet-end c = search needs
 
 put-sheet-requires : tie.Need-put-sheet-requires
 put-sheet-requires c κs = let l = c .before .before .before .before .before .before .before .before .before .before in
-    (omega (arith, lines-small (l .line-starting .ensures), short l .if2 .left), rest-small (c .before .before .before .before .before .before .before .before .before .before .before .before .before .before .before .args .input .now) (l .line-starting .result .at) (short l .if2 .left), room l .if1 .left)
+    let r = c .before .before .before .before .before .before .before .read-counted in
+    ((omega (arith, lines-small (l .line-starting .ensures), short l .if2 .left), rest-small (c .before .before .before .before .before .before .before .before .before .before .before .before .before .before .before .args .input .now) (l .line-starting .result .at) (short l .if2 .left), room l .if1 .left), few-read _ _ refl (r .ensures .1) (r .result .answer) (r .ensures .0 .0) (c .before .before .before .before .enum-told .given .1))
 
 same-length-2 : tie.Need-same-length-2
 same-length-2 c = search needs
 
 returns-3 : tie.Need-returns-3
 returns-3 c = let l = c .before .before .before .before .before .before .before .before .before .before .before .before in let p = c .before .before in
-    answered-refusal (room l .if1 .left) (omega (arith, p .put-refused2 .ensures .1)) _ (output-refused _ (short l .if2 .left) (l .line-starting .ensures) _ _ (c .before .before .before .before .before .before .before .before .before .read .ensures) _ refl (c .before .before .before .before .before .before .answer .given .1)) (c .before .before .before .number2 .ensures) (p .put-refused2 .ensures .0)
+    answered-refusal (room l .if1 .left) (omega (arith, p .put-refused2 .ensures .1)) _ (output-refused _ (short l .if2 .left) (l .line-starting .ensures) _ _ (c .before .before .before .before .before .before .before .before .before .read-counted .ensures .0) _ refl (c .before .before .before .before .before .before .answer .given .1)) (c .before .before .before .number2 .ensures) (p .put-refused2 .ensures .0)
 
 same-length-3 : tie.Need-same-length-3
 same-length-3 c = search needs
 
 returns-4 : tie.Need-returns-4
 returns-4 c = let l = c .before .before .before .before .before .before .before .before .before .before .before .before .before in let p = c .before .before in
-    answered-by (room l .if1 .left) (p .put-sheet .ensures .1) refl (output-read _ (short l .if2 .left) (l .line-starting .ensures) _ _ (c .before .before .before .before .before .before .before .before .before .before .read .ensures) _ (c .before .before .before .before .before .before .before .enum-told .given .1) (p .put-sheet .ensures .0))
+    answered-by (room l .if1 .left) (p .put-sheet .ensures .1) refl (output-read _ (short l .if2 .left) (l .line-starting .ensures) _ _ (c .before .before .before .before .before .before .before .before .before .before .read-counted .ensures .0) _ refl (c .before .before .before .before .before .before .before .before .before .before .read-counted .ensures .1) (c .before .before .before .before .before .before .before .enum-told .given .1) (p .put-sheet .ensures .0))
 
 pub answer-spec : {M : Type 1} → statement M
 answer-spec =
@@ -96,9 +97,9 @@ answer-spec =
     same-length
     returns-2
     line-starting-requires
-    slice-aggregate-read
-    slice-aggregate-read-2
-    read-requires
+    slice-aggregate-read-counted
+    slice-aggregate-read-counted-2
+    read-counted-requires
     enum-known-answer
     number-requires-2
     put-refused-requires-2

@@ -1,6 +1,6 @@
 -- The judgement as a call: its refusals in their order, and what it leaves in the levels buffer. Assumes nothing.
 use Prim.Native.Nat.{ℕ, _+_, _*_, _/_, _%_, _≤_, _<_}
-use mathlib.Core.Path.{_≡_, refl, ap}
+use mathlib.Core.Path.{_≡_, refl, sym, ap, _∙_}
 use mathlib.Core.List.{List, []}
 use native.Mathlib.Omega.{arith}
 use native.Mathlib.Nat.{div-add-mod'}
@@ -21,7 +21,8 @@ use Rattle.index.specs.Index.{domainOf}
 use Rattle.supplement.specs.declared.under.Under.{Under}
 use Rattle.supplement.proofs.Accepted.{UnderIs}
 use Rattle.supplement.proofs.EmptyLaws.{zeros-judged}
-use Rattle.judge.specs.Answer.{statesIn, statesWritten, statesWrittenUnder}
+use Rattle.supplement.proofs.Theorems.{empty-changes-nothing}
+use Rattle.judge.specs.Answer.{statesIn, statesWritten, statesWrittenUnder, judgeFor, statesWrittenFor}
 use Rattle.judge.proofs.IndexLaws.{domainHere}
 
 -- a sheet of whole steps
@@ -71,3 +72,40 @@ module _ (store supplement sheet : List ℕ) (levels : List ℤ) where
 pub states-alike : (store sheet : List ℕ) (levels : List ℤ) → statesWrittenUnder store [] sheet levels ≡ statesWritten store sheet levels
 unfolding statesWrittenUnder statesWritten
 states-alike store sheet levels = ap statesIn (zeros-judged store sheet levels 0)
+
+-- ---- a sheet for so many agents
+
+-- a store that is no domain with an empty supplement is none
+no-domain : (a : Answer Domain) → then a (λ d. supplementIn d []) ≡ refused 15 → a ≡ refused 15
+no-domain (refused m) e = let q : m ≡ 15 = cc in ap (λ (k : ℕ). refused k) q
+no-domain (got d) e = let z : got [] ≡ refused 15 = sym (empty-changes-nothing .accepted d 0) ∙ e in cc
+
+module _ (agents : ℕ) (store sheet : List ℕ) (levels : List ℤ) where
+  -- what is judged, by what is answered
+  abbrev For : Answer Judged → Type 0
+  For a = (judgement levels a ≡ judgeFor agents store sheet levels) × (statesIn a ≡ statesWrittenFor agents store sheet levels)
+
+  pub for-short : length levels < levelsSize → For (refused 10)
+  unfolding judgeFor statesWrittenFor
+  for-short h = rw (lt-leb levelsSize (length levels) h) (refl, refl)
+
+  module _ (h : levelsSize ≤ length levels) where
+    pub for-none : then (domainIn store) (λ d. supplementIn d []) ≡ refused 15 → For (refused 15)
+    unfolding judgeFor statesWrittenFor
+    for-none e = rw (le-leb levelsSize (length levels) h, no-domain (domainIn store) e) (refl, refl)
+
+    module _ {u : Under} (here : UnderIs store [] u) where
+      pub for-other : (u .index .counts .agents ≡ agents → ⊥) → For (refused 16)
+      unfolding judgeFor statesWrittenFor domainOf
+      for-other n = rw (le-leb levelsSize (length levels) h, here .domain, ne-eqb (u .index .counts .agents) agents n) (refl, refl)
+
+      -- no law is replaced
+      own : domainHere here ≡ domainOf store (u .index)
+      own =
+          let z : got (here .replacements) ≡ got [] = sym (here .accepted) ∙ empty-changes-nothing .accepted (domainOf store (u .index)) 0 in
+          let none : here .replacements ≡ [] = cc in
+          ap (λ (r : List Replacement). replaced r (domainOf store (u .index))) none ∙ empty-changes-nothing .laws (domainOf store (u .index))
+
+      pub for-judged : u .index .counts .agents ≡ agents → For (then (sheetOf (u .index .counts .agents) sheet) (λ steps. got (judge (domainHere here) steps)))
+      unfolding judgeFor statesWrittenFor domainOf
+      for-judged e = rw (le-leb levelsSize (length levels) h, here .domain, eq-eqb (u .index .counts .agents) agents e, own) (refl, refl)

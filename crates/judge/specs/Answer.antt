@@ -1,14 +1,19 @@
 -- The paper's number and values of each answer.
 use Prim.Native.Nat.{ℕ}
 use lib.ListN.{length}
-use Rattle.bmap.specs.Refusal.{Answer, got, refused, numberOf}
+use lib.Dec.{eqb, leb}
+use Rattle.bmap.specs.Limits.{levelsSize}
+use Rattle.bmap.specs.Refusal.{Answer, got, refused, need, then, numberOf}
+use Rattle.bmap.specs.Store.{domainIn}
+use Rattle.bmap.specs.Sheet.{sheetOf}
 use mathlib.Core.List.{List}
 use lib.IntN.{ℤ}
 use mathlib.Core.Option.{Option, none, some}
 use Rattle.bmap.specs.Number.{Valued, value, no-value}
 use Rattle.bmap.specs.Judge.{Pass, pass, fault, Setting, accepted, broken}
 use Rattle.bmap.specs.Judge as paper
-use Rattle.bmap.specs.Verdict.{sheetJudged}
+use Rattle.bmap.specs.Verdict.{judgement, sheetJudged}
+use Rattle.bmap.specs.Verdict as call
 use Rattle.bmap.specs.Supplement.{sheetJudgedUnder}
 use Rattle.judge.specs.declared.verdict.Fault.{Fault}
 use Rattle.judge.specs.declared.verdict.Fault.the-variants.{Misplaced, Barred, Concurrency, Conflict, Range, Static, NoValue, Goal}
@@ -63,3 +68,19 @@ statesWritten store sheet levels = statesIn (sheetJudged store sheet levels)
 -- those of `judgeUnder`
 unfoldable pub statesWrittenUnder : List ℕ → List ℕ → List ℕ → List ℤ → ℕ
 statesWrittenUnder store supplement sheet levels = statesIn (sheetJudgedUnder store supplement sheet levels)
+
+-- ---- a sheet for so many agents
+
+-- "10, 15, 16", then "8, 9": 16 is "domain's number of agents differs"
+abbrev pub sheetJudgedFor : ℕ → List ℕ → List ℕ → List ℤ → Answer paper.Judged
+sheetJudgedFor agents store sheet levels =
+    need (leb levelsSize (length levels)) 10
+    (then (domainIn store) (λ d.
+    need (eqb (d .agents) agents) 16
+    (then (sheetOf (d .agents) sheet) (λ steps. got (paper.judge d steps)))))
+
+unfoldable pub judgeFor : ℕ → List ℕ → List ℕ → List ℤ → call.Judgement
+judgeFor agents store sheet levels = judgement levels (sheetJudgedFor agents store sheet levels)
+
+unfoldable pub statesWrittenFor : ℕ → List ℕ → List ℕ → List ℤ → ℕ
+statesWrittenFor agents store sheet levels = statesIn (sheetJudgedFor agents store sheet levels)

@@ -10,7 +10,8 @@ ghost use Rattle.bmap.specs.Supplement.{judgeUnder};
 ghost use Rattle.bmap.specs.Judge.{judge};
 ghost use Rattle.bmap.specs.Verdict.{judgement, judgeSheet};
 ghost use Rattle.law.specs.Evaluate.{historySize};
-ghost use Rattle.judge.specs.Answer.{answerOf, statesIn, statesWritten, statesWrittenUnder};
+ghost use Rattle.judge.specs.Answer.{answerOf, statesIn, statesWritten, statesWrittenUnder, judgeFor, statesWrittenFor};
+ghost use Rattle.judge.specs.declared.verdict.Judgement.the-variants.{Refused};
 ghost use Rattle.judge.specs.Prepared.{judgedOf, Accepted, Governs, Judgeable};
 use crate::held::hold_laws;
 use crate::knowledge::all_knowers;
@@ -180,4 +181,35 @@ pub fn judge_under_counted<'a>(
         };
     }
     judge_by(store, supplement, under, sheet, levels)
+}
+
+// The same without a supplement, of a sheet for so many agents: "10, 15, 16", then "8, 9". Who knows how many they are asks here,
+// and the store is looked at once.
+pub fn judge_for(agents: usize, store: &[u8], sheet: &[u8], levels: &mut [i16]) -> Counted
+    ensures { λ r. ⌜ (record { answer = answerOf (r .judgement); levels = now (levels .exit) } ≡ judgeFor agents (now (store .entry)) (now (sheet .entry)) (now (levels .entry)))
+        × (r .states ≡ statesWrittenFor agents (now (store .entry)) (now (sheet .entry)) (now (levels .entry))) ⌝ }
+{
+    if levels.len() < LEVELS {
+        return refused(Refusal::NoRoom);
+    }
+    let under = index_of(store, &store[..0]);
+    if !under.ok {
+        return refused(Refusal::NotDomain);
+    }
+    let counts = under.index.counts;
+    if counts.agents != agents {
+        return refused(Refusal::OtherAgents);
+    }
+    judge_by(store, &store[..0], under, sheet, levels)
+}
+
+// No state is written.
+fn refused(why: Refusal) -> Counted
+    ensures { λ r. ⌜ r ≡ record { judgement = Refused why; states = 0 } ⌝ }
+{
+    let judgement = Judgement::Refused(why);
+    Counted {
+        judgement,
+        states: 0,
+    }
 }

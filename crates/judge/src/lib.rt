@@ -16,6 +16,7 @@ mod verdict;
 pub use judgement::Counted;
 pub use judgement::judge;
 pub use judgement::judge_counted;
+pub use judgement::judge_for;
 pub use judgement::judge_under;
 pub use judgement::judge_under_counted;
 pub use verdict::Fault;

@@ -1,6 +1,6 @@
 -- What the verdict of a session returns is what its promise says: the judge's, of the bytes of its sheet.
 -- Assumes nothing.
-use mathlib.Core.Path.{_≡_, sym, ap, subst, _∙_}
+use mathlib.Core.Path.{_≡_, refl, sym, ap, subst, _∙_}
 use mathlib.Core.Bool.{true, false}
 use mathlib.Core.List.{List, [], append-nil}
 use Prim.Native.Nat.{ℕ, _*_, _/_, _%_, _<_, _≤_}
@@ -9,20 +9,21 @@ use native.Mathlib.Omega.{arith}
 use lib.IntN.{ℤ}
 use lib.ListN.{length, take}
 use lib.Seq.{take-at}
-use borrow.Author.Tests.{eq-eqb, ne-eqb, le-leb, lt-leb}
+use borrow.Author.Tests.{eq-eqb, ne-eqb, le-leb}
 use Rattle.bmap.specs.Plain.{flat}
-use Rattle.bmap.specs.Refusal.{got, refused}
+use lib.Dec.{eqb, leb}
+use native.Mathlib.Decide.{ℕ-discrete}
+use Rattle.bmap.specs.Refusal.{Answer, got, refused, need, then}
 use Rattle.bmap.specs.Domain.{Domain, Names}
 use Rattle.bmap.specs.Store.{domainIn}
 use Rattle.bmap.specs.Sheet.{rows, sheetOf as stepsOf}
 use Rattle.bmap.specs.Judge.{judge}
-use Rattle.bmap.specs.Verdict.{judgement, sheetJudged, judgeSheet}
-use Rattle.bmap.specs.Session.{standingJudged, verdict, modelOf, isOpen, verdictOf}
+use Rattle.bmap.specs.Verdict.{judgement}
+use Rattle.bmap.specs.Session.{standingSheet, standingJudged, verdict, modelOf, isOpen, verdictOf}
 use Rattle.bmap.specs.declared.session.Session.{Session}
 use Rattle.bmap.specs.declared.refusal.Refusal.{Refusal}
-use Rattle.bmap.specs.declared.refusal.Refusal.the-variants.{NoRoom, NotDomain, OtherAgents, NotSession}
-use Rattle.judge.specs.Answer.{answerOf, statesIn}
-use Rattle.judge.specs.Answer as judged
+use Rattle.bmap.specs.declared.refusal.Refusal.the-variants.{NotSession}
+use Rattle.judge.specs.Answer.{answerOf, statesIn, sheetJudgedFor, judgeFor, statesWrittenFor}
 use Rattle.judge.specs.declared.verdict.Judgement.the-variants.{Refused}
 use Rattle.judge.specs.declared.judgement.Counted.{Counted}
 use Rattle.session.specs.Verdict.{statesWritten, Counts}
@@ -69,43 +70,33 @@ pub verdict-17 : (s : Session) (store : List ℕ) (levels : List ℤ) → isOpen
 unfolding verdictOf statesWritten
 verdict-17 s store levels h = record { judgement = sym (rw h); states = sym (rw h) }
 
+-- "10, 15, 16", then the bytes of its steps, judged
 module _ (s : Session) (store : List ℕ) (levels : List ℤ) (h : isOpen s ≡ true) where
-  pub verdict-10 : length levels < 2080 → Counts s store levels (none-written NoRoom) levels
-  unfolding verdictOf verdict statesWritten
-  verdict-10 l = let e = lt-leb 2080 (length levels) l in record { judgement = sym (rw (h, e)); states = sym (rw (h, e)) }
+  abbrev bytes : List ℕ
+  bytes = take (s .sheet .steps * s .agents) (s .sheet .names)
 
-  module _ (l : 2080 ≤ length levels) where
-    pub verdict-15 : domainIn store ≡ refused 15 → Counts s store levels (none-written NotDomain) levels
-    unfolding verdictOf verdict statesWritten
-    verdict-15 d = let e = le-leb 2080 (length levels) l in record { judgement = sym (rw (h, e, d)); states = sym (rw (h, e, d)) }
+  steps-read : (d : Domain) → d .agents ≡ s .agents → stepsOf (d .agents) bytes ≡ got (standing-sheet s h)
+  steps-read d f =
+      ap (λ (n : ℕ). stepsOf n bytes) f
+      ∙ ap (stepsOf (s .agents)) (sheet-bytes s h)
+      ∙ steps-back (s .agents) (standing-sheet s h) (open-is s h .some) (sheet-fits s h)
 
-    module _ (d : Domain) (e : domainIn store ≡ got d) where
-      pub verdict-16 : (d .agents ≡ s .agents → ⊥) → Counts s store levels (none-written OtherAgents) levels
-      unfolding verdictOf verdict statesWritten
-      verdict-16 f =
-          let k = le-leb 2080 (length levels) l in
-          let o = ne-eqb (d .agents) (s .agents) f in
-          record { judgement = sym (rw (h, k, e, agents-kept s, o)); states = sym (rw (h, k, e, agents-kept s, o)) }
+  judged-by : (a : Answer Domain) → then a (λ d. need (eqb (d .agents) (s .agents)) 16 (then (stepsOf (d .agents) bytes) (λ steps. got (judge d steps)))) ≡ then a (λ d. need (eqb (d .agents) (modelOf s .agents)) 16 (got (judge d (standingSheet (modelOf s)))))
+  judged-by (refused n) = refl
+  judged-by (got d) = elim (ℕ-discrete (d .agents) (s .agents)) [
+    | yes f ↦ rw (eq-eqb (d .agents) (modelOf s .agents) (f ∙ sym (agents-kept s)), eq-eqb (d .agents) (s .agents) f, steps-read d f) (ap (λ (x : List Names). got (judge d x)) (sym (sheet-is s h)))
+    | no n ↦ rw (ne-eqb (d .agents) (modelOf s .agents) (λ e. n (e ∙ agents-kept s)), ne-eqb (d .agents) (s .agents) n)
+  ]
 
-      -- the bytes of its steps, judged
-      module _ (f : d .agents ≡ s .agents) where
-        steps-read : stepsOf (d .agents) (take (s .sheet .steps * s .agents) (s .sheet .names)) ≡ got (standing-sheet s h)
-        steps-read =
-            ap (λ (n : ℕ). stepsOf n (take (s .sheet .steps * s .agents) (s .sheet .names))) f
-            ∙ ap (stepsOf (s .agents)) (sheet-bytes s h)
-            ∙ steps-back (s .agents) (standing-sheet s h) (open-is s h .some) (sheet-fits s h)
+  same-judged : sheetJudgedFor (s .agents) store bytes levels ≡ standingJudged (modelOf s) store levels
+  same-judged = ap (need (leb 2080 (length levels)) 10) (judged-by (domainIn store))
 
-        same-judged : sheetJudged store (take (s .sheet .steps * s .agents) (s .sheet .names)) levels ≡ standingJudged (modelOf s) store levels
-        same-judged =
-            rw (le-leb 2080 (length levels) l, e, steps-read, eq-eqb (d .agents) (modelOf s .agents) (f ∙ sym (agents-kept s)))
-            (ap (λ (x : List Names). got (judge d x)) (sym (sheet-is s h)))
-
-        pub verdict-judged : (r : Counted) (left : List ℤ)
-            → record { answer = answerOf (r .judgement); levels = left } ≡ judgeSheet store (take (s .sheet .steps * s .agents) (s .sheet .names)) levels
-            → r .states ≡ judged.statesWritten store (take (s .sheet .steps * s .agents) (s .sheet .names)) levels
-            → Counts s store levels r left
-        unfolding verdictOf verdict judgeSheet statesWritten judged.statesWritten
-        verdict-judged r left answered counted = record {
-          judgement = answered ∙ (ap (judgement levels) same-judged ∙ sym (rw h));
-          states = counted ∙ (ap statesIn same-judged ∙ sym (rw h));
-        }
+  pub verdict-judged : (r : Counted) (left : List ℤ)
+      → record { answer = answerOf (r .judgement); levels = left } ≡ judgeFor (s .agents) store bytes levels
+      → r .states ≡ statesWrittenFor (s .agents) store bytes levels
+      → Counts s store levels r left
+  unfolding verdictOf verdict judgeFor statesWritten statesWrittenFor
+  verdict-judged r left answered counted = record {
+    judgement = answered ∙ (ap (judgement levels) same-judged ∙ sym (rw h));
+    states = counted ∙ (ap statesIn same-judged ∙ sym (rw h));
+  }

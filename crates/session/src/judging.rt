@@ -1,6 +1,5 @@
 // The verdict of a session's sheet against a store.
 use crate::kept::is_open;
-use bmap::LEVELS;
 use bmap::Refusal;
 use bmap::Session;
 use judge::Counted;
@@ -26,22 +25,10 @@ pub fn verdict_counted(s: Session, store: &[u8], levels: &mut [i16]) -> Counted
     if !is_open(s) {
         return refused(Refusal::NotSession);
     }
-    if levels.len() < LEVELS {
-        return refused(Refusal::NoRoom);
-    }
-    let found = domain::index_of(store);
-    if !found.ok {
-        return refused(Refusal::NotDomain);
-    }
-    let index = found.index;
-    let counts = index.counts;
-    if counts.agents != s.agents {
-        return refused(Refusal::OtherAgents);
-    }
     let sheet = s.sheet;
     let names = sheet.names;
     let end = sheet.steps * s.agents;
-    judge::judge_counted(store, &names[..end], levels)
+    judge::judge_for(s.agents, store, &names[..end], levels)
 }
 
 // No state is written.

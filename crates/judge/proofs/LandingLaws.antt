@@ -1,7 +1,7 @@
 -- The new state, level by level, and check 5. Assumes nothing.
 use Prim.Native.Nat.{ℕ, _+_, _≤_, _<_}
 use mathlib.Core.Path.{_≡_, refl, sym, ap, _∙_}
-use mathlib.Core.List.{List, map}
+use mathlib.Core.List.{List, [], map}
 use mathlib.Core.Bool.{Bool, true, false}
 use native.Mathlib.Numerals.{add-one}
 use native.Mathlib.Omega.{arith}
@@ -47,10 +47,14 @@ filled-more z g l f {v} h before e k p = elim (decLt k f) [
 
 -- ---- settings over old levels
 
-pub laid-none : (w j : ℕ) (history new : List ℤ) (fs : List ℕ) (vs : List ℤ) → ((f : ℕ) → f < w → getD new f (pos 0) ≡ cellAt history j f)
-    → Laid w new (settingsOf 0 fs vs) (stateAt w history j)
-unfolding settingsOf levelAfter
-laid-none w j history new fs vs e f p = e f p ∙ sym (level-of w j f history p)
+-- none: the old levels, written one by one
+pub old-laid : (w j f : ℕ) (history new : List ℤ) → w ≤ f → ((g : ℕ) → g < f → getD new g (pos 0) ≡ cellAt history j g) → Laid w new [] (stateAt w history j)
+unfolding levelAfter
+old-laid w j f history new h e g p = e g (omega arith) ∙ sym (level-of w j g history p)
+
+pub laid-none : (w : ℕ) (new : List ℤ) (fs : List ℕ) (vs : List ℤ) (old : State) → Laid w new [] old → Laid w new (settingsOf 0 fs vs) old
+unfolding settingsOf
+laid-none w new fs vs old laid = laid
 
 over-one : (b : Bool) (w : ℕ) (new : List ℤ) (f g : ℕ) (v : ℤ) (rest : ℤ) → eqb f g ≡ b → g < length new → getD new g (pos 0) ≡ rest → getD (set new f v) g (pos 0) ≡ if-else b v rest
 over-one true w new f g v rest t h e = let q : f ≡ g = eqb-true f g t in ap (λ (i : ℕ). getD (set new i v) g (pos 0)) q ∙ getD-set-same new g v (pos 0) h

@@ -1,7 +1,7 @@
 -- What a law's bytes give, as the evaluator answers. Assumes nothing.
-use Prim.Native.Nat.{ℕ, _+_, _≤_, _<_}
+use Prim.Native.Nat.{ℕ, suc, _+_, _≤_, _<_}
 use mathlib.Core.Path.{_≡_, refl, sym, ap, _∙_, subst}
-use mathlib.Core.List.{List}
+use mathlib.Core.List.{List, []}
 use mathlib.Core.Option.{none, some}
 use mathlib.Core.Bool.{Bool, true}
 use native.Mathlib.Omega.{arith}
@@ -17,7 +17,7 @@ use Rattle.bmap.specs.Meaning.{History, evalE, evalC}
 use Rattle.bmap.specs.Domain.{Domain, Names, Law, executable, effect, must, has}
 use Rattle.bmap.specs.Payload.{context}
 use Rattle.bmap.specs.Accept.{countsOf}
-use Rattle.bmap.specs.Judge.{setsIf, sets}
+use Rattle.bmap.specs.Judge.{fine, setsIf, sets, settled}
 use Rattle.law.specs.Evaluate.{historyOf, Meant, malformed, gives, valueAt, truthAt, evaluated, judged}
 use Rattle.law.specs.declared.eval.Evaluated.{Evaluated}
 use Rattle.law.specs.declared.eval.Evaluated.the-variants as value-as
@@ -32,10 +32,14 @@ use mir.Val.{toZ, ofZ}
 use lib.Signed.{mag}
 use Rattle.law.proofs.Agree.{Agree, agree-e, agree-c}
 use Rattle.number.proofs.BackLaws.{back32}
-use Rattle.judge.specs.Told.{Says, Seen, Occurring, conOf, placeOf, asksOf}
+use Rattle.law.proofs.Bits.{no-bit}
+use Rattle.index.specs.Index.{lawNumber, noLaw}
+use Rattle.judge.specs.Told.{Says, Lawful, Seen, Occurring, frameOf, conOf, placeOf, asksOf}
 use Rattle.judge.specs.Settings.{setting, settingFrom}
 use Rattle.judge.proofs.ByteLaws.{Constrained}
 use Rattle.judge.proofs.CheckLaws.{says, not-effect}
+use Rattle.judge.proofs.LoopLaws.{rests}
+use Rattle.judge.proofs.SettingLaws.{settled-none, settled-idle}
 
 -- the constraint of a law, where it stands in its frame
 pub stands : (d : Domain) (frame : List ℕ) (l : Law) → Says d frame l → Constrained (countsOf d) (asksOf l) (drop (placeOf l) frame) (conOf l)
@@ -146,3 +150,18 @@ module _ (d : Domain) (held : List ℕ) (p : ℕ) (l : Law) (h : History) (j : �
 pub no-value-past : (frame : List ℕ) (at f : ℕ) (history : List ℤ) (j : ℕ) → length frame ≤ at → no-value ≡ settingFrom f (valueAt mostDepth frame (at + 1) history j)
 unfolding parseE
 no-value-past frame at f history j h = rw (drop-of-length-le frame {i = at + 1} (omega arith))
+
+-- ---- no entry occurs
+
+module _ (d : Domain) (h : History) (j : ℕ) (names : Names) (nobody : Occurring d names 0) where
+  sets-nobody : (frame : List ℕ) (l : Law) → Says d frame l → sets d h j names l ≡ value none
+  unfolding sets
+  sets-nobody frame (executable e c) w = refl
+  sets-nobody frame (effect e c f x) w = ap (λ (b : Bool). if-else b (setsIf f (evalE x h j) (evalC c h j)) (value none)) (nobody e (says d frame (effect e c f x) w .1 .known) ∙ sym (no-bit 0 0 e (omega arith) (omega arith)))
+  sets-nobody frame (must s c) w = refl
+
+  -- then no law sets anything
+  pub settled-nobody : (held : List ℕ) (n : ℕ) → Lawful d held n → fine [] ≡ settled d h j names 0 [] (d .laws)
+  settled-nobody held n lawful =
+      sym (rests (λ k r. settled d h j names k [] r) (d .laws) noLaw 0 (λ k. settled-none d h j names k [])
+      (λ k p q. settled-idle d h j names k [] (lawNumber d k) (drop (suc k) (d .laws)) (sets-nobody (frameOf held k) (lawNumber d k) (lawful .law k (omega (arith, lawful .count))))))

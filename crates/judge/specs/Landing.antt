@@ -7,7 +7,10 @@ use lib.ListN.{length, getD}
 use lib.Signed.{leZ}
 use Rattle.bmap.specs.Plain.{both, if-else}
 use Rattle.bmap.specs.Domain.{Domain, State}
-use Rattle.bmap.specs.Judge.{Checked, fine, next, each, inRange, Setting, levelAfter}
+use Rattle.bmap.specs.Judge.{Checked, fine, fault, next, each, inRange, Setting, levelAfter}
+use Rattle.judge.specs.Answer.{kindOf}
+use Rattle.judge.specs.declared.verdict.Check.{Check}
+use Rattle.judge.specs.declared.verdict.Check.the-variants.{Passed, Failed}
 use Rattle.judge.specs.declared.landing.Fit.{Fit}
 use Rattle.judge.specs.declared.landing.Fit.the-variants.{Out, In}
 
@@ -24,6 +27,17 @@ pub record Ranged (d : Domain) (lowest highest : List ℤ) (w : ℕ) : Type 0 wh
 -- "Fluents that no law set keep their value": settings laid over a state
 abbrev pub Laid : ℕ → List ℤ → List Setting → State → Type 0
 Laid w new settings old = (f : ℕ) → f < w → getD new f (pos 0) ≡ levelAfter settings f (getD old f (pos 0))
+
+-- the settings of a step, laid over an old state
+pub record LaidOver (w : ℕ) (new : List ℤ) (settled : Checked (List Setting)) (old : State) : Type 0 where
+  pub settings : List Setting
+  pub are : fine settings ≡ settled
+  pub laid : Laid w new settings old
+
+-- a check that lays them, or gives their fault
+abbrev pub Lays : Check → ℕ → List ℤ → Checked (List Setting) → State → Type 0
+Lays Passed w new settled old = LaidOver w new settled old
+Lays (Failed f n) w new settled old = fault (kindOf f) n ≡ settled
 
 -- check 5 of a state
 abbrev pub ranged : Domain → State → Checked State

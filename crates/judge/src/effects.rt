@@ -5,16 +5,20 @@ ghost use mathlib.Core.Bool.{true};
 ghost use mathlib.Core.List.{[]};
 ghost use Prim.Native.Nat.{ℕ, _≤_};
 ghost use lib.ListN.{length};
-ghost use Rattle.bmap.specs.Limits.{mostLaws};
+ghost use Rattle.bmap.specs.Limits.{mostFluents, mostLaws};
 ghost use Rattle.bmap.specs.Line.{effectKind};
 ghost use Rattle.bmap.specs.Number.{same};
-ghost use Rattle.bmap.specs.Domain.{Domain, Names};
+ghost use Rattle.bmap.specs.Domain.{Domain, Names, State};
 ghost use Rattle.bmap.specs.Meaning.{History};
 ghost use Rattle.bmap.specs.Judge.{settled};
 ghost use Rattle.judge.specs.Told.{Lawful, Within, Occurring, Seen};
 ghost use Rattle.judge.specs.Settings.{settledOf, countOf};
+ghost use Rattle.judge.specs.Landing.{Laid, Lays};
+use crate::landing::lay;
+use crate::reading::Run;
 use crate::reading::Wants;
 use crate::reading::wanted;
+use crate::verdict::Check;
 use crate::verdict::Fault;
 use bmap::Counts;
 use bmap::FRAME;
@@ -39,7 +43,7 @@ fn same_level(a: i32, b: i32) -> bool
 
 // The settings go to the front of two arrays, the oldest first. "a value differing from an earlier one for the same fluent:
 // kind 4, the later law": the exit with a label carries that law.
-pub(crate) fn settle(
+fn settle(
     held: &[u8; HELD],
     from: usize,
     to: usize,
@@ -84,4 +88,40 @@ pub(crate) fn settle(
         return Settled::Clash(Fault::Conflict, bad);
     }
     Settled::Count(m)
+}
+
+// Check 4, with what was set laid over the old levels. Where no entry occurs no law sets anything.
+pub(crate) fn lay_effects(
+    held: &[u8; HELD],
+    effect: Run,
+    entries: u64,
+    history: &[i16; HISTORY],
+    j: usize,
+    new: &mut [i32; Counts::FLUENTS],
+) -> Check
+    requires { ⌜ (effect .to ≤ mostLaws) × (length (now new) ≡ mostFluents) ⌝ }
+    ensures { λ r. ⌜ (length (now (new .exit)) ≡ mostFluents) × ((d : Domain) (h : History) (n : ℕ) (names : Names) (w : ℕ) (old : State) → Lawful d (now (held .entry)) n → Within (now (held .entry)) n effectKind (effect .from) (effect .to)
+        → Occurring d names entries → Seen true d h (now (history .entry)) j → w ≤ mostFluents → Laid w (now (new .entry)) [] old → Lays r w (now (new .exit)) (settled d h j names 0 [] (d .laws)) old) ⌝ }
+{
+    if entries == 0 {
+        return Check::Passed;
+    }
+    let mut fluents = [0u8; Counts::LAWS];
+    let mut values = [0i32; Counts::LAWS];
+    match settle(
+        held,
+        effect.from,
+        effect.to,
+        entries,
+        history,
+        j,
+        &mut fluents,
+        &mut values,
+    ) {
+        Settled::Clash(fault, n) => Check::Failed(fault, n),
+        Settled::Count(m) => {
+            lay(&fluents, &values, m, new);
+            Check::Passed
+        }
+    }
 }

@@ -1,6 +1,6 @@
 // The new state: the old levels with the settings laid over them, and check 5 before each is stored.
 ghost use mathlib.Core.Path.{_≡_};
-ghost use mathlib.Core.List.{List};
+ghost use mathlib.Core.List.{List, []};
 ghost use Prim.Native.Nat.{ℕ, _+_, _*_, _≤_, _<_};
 ghost use lib.IntN.{pos};
 ghost use lib.ListN.{length, getD, set};
@@ -17,18 +17,22 @@ use bmap::Counts;
 use law::HISTORY;
 use law::ROW;
 
-// The levels of state j, wide enough for what an expression gives.
-fn old_levels(history: &[i16; HISTORY], j: usize, w: usize) -> [i32; Counts::FLUENTS]
-    requires { ⌜ (j ≤ mostSteps) × ((w ≤ mostFluents) × (length (now history) ≡ historySize)) ⌝ }
-    ensures { λ r. ⌜ (length r ≡ mostFluents) × ((f : ℕ) → f < w → getD r f (pos 0) ≡ cellAt (now (history .entry)) j f) ⌝ }
+// The levels of state j, wide enough for what an expression gives. Written where they are read: an array that is handed back is
+// copied, and the copy waits for what was just written.
+pub(crate) fn old_levels(
+    history: &[i16; HISTORY],
+    j: usize,
+    w: usize,
+    new: &mut [i32; Counts::FLUENTS],
+)
+    requires { ⌜ ((j ≤ mostSteps) × (w ≤ mostFluents)) × ((length (now history) ≡ historySize) × (length (now new) ≡ mostFluents)) ⌝ }
+    ensures { λ _. ⌜ (length (now (new .exit)) ≡ mostFluents) × Laid w (now (new .exit)) [] (stateAt w (now (history .entry)) j) ⌝ }
 {
-    let mut old = [0i32; Counts::FLUENTS];
     let mut f = 0;
     while f < w {
-        old[f] = history[ROW * j + f] as i32;
+        new[f] = history[ROW * j + f] as i32;
         f += 1;
     }
-    old
 }
 
 fn put(new: &mut [i32; Counts::FLUENTS], f: u8, v: i32)
@@ -42,24 +46,20 @@ fn put(new: &mut [i32; Counts::FLUENTS], f: u8, v: i32)
 }
 
 // "Fluents that no law set keep their value": the settings over the old levels, the oldest first.
-pub(crate) fn new_levels(
-    history: &[i16; HISTORY],
-    j: usize,
-    w: usize,
+pub(crate) fn lay(
     fluents: &[u8; Counts::LAWS],
     values: &[i32; Counts::LAWS],
     m: usize,
-) -> [i32; Counts::FLUENTS]
-    requires { ⌜ (j ≤ mostSteps) × ((w ≤ mostFluents) × ((length (now history) ≡ historySize) × (m ≤ mostLaws))) ⌝ }
-    ensures { λ r. ⌜ (length r ≡ mostFluents) × Laid w r (settingsOf m (now (fluents .entry)) (now (values .entry))) (stateAt w (now (history .entry)) j) ⌝ }
+    new: &mut [i32; Counts::FLUENTS],
+)
+    requires { ⌜ (m ≤ mostLaws) × (length (now new) ≡ mostFluents) ⌝ }
+    ensures { λ _. ⌜ (length (now (new .exit)) ≡ mostFluents) × ((w : ℕ) (old : State) → w ≤ mostFluents → Laid w (now (new .entry)) [] old → Laid w (now (new .exit)) (settingsOf m (now (fluents .entry)) (now (values .entry))) old) ⌝ }
 {
-    let mut new = old_levels(history, j, w);
     let mut i = 0;
     while i < m {
-        put(&mut new, fluents[i], values[i]);
+        put(new, fluents[i], values[i]);
         i += 1;
     }
-    new
 }
 
 pub enum Fit {

@@ -17,9 +17,8 @@ use crate::acting::who_acts;
 use crate::checks::check_agents;
 use crate::checks::check_entries;
 use crate::checks::check_laws;
-use crate::effects::Settled;
-use crate::effects::settle;
-use crate::landing::new_levels;
+use crate::effects::lay_effects;
+use crate::landing::old_levels;
 use crate::landing::put_state;
 use crate::reading::Runs;
 use crate::states::copy_levels;
@@ -48,40 +47,29 @@ fn land(
         → Prepared d (now (held .entry)) owners n runs (now (lowest .entry)) (now (highest .entry)) w count → Occurring d names entries → Acted d sheet (now (history .entry)) (j + 1)
         → leaving r (stateAt w (now (history .exit)) (j + 1)) ≡ landed d sheet (statesOf w (j + 1) (now (history .entry))) j names) ⌝ }
 {
-    let mut fluents = [0u8; Counts::LAWS];
-    let mut values = [0i32; Counts::LAWS];
+    let mut new = [0i32; Counts::FLUENTS];
+    old_levels(history, j, w, &mut new);
     // "Effects are settled by values before the step": the present is state j, and the static laws are read on the next.
     let present = j;
     let next = j + 1;
-    let effect = runs.effect;
-    match settle(
-        held,
-        effect.from,
-        effect.to,
-        entries,
-        history,
-        present,
-        &mut fluents,
-        &mut values,
-    ) {
-        Settled::Clash(fault, n) => Check::Failed(fault, n),
-        Settled::Count(m) => {
-            let new = new_levels(history, j, w, &fluents, &values, m);
-            if let Check::Failed(fault, n) = put_state(lowest, highest, w, &new, history, j) {
-                return Check::Failed(fault, n);
-            }
-            let fixed = runs.fixed;
-            check_laws(
-                held,
-                fixed.from,
-                fixed.to,
-                Kind::STATIC,
-                Fault::Static,
-                history,
-                next,
-            )
-        }
+    if let Check::Failed(fault, n) =
+        lay_effects(held, runs.effect, entries, history, present, &mut new)
+    {
+        return Check::Failed(fault, n);
     }
+    if let Check::Failed(fault, n) = put_state(lowest, highest, w, &new, history, j) {
+        return Check::Failed(fault, n);
+    }
+    let fixed = runs.fixed;
+    check_laws(
+        held,
+        fixed.from,
+        fixed.to,
+        Kind::STATIC,
+        Fault::Static,
+        history,
+        next,
+    )
 }
 
 // The step from state j: "First fault wins."

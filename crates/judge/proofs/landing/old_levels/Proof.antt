@@ -7,40 +7,40 @@ use lib.ListN.{length, getD}
 use Rattle.bmap.specs.Limits.{mostFluents}
 use Rattle.law.specs.Evaluate.{cellAt}
 use Rattle.number.proofs.BackLaws.{widens16, widened16}
-use Rattle.judge.proofs.LandingLaws.{filled-more}
+use Rattle.judge.proofs.LandingLaws.{filled-more, old-laid}
 use lib.ListN.{length-set}
 use Rattle.judge.proofs.landing.old_levels.Statement.{statement}
 use Rattle.judge.proofs.landing.old_levels.Tie as tie
 
 abbrev Inv-loop : tie.InvT-loop
-Inv-loop history j w old₀ f₀ old f = (f ≤ w) × ((length old ≡ mostFluents) × ((k : ℕ) → k < f → getD old k (pos 0) ≡ cellAt history j k))
+Inv-loop history j w new₀ f₀ new f = (f ≤ w) × ((length new ≡ mostFluents) × ((k : ℕ) → k < f → getD new k (pos 0) ≡ cellAt history j k))
 
 abbrev μ-loop : tie.MeasureT-loop
-μ-loop history j w old₀ f₀ old f = w - f
+μ-loop history j w new₀ f₀ new f = w - f
 
 loop-holds : tie.Need-loop-holds Inv-loop μ-loop
-loop-holds c = (search needs, (search needs, λ k h. absurd (omega arith)))
+loop-holds c = (search needs, (c .pre .1 .1, λ k h. absurd (omega arith)))
 
-mul-old : tie.Need-mul-old Inv-loop μ-loop
-mul-old c = search needs
+mul-new : tie.Need-mul-new Inv-loop μ-loop
+mul-new c = search needs
 
-add-old : tie.Need-add-old Inv-loop μ-loop
-add-old c = search needs
+add-new : tie.Need-add-new Inv-loop μ-loop
+add-new c = search needs
 
-mul-old-2 : tie.Need-mul-old-2 Inv-loop μ-loop
-mul-old-2 c = search needs
+mul-new-2 : tie.Need-mul-new-2 Inv-loop μ-loop
+mul-new-2 c = search needs
 
-element-copy-out-old : tie.Need-element-copy-out-old Inv-loop μ-loop
-element-copy-out-old c = search needs
+element-copy-out-new : tie.Need-element-copy-out-new Inv-loop μ-loop
+element-copy-out-new c = search needs
 
-cast-old : tie.Need-cast-old Inv-loop μ-loop
-cast-old c = let s = c .before .before .before .args in widens16 (cellAt (s .history .now) (s .j) (c .before .before .loop .f)) (c .old .given)
+cast-new : tie.Need-cast-new Inv-loop μ-loop
+cast-new c = let s = c .before .before .before .args in widens16 (cellAt (s .history .now) (s .j) (c .before .before .loop .f)) (c .new .given)
 
-mul-old-3 : tie.Need-mul-old-3 Inv-loop μ-loop
-mul-old-3 c = search needs
+mul-t14 : tie.Need-mul-t14 Inv-loop μ-loop
+mul-t14 c = search needs
 
-array-set-from-old : tie.Need-array-set-from-old Inv-loop μ-loop
-array-set-from-old c = search needs
+element-set-from-new : tie.Need-element-set-from-new Inv-loop μ-loop
+element-set-from-new c = search needs
 
 add-f : tie.Need-add-f Inv-loop μ-loop
 add-f c = search needs
@@ -53,13 +53,13 @@ loop-again c = let s = c .before .before .before .args in (
   omega arith,
   (
     simp length-set (c .before .before .loop .inv .1 .0),
-    filled-more (pos 0) (λ k. cellAt (s .history .now) (s .j) k) (c .before .before .loop .old) (c .before .before .loop .f) (omega arith) (c .before .before .loop .inv .1 .1)
-        (widened16 (cellAt (s .history .now) (s .j) (c .before .before .loop .f)) (c .old .given)),
+    filled-more (pos 0) (λ k. cellAt (s .history .now) (s .j) k) (c .before .before .loop .new) (c .before .before .loop .f) (omega arith) (c .before .before .loop .inv .1 .1)
+        (widened16 (cellAt (s .history .now) (s .j) (c .before .before .loop .f)) (c .new .given)),
   ),
 )
 
 returns : tie.Need-returns Inv-loop μ-loop
-returns c = (c .before .loop .inv .1 .0, λ f p. c .before .loop .inv .1 .1 f (omega arith))
+returns c = let s = c .before .before .args in (c .before .loop .inv .1 .0, old-laid (s .w) (s .j) (c .before .loop .f) (s .history .now) (c .before .loop .new) (omega arith) (c .before .loop .inv .1 .1))
 
 pub old-levels-spec : {M : Type 1} → statement M
 old-levels-spec =
@@ -68,13 +68,13 @@ old-levels-spec =
     Inv-loop
     μ-loop
     loop-holds
-    mul-old
-    add-old
-    mul-old-2
-    element-copy-out-old
-    cast-old
-    mul-old-3
-    array-set-from-old
+    mul-new
+    add-new
+    mul-new-2
+    element-copy-out-new
+    cast-new
+    mul-t14
+    element-set-from-new
     add-f
     loop-less
     loop-again

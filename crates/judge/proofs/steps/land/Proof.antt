@@ -1,33 +1,50 @@
-use Prim.Native.Nat.{_+_, _≤_}
-use mathlib.Core.Path.{refl, sym, ap, _∙_}
+use Prim.Native.Nat.{ℕ, _+_, _≤_}
+use mathlib.Core.Path.{refl, subst}
+use mathlib.Core.List.{List, []}
 use native.Mathlib.Omega.{arith}
 use borrow.Author.Needs.{needs}
-use mathlib.Core.Path.{subst}
-use Rattle.bmap.specs.Limits.{mostLaws}
-use Rattle.bmap.specs.Domain.{static}
-use Rattle.bmap.specs.Judge.{history}
+use Rattle.bmap.specs.Domain.{Domain, Names, static}
+use Rattle.bmap.specs.Judge.{history, settled}
 use Rattle.judge.specs.States.{stateAt, statesOf}
-use Rattle.judge.specs.Settings.{settledOf, countOf}
-use Rattle.judge.specs.declared.effects.Settled.{Settled}
+use Rattle.judge.specs.Landing.{Lays}
+use Rattle.judge.specs.Told.{Occurring, Acted}
+use Rattle.judge.specs.Prepared.{Prepared}
+use Rattle.judge.specs.declared.verdict.Check.{Check}
 use Rattle.judge.proofs.StateLaws.{states-at, states-more}
 use Rattle.judge.proofs.StepLaws.{seen-states, seen-all, landed-clash, landed-fault, landed-fine}
 use Rattle.judge.proofs.steps.land.Statement.{statement}
 use Rattle.judge.proofs.steps.land.Tie as tie
 
+old-levels-requires : tie.Need-old-levels-requires
+old-levels-requires c κs = search needs
+
 add-next : tie.Need-add-next
 add-next c = search needs
 
-settle-requires : tie.Need-settle-requires
-settle-requires c κs = search needs
+lay-effects-requires : tie.Need-lay-effects-requires
+lay-effects-requires c κs = (c .before .before .before .before .before .pre .0 .1 .0 .1, c .before .before .old-levels .ensures .0)
+
+-- what check 4 says of a domain
+laying : (c : tie.After-lay-effects) (d : Domain) (owners : List ℕ) (n count : ℕ) (sheet : List Names) (names : Names) → let s = c .before .before .before .before .before .before .args in
+    Prepared d (s .held .now) owners n (s .runs) (s .lowest .now) (s .highest .now) (s .w) count → Occurring d names (s .entries) → Acted d sheet (s .history .now) (s .j + 1)
+    → Lays (c .lay-effects .result) (s .w) (c .lay-effects .last .1 .1 .1 .1 .1 .0) (settled d (history d sheet (statesOf (s .w) (s .j + 1) (s .history .now))) (s .j) names 0 [] (d .laws)) (stateAt (s .w) (s .history .now) (s .j))
+laying c d owners n count sheet names p occurring acted = let s = c .before .before .before .before .before .before .args in
+    c .lay-effects .ensures .1 d (history d sheet (statesOf (s .w) (s .j + 1) (s .history .now))) n names (s .w) (stateAt (s .w) (s .history .now) (s .j)) (p .lawful) (p .ordered .effect) occurring
+    (seen-all d sheet (s .w) (s .history .now) (s .j) (p .ranged .count) acted) (c .before .before .before .before .before .before .pre .1 .0) (c .before .before .before .old-levels .ensures .1)
 
 enum-known-fault : tie.Need-enum-known-fault
 enum-known-fault c = search needs
 
-enum-known-m : tie.Need-enum-known-m
-enum-known-m c = search needs
+returns : tie.Need-returns
+returns c = let s = c .before .before .before .before .before .before .before .before .before .args in (
+  record { before = refl; after = refl; long = c .before .before .before .before .before .before .before .before .before .pre .1 .1 .1 },
+  λ d owners n count sheet names p occurring acted.
+      landed-clash d sheet (statesOf (s .w) (s .j + 1) (s .history .now)) (s .j) names
+      (subst (λ (t : Check). Lays t (s .w) (c .before .before .before .lay-effects .last .1 .1 .1 .1 .1 .0) (settled d (history d sheet (statesOf (s .w) (s .j + 1) (s .history .now))) (s .j) names 0 [] (d .laws)) (stateAt (s .w) (s .history .now) (s .j))) (c .before .fault .given .1) (laying (c .before .before .before) d owners n count sheet names p occurring acted)),
+)
 
-new-levels-requires : tie.Need-new-levels-requires
-new-levels-requires c κs = (omega arith, (omega arith, (omega arith, subst (λ (t : Settled). countOf t ≤ mostLaws) (c .before .before .before .before .m .given .1) (c .before .before .before .before .before .before .settle .ensures .0))))
+enum-told : tie.Need-enum-told
+enum-told c = search needs
 
 put-state-requires : tie.Need-put-state-requires
 put-state-requires c κs = search needs
@@ -35,40 +52,30 @@ put-state-requires c κs = search needs
 enum-known-fault-2 : tie.Need-enum-known-fault-2
 enum-known-fault-2 c = search needs
 
-returns : tie.Need-returns
-returns c = let s = c .before .before .before .before .before .before .before .before .before .before .before .before .before .before .before .before .before .before .args in (
+returns-2 : tie.Need-returns-2
+returns-2 c = let s = c .before .before .before .before .before .before .before .before .before .before .before .before .before .before .args in let old = stateAt (s .w) (s .history .now) (s .j) in (
   c .before .before .before .put-state .ensures .0,
   λ d owners n count sheet names p occurring acted.
-      let h = history d sheet (statesOf (s .w) (s .j + 1) (s .history .now)) in let old = stateAt (s .w) (s .history .now) (s .j) in
-      landed-fault d sheet (statesOf (s .w) (s .j + 1) (s .history .now)) (s .j) names _ old
-      (sym (ap (λ (t : Settled). settledOf t (c .before .before .before .before .before .before .before .before .before .before .before .before .before .settle .last .1 .1 .1 .1 .1 .1 .0) (c .before .before .before .before .before .before .before .before .before .before .before .before .before .settle .last .1 .1 .1 .1 .1 .1 .1 .0)) (c .before .before .before .before .before .before .before .before .before .before .before .m .given .1)) ∙ c .before .before .before .before .before .before .before .before .before .before .before .before .before .settle .ensures .1 d h n names (p .lawful) (p .ordered .effect) occurring (seen-all d sheet (s .w) (s .history .now) (s .j) (p .ranged .count) acted))
-      (states-at (s .w) (s .j + 1) (s .j) (s .history .now) (omega arith)) (c .before .before .before .put-state .result) _ (c .before .before .before .put-state .ensures .1 d _ old (p .ranged) (c .before .before .before .before .before .before .new-levels .ensures .1)) (c .before .fault2 .given .1),
+      let states = statesOf (s .w) (s .j + 1) (s .history .now) in
+      let l = subst (λ (t : Check). Lays t (s .w) (c .before .before .before .before .before .before .before .before .lay-effects .last .1 .1 .1 .1 .1 .0) (settled d (history d sheet states) (s .j) names 0 [] (d .laws)) old) (c .before .before .before .before .before .before .enum-told .given .1) (laying (c .before .before .before .before .before .before .before .before) d owners n count sheet names p occurring acted) in
+      landed-fault d sheet states (s .j) names (l .settings) old (l .are) (states-at (s .w) (s .j + 1) (s .j) (s .history .now) (omega arith)) (c .before .before .before .put-state .result) _ (c .before .before .before .put-state .ensures .1 d (l .settings) old (p .ranged) (l .laid)) (c .before .fault2 .given .1),
 )
 
-enum-told : tie.Need-enum-told
-enum-told c = search needs
+enum-told-2 : tie.Need-enum-told-2
+enum-told-2 c = search needs
 
 check-laws-requires : tie.Need-check-laws-requires
-check-laws-requires c κs = c .before .before .before .before .before .before .before .before .before .before .before .before .before .before .before .before .before .before .before .pre .0 .1 .1 .0
-
-returns-2 : tie.Need-returns-2
-returns-2 c = let s = c .before .before .before .before .before .before .before .before .args in (
-  record { before = refl; after = refl; long = c .before .before .before .before .before .before .before .before .pre .1 .1 .1 },
-  λ d owners n count sheet names p occurring acted.
-      landed-clash d sheet (statesOf (s .w) (s .j + 1) (s .history .now)) (s .j) names
-      (sym (ap (λ (t : Settled). settledOf t (c .before .before .before .settle .last .1 .1 .1 .1 .1 .1 .0) (c .before .before .before .settle .last .1 .1 .1 .1 .1 .1 .1 .0)) (c .before .fault .given .1)) ∙ c .before .before .before .settle .ensures .1 d (history d sheet (statesOf (s .w) (s .j + 1) (s .history .now))) n names (p .lawful) (p .ordered .effect) occurring (seen-all d sheet (s .w) (s .history .now) (s .j) (p .ranged .count) acted)),
-)
+check-laws-requires c κs = c .before .before .before .before .before .before .before .before .before .before .before .before .before .before .before .pre .0 .1 .1 .0
 
 returns-3 : tie.Need-returns-3
-returns-3 c = let s = c .before .before .before .before .before .before .before .before .before .before .before .before .before .before .before .before .before .before .before .before .args in let after = c .before .before .before .before .before .put-state .last .1 .1 .1 .1 .0 in (
+returns-3 c = let s = c .before .before .before .before .before .before .before .before .before .before .before .before .before .before .before .before .args in let old = stateAt (s .w) (s .history .now) (s .j) in let after = c .before .before .before .before .before .put-state .last .1 .1 .1 .1 .0 in (
   c .before .before .before .before .before .put-state .ensures .0,
   λ d owners n count sheet names p occurring acted.
-      let h = history d sheet (statesOf (s .w) (s .j + 1) (s .history .now)) in let old = stateAt (s .w) (s .history .now) (s .j) in
-      landed-fine d sheet (statesOf (s .w) (s .j + 1) (s .history .now)) (s .j) names _ old
-      (sym (ap (λ (t : Settled). settledOf t (c .before .before .before .before .before .before .before .before .before .before .before .before .before .before .before .settle .last .1 .1 .1 .1 .1 .1 .0) (c .before .before .before .before .before .before .before .before .before .before .before .before .before .before .before .settle .last .1 .1 .1 .1 .1 .1 .1 .0)) (c .before .before .before .before .before .before .before .before .before .before .before .before .before .m .given .1)) ∙ c .before .before .before .before .before .before .before .before .before .before .before .before .before .before .before .settle .ensures .1 d h n names (p .lawful) (p .ordered .effect) occurring (seen-all d sheet (s .w) (s .history .now) (s .j) (p .ranged .count) acted))
-      (states-at (s .w) (s .j + 1) (s .j) (s .history .now) (omega arith)) (c .before .before .before .before .before .put-state .result) (c .check-laws .result) (stateAt (s .w) after (s .j + 1)) (statesOf (s .w) (s .j + 1 + 1) after)
-      (c .before .before .before .before .before .put-state .ensures .1 d _ old (p .ranged) (c .before .before .before .before .before .before .before .before .new-levels .ensures .1)) (c .before .before .before .enum-told .given .1)
-      (states-more (s .w) (s .j) (s .history .now) after (c .before .before .before .before .before .put-state .ensures .0 .before) (omega (arith, c .before .before .before .before .before .before .before .before .before .before .before .before .before .before .before .before .before .before .before .before .pre .1 .0)))
+      let states = statesOf (s .w) (s .j + 1) (s .history .now) in
+      let l = subst (λ (t : Check). Lays t (s .w) (c .before .before .before .before .before .before .before .before .before .before .lay-effects .last .1 .1 .1 .1 .1 .0) (settled d (history d sheet states) (s .j) names 0 [] (d .laws)) old) (c .before .before .before .before .before .before .before .before .enum-told .given .1) (laying (c .before .before .before .before .before .before .before .before .before .before) d owners n count sheet names p occurring acted) in
+      landed-fine d sheet states (s .j) names (l .settings) old (l .are) (states-at (s .w) (s .j + 1) (s .j) (s .history .now) (omega arith)) (c .before .before .before .before .before .put-state .result) (c .check-laws .result) (stateAt (s .w) after (s .j + 1)) (statesOf (s .w) (s .j + 1 + 1) after)
+      (c .before .before .before .before .before .put-state .ensures .1 d (l .settings) old (p .ranged) (l .laid)) (c .before .before .before .enum-told2 .given .1)
+      (states-more (s .w) (s .j) (s .history .now) after (c .before .before .before .before .before .put-state .ensures .0 .before) (c .before .before .before .before .before .before .before .before .before .before .before .before .before .before .before .before .pre .1 .0))
       (c .check-laws .ensures d (history d sheet (statesOf (s .w) (s .j + 1 + 1) after)) static n refl (p .lawful) (p .ordered .fixed) (seen-states d sheet (s .w) after (s .j + 1) (p .ranged .count))),
 )
 
@@ -76,15 +83,15 @@ pub land-spec : {M : Type 1} → statement M
 land-spec =
     tie.close
     (tie.spec
+    old-levels-requires
     add-next
-    settle-requires
+    lay-effects-requires
     enum-known-fault
-    enum-known-m
-    new-levels-requires
-    put-state-requires
-    enum-known-fault-2
     returns
     enum-told
-    check-laws-requires
+    put-state-requires
+    enum-known-fault-2
     returns-2
+    enum-told-2
+    check-laws-requires
     returns-3)

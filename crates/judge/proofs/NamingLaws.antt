@@ -1,17 +1,18 @@
 -- For each name, the agents who give another, and the entries that occur by it. Assumes nothing.
 use Prim.Native.Nat.{ℕ, zero, suc, _+_, _-_, _^_, _≤_, _<_}
 use mathlib.Core.Path.{_≡_, refl, sym, ap, _∙_}
-use mathlib.Core.List.{List}
+use mathlib.Core.List.{List, _∷_}
 use mathlib.Core.Bool.{Bool, true, false, not}
 use native.Mathlib.Omega.{arith}
 use native.Mathlib.Decide.{decLt, ℕ-discrete}
 use lib.Bits.{bitAnd}
 use lib.Dec.{eqb, leb}
-use lib.ListN.{length, getD, set, replicate, getD-replicate}
-use lib.Seq.{getD-set-same, getD-set-other}
-use borrow.Author.Tests.{eq-eqb, ne-eqb, le-leb, lt-leb}
+use lib.ListN.{length, getD, take, set, replicate, getD-replicate, length-replicate}
+use lib.Seq.{ext-getD, getD-set-same, getD-set-other}
+use borrow.Author.Tests.{eqb-true, eq-eqb, ne-eqb, le-leb, lt-leb}
 use Rattle.bmap.specs.Plain.{either, both, implies, any, all, numbers}
 use Rattle.bmap.specs.Domain.{Names, has, follows}
+use Rattle.bmap.proofs.PlainLaws.{both-true}
 use Rattle.judge.specs.Masks.{maskFrom, joins, nameCount, differs, Others}
 use Rattle.judge.proofs.MaskLaws.{mask-bit, mask-lt, pow-suc, any-same, shares}
 
@@ -129,3 +130,20 @@ joins-by names action crew {mask} e q =
     ∙ any-same (λ a. both (has (maskFrom (differs names action) 0 n) a) (has crew a)) (λ a. both (differs names action a) (has crew a)) 0 n
     (λ a p r. ap (λ (t : Bool). both t (has crew a)) (mask-bit (differs names action) 0 n a (omega arith) ∙ ap (differs names action) (let z : 0 + a ≡ a = omega arith in z))))))
     ∙ sym (none-other names action crew 0 n)
+
+-- ---- a step in which nobody names anything
+
+pub take-replicate : (n m a : ℕ) → n ≤ m → take n (replicate m a) ≡ replicate n a
+take-replicate zero m a h = refl
+take-replicate (suc n) zero a h = absurd (omega arith)
+take-replicate (suc n) (suc m) a h = ap (λ (l : List ℕ). a ∷ l) (take-replicate n m a (omega arith))
+
+pub idle-names : (names : List ℕ) (a : ℕ) → length names ≤ a → ((k : ℕ) → k < a → getD names k 0 ≡ 0) → names ≡ replicate (length names) 0
+idle-names names a h none = ext-getD 0 names (replicate (length names) 0) (sym (length-replicate (length names) 0)) (λ k p. none k (omega arith) ∙ sym (getD-replicate (length names) k 0 0 p))
+
+pub idle-more : (names : List ℕ) (a : ℕ) (idle : Bool) {r : Bool} → (idle ≡ true → (k : ℕ) → k < a → getD names k 0 ≡ 0) → r ≡ both idle (eqb (getD names a 0) 0) → r ≡ true → (k : ℕ) → k < a + 1 → getD names k 0 ≡ 0
+idle-more names a idle before e t k p =
+    let b = both-true idle (eqb (getD names a 0) 0) (sym e ∙ t) in elim (decLt k a) [
+      | yes q ↦ before (b .0) k q
+      | no q ↦ let z : k ≡ a = omega arith in ap (λ (i : ℕ). getD names i 0) z ∙ eqb-true (getD names a 0) 0 (b .1)
+    ]

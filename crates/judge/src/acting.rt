@@ -4,8 +4,8 @@ ghost use mathlib.Core.Bool.{true, not};
 ghost use Prim.Native.Nat.{_+_, _-_, _*_, _^_, _≤_, _<_};
 ghost use lib.Bits.{bitAnd, bitOr};
 ghost use lib.Dec.{eqb};
-ghost use lib.ListN.{length};
-ghost use Rattle.bmap.specs.Plain.{if-else};
+ghost use lib.ListN.{length, replicate};
+ghost use Rattle.bmap.specs.Plain.{both, if-else};
 ghost use Rattle.bmap.specs.Limits.{mostAgents, mostEntries};
 ghost use Rattle.bmap.specs.Domain.{Names, has};
 ghost use Rattle.judge.specs.Masks.{flagOf, maskFrom, joins, actingOf, nameCount, Others};
@@ -108,7 +108,7 @@ fn all_name(others: &[u16; NAMES], action: u8, crew: u16) -> bool
 }
 
 // The first n entries, from the last to the first, so that each takes the lowest bit.
-pub(crate) fn who_acts(
+fn who_acts(
     names: &[u8],
     actions: &[u8; Counts::ENTRIES],
     crews: &[u16; Counts::ENTRIES],
@@ -128,4 +128,55 @@ pub(crate) fn who_acts(
         agents = taken_in(agents, crews[i], occurs);
     }
     Acting { entries, agents }
+}
+
+// And this name says nothing.
+fn still(idle: bool, name: u8) -> bool
+    ensures { λ r. ⌜ r ≡ both idle (eqb name 0) ⌝ }
+{
+    if idle { name == 0 } else { false }
+}
+
+// Nobody names anything. The loop has no exit, so that several names are read at a time.
+fn all_idle(names: &[u8]) -> bool
+    ensures { λ r. ⌜ (r ≡ true → now (names .entry) ≡ replicate (length (now (names .entry))) 0) ⌝ }
+{
+    let mut idle = true;
+    let mut a = 0;
+    while a < names.len() {
+        idle = still(idle, names[a]);
+        a += 1;
+    }
+    idle
+}
+
+// Who acts where nobody names anything, found once for a judgement.
+pub(crate) fn idle_acting(
+    agents: usize,
+    actions: &[u8; Counts::ENTRIES],
+    crews: &[u16; Counts::ENTRIES],
+    n: usize,
+) -> Acting
+    requires { ⌜ (agents ≤ mostAgents) × ((n ≤ mostEntries) × ((n ≤ length (now actions)) × (n ≤ length (now crews)))) ⌝ }
+    ensures { λ r. ⌜ r ≡ actingOf (replicate agents 0) (now (actions .entry)) (now (crews .entry)) n ⌝ }
+{
+    let idle = [0u8; Counts::AGENTS];
+    who_acts(&idle[..agents], actions, crews, n)
+}
+
+// Who acts in a step: equal names, equal answers.
+pub(crate) fn acting_in(
+    names: &[u8],
+    idle: Acting,
+    actions: &[u8; Counts::ENTRIES],
+    crews: &[u16; Counts::ENTRIES],
+    n: usize,
+) -> Acting
+    requires { ⌜ ((length (now names) ≤ mostAgents) × ((n ≤ mostEntries) × ((n ≤ length (now actions)) × (n ≤ length (now crews))))) × (idle ≡ actingOf (replicate (length (now names)) 0) (now actions) (now crews) n) ⌝ }
+    ensures { λ r. ⌜ r ≡ actingOf (now (names .entry)) (now (actions .entry)) (now (crews .entry)) n ⌝ }
+{
+    if all_idle(names) {
+        return idle;
+    }
+    who_acts(names, actions, crews, n)
 }

@@ -13,7 +13,8 @@ ghost use Rattle.judge.specs.States.{stateAt, statesOf, leaving, Kept, B
 ghost use Rattle.judge.specs.Told.{Belonging, Occurring, Acted, Few};
 ghost use Rattle.judge.specs.Prepared.{Prepared, Entered, judgedOf};
 use crate::acting::Acting;
-use crate::acting::who_acts;
+use crate::acting::acting_in;
+use crate::acting::idle_acting;
 use crate::checks::check_agents;
 use crate::checks::check_entries;
 use crate::checks::check_laws;
@@ -151,11 +152,12 @@ fn run_steps(
         → Prepared d (now (held .entry)) (now (owners .entry)) l runs (now (lowest .entry)) (now (highest .entry)) (counts .fluents) (counts .entries) → Entered d (now (actions .entry)) (now (crews .entry)) (counts .entries) → d .agents ≡ agents
         → judgedOf (counts .fluents) r (now (history .exit)) ≡ carried d (rows agents n (now (sheet .entry))) 0 (statesOf (counts .fluents) 1 (now (history .entry))) (rows agents n (now (sheet .entry)))) ⌝ }
 {
+    let idle = idle_acting(agents, actions, crews, counts.entries);
     let mut rest = sheet;
     let mut j = 0;
     while j < n {
         let names = &rest[..agents];
-        let acting = who_acts(names, actions, crews, counts.entries);
+        let acting = acting_in(names, idle, actions, crews, counts.entries);
         mark_step(history, j, acting.entries, counts.entries);
         if let Check::Failed(fault, number) = take_step(
             held,

@@ -3,12 +3,13 @@ use mathlib.Core.Path.{_≡_, refl, sym, ap, _∙_}
 use mathlib.Core.List.{List}
 use native.Mathlib.Omega.{arith}
 use borrow.Author.Needs.{needs}
-use lib.ListN.{length, take, drop, length-take}
+use lib.ListN.{length, take, drop, replicate, length-take}
 use lib.Seq.{length-take-le}
 use Rattle.bmap.specs.Domain.{Domain, Names, State}
 use Rattle.bmap.specs.Sheet.{rows}
 use Rattle.bmap.specs.Judge.{step, carried, accepted}
 use Rattle.law.specs.Evaluate.{rowSize, historySize}
+use Rattle.judge.specs.Masks.{actingOf}
 use Rattle.judge.specs.States.{stateAt, statesOf, leaving, Blank, marksFrom}
 use Rattle.judge.specs.Told.{Acted}
 use Rattle.judge.specs.Prepared.{Prepared, Entered}
@@ -19,50 +20,56 @@ use Rattle.judge.proofs.steps.run_steps.Statement.{statement}
 use Rattle.judge.proofs.steps.run_steps.Tie as tie
 
 abbrev Inv-loop : tie.InvT-loop
-Inv-loop held owners runs lowest highest actions crews counts agents sheet n history₀ rest₀ j₀ history rest j =
+Inv-loop held owners runs lowest highest actions crews counts agents sheet n history₀ idle rest₀ j₀ history rest j =
     ((j ≤ n) × (length rest ≡ (n - j) * agents)) × (((length history ≡ historySize) × Blank (marksFrom j) history) × ((d : Domain) (l : ℕ) → Prepared d held owners l runs lowest highest (counts .fluents) (counts .entries) → Entered d actions crews (counts .entries) → d .agents ≡ agents
     → Acted d (rows agents n sheet) history j × ((drop j (rows agents n sheet) ≡ rows agents (n - j) rest)
     × (carried d (rows agents n sheet) 0 (statesOf (counts .fluents) 1 history₀) (rows agents n sheet) ≡ carried d (rows agents n sheet) j (statesOf (counts .fluents) (j + 1) history) (rows agents (n - j) rest)))))
 
 abbrev μ-loop : tie.MeasureT-loop
-μ-loop held owners runs lowest highest actions crews counts agents sheet n history₀ rest₀ j₀ history rest j =
+μ-loop held owners runs lowest highest actions crews counts agents sheet n history₀ idle rest₀ j₀ history rest j =
     n - j
 
+idle-acting-requires : tie.Need-idle-acting-requires Inv-loop μ-loop
+idle-acting-requires c κs = (c .before .pre .1 .0 .0, c .before .pre .1 .0 .1)
+
 loop-holds : tie.Need-loop-holds Inv-loop μ-loop
-loop-holds c = let s = c .before .args in (
-  (search needs, left-start (s .agents) (s .n) _ (c .before .pre .0 .1 .1)),
+loop-holds c = let s = c .before .before .args in (
+  (search needs, left-start (s .agents) (s .n) _ (c .before .before .pre .0 .1 .1)),
   (
-    c .before .pre .1 .1 .1 .1,
+    c .before .before .pre .1 .1 .1 .1,
     λ d l p entered agents.
         (λ k e h i. absurd (omega arith), (rows-start (s .agents) (s .n) (s .sheet .now), ap (λ (r : List Names). carried d (rows (s .agents) (s .n) (s .sheet .now)) 0 (statesOf (s .counts .fluents) 1 (s .history .now)) r) (rows-start (s .agents) (s .n) (s .sheet .now)))),
   ),
 )
 
 slice-aggregate-names : tie.Need-slice-aggregate-names Inv-loop μ-loop
-slice-aggregate-names c = let s = c .before .before .before .before .args in let turn = c .before .before .loop in sym (length-take-le (s .agents) (turn .rest .now) (row-there (s .agents) (s .n) (turn .j) (turn .rest .now) (c .before .loop-test .taken) (turn .inv .0 .1)))
+slice-aggregate-names c = let s = c .before .before .before .before .before .args in let turn = c .before .before .loop in sym (length-take-le (s .agents) (turn .rest .now) (row-there (s .agents) (s .n) (turn .j) (turn .rest .now) (c .before .loop-test .taken) (turn .inv .0 .1)))
 
-who-acts-requires : tie.Need-who-acts-requires Inv-loop μ-loop
-who-acts-requires c κs = (omega (arith, length-take (c .before .before .before .before .args .agents) (c .before .before .loop .rest .now), c .before .before .before .before .pre .1 .0 .0), c .before .before .before .before .pre .1 .0 .1)
+acting-in-requires : tie.Need-acting-in-requires Inv-loop μ-loop
+acting-in-requires c κs = let s = c .before .before .before .before .before .args in let turn = c .before .before .loop in (
+  (omega (arith, length-take (s .agents) (turn .rest .now), c .before .before .before .before .before .pre .1 .0 .0), c .before .before .before .before .before .pre .1 .0 .1),
+  c .before .before .before .idle-acting .ensures ∙ ap (λ (k : ℕ). actingOf (replicate k 0) (s .actions .now) (s .crews .now) (s .counts .entries)) (sym (length-take-le (s .agents) (turn .rest .now) (row-there (s .agents) (s .n) (turn .j) (turn .rest .now) (c .before .loop-test .taken) (turn .inv .0 .1)))),
+)
 
 mark-step-requires : tie.Need-mark-step-requires Inv-loop μ-loop
-mark-step-requires c κs = (omega (arith, c .before .before .before .loop-test .taken, c .before .before .before .before .before .before .pre .0 .0), (c .before .before .before .before .before .before .pre .1 .0 .1 .0, c .before .before .before .before .loop .inv .1 .0 .0))
+mark-step-requires c κs = (omega (arith, c .before .before .before .loop-test .taken, c .before .before .before .before .before .before .before .pre .0 .0), (c .before .before .before .before .before .before .before .pre .1 .0 .1 .0, c .before .before .before .before .loop .inv .1 .0 .0))
 
 take-step-requires : tie.Need-take-step-requires Inv-loop μ-loop
-take-step-requires c κs = let pre = c .before .before .before .before .before .before .before .before .pre in (
+take-step-requires c κs = let pre = c .before .before .before .before .before .before .before .before .before .pre in (
   (omega (arith, c .before .before .before .before .before .loop-test .taken, pre .0 .0), pre .0 .1 .0),
-  ((omega (arith, length-take (c .before .before .before .before .before .before .before .before .args .agents) (c .before .before .before .before .before .before .loop .rest .now), pre .1 .0 .0), pre .1 .0 .1 .0), (pre .1 .1 .0, (pre .1 .1 .1 .0, c .before .mark-step .ensures .0 .long))),
+  ((omega (arith, length-take (c .before .before .before .before .before .before .before .before .before .args .agents) (c .before .before .before .before .before .before .loop .rest .now), pre .1 .0 .0), pre .1 .0 .1 .0), (pre .1 .1 .0, (pre .1 .1 .1 .0, c .before .mark-step .ensures .0 .long))),
 )
 
 -- what a step says of a domain, and the run up to it
-turn : (c : tie.After-take-step Inv-loop μ-loop) (d : Domain) (l : ℕ) → let s = c .before .before .before .before .before .before .before .before .before .args in let sheet = rows (s .agents) (s .n) (s .sheet .now) in let w = s .counts .fluents in
+turn : (c : tie.After-take-step Inv-loop μ-loop) (d : Domain) (l : ℕ) → let s = c .before .before .before .before .before .before .before .before .before .before .args in let sheet = rows (s .agents) (s .n) (s .sheet .now) in let w = s .counts .fluents in
     let at = c .before .before .before .before .before .before .before .loop in let marked = c .before .before .mark-step .last .0 in
     Prepared d (s .held .now) (s .owners .now) l (s .runs) (s .lowest .now) (s .highest .now) w (s .counts .entries) → Entered d (s .actions .now) (s .crews .now) (s .counts .entries) → d .agents ≡ s .agents
     → Acted d sheet marked (at .j + 1)
     × ((leaving (c .take-step .result) (stateAt w (c .take-step .last .1 .1 .1 .1 .1 .1 .1 .1 .1 .0) (at .j + 1)) ≡ step d sheet (statesOf w (at .j + 1) marked) (at .j) (take (s .agents) (at .rest .now)))
     × (carried d sheet 0 (statesOf w 1 (s .history .now)) sheet ≡ carried d sheet (at .j) (statesOf w (at .j + 1) marked) (rows (s .agents) (s .n - at .j) (at .rest .now))))
 turn c d l p entered agents =
-    let start = c .before .before .before .before .before .before .before .before .before in let s = start .args in let sheet = rows (s .agents) (s .n) (s .sheet .now) in let w = s .counts .fluents in
-    let at = c .before .before .before .before .before .before .before .loop in let taken = c .before .before .before .before .before .before .loop-test .taken in let marks = c .before .before .mark-step in let marked = marks .last .0 in let acting = c .before .before .before .before .who-acts in
+    let start = c .before .before .before .before .before .before .before .before .before .before in let s = start .args in let sheet = rows (s .agents) (s .n) (s .sheet .now) in let w = s .counts .fluents in
+    let at = c .before .before .before .before .before .before .before .loop in let taken = c .before .before .before .before .before .before .loop-test .taken in let marks = c .before .before .mark-step in let marked = marks .last .0 in let acting = c .before .before .before .before .acting-in in
     let j = at .j in let rest = at .rest .now in let names = take (s .agents) rest in let going = at .inv .1 .1 d l p entered agents in
     let long = length-take-le (s .agents) rest (row-there (s .agents) (s .n) j rest taken (at .inv .0 .1)) ∙ sym agents in
     let few : length (d .entries) ≤ 64 = omega (arith, p .entries, start .pre .1 .0 .1 .0) in
@@ -79,14 +86,14 @@ turn c d l p entered agents =
 enum-known-fault : tie.Need-enum-known-fault Inv-loop μ-loop
 enum-known-fault c = search needs
 
-add-t25 : tie.Need-add-t25 Inv-loop μ-loop
-add-t25 c = omega (arith, c .before .before .before .before .before .before .before .before .before .loop-test .taken, c .before .before .before .before .before .before .before .before .before .before .before .before .pre .0 .0)
+add-t26 : tie.Need-add-t26 Inv-loop μ-loop
+add-t26 c = omega (arith, c .before .before .before .before .before .before .before .before .before .loop-test .taken, c .before .before .before .before .before .before .before .before .before .before .before .before .before .pre .0 .0)
 
-add-t27 : tie.Need-add-t27 Inv-loop μ-loop
-add-t27 c = omega (arith, c .before .before .before .before .before .before .before .before .before .loop-test .taken, c .before .before .before .before .before .before .before .before .before .before .before .before .pre .0 .0)
+add-t28 : tie.Need-add-t28 Inv-loop μ-loop
+add-t28 c = omega (arith, c .before .before .before .before .before .before .before .before .before .loop-test .taken, c .before .before .before .before .before .before .before .before .before .before .before .before .before .pre .0 .0)
 
 returns : tie.Need-returns Inv-loop μ-loop
-returns c = let start = c .before .before .before .before .before .before .before .before .before .before .before .before in let s = start .args in let w = s .counts .fluents in let j = c .before .before .before .before .before .before .before .before .before .before .loop .j in let marked = c .before .before .before .before .before .mark-step .last .0 in let after = c .before .before .before .take-step .last .1 .1 .1 .1 .1 .1 .1 .1 .1 .0 in (
+returns c = let start = c .before .before .before .before .before .before .before .before .before .before .before .before .before in let s = start .args in let w = s .counts .fluents in let j = c .before .before .before .before .before .before .before .before .before .before .loop .j in let marked = c .before .before .before .before .before .mark-step .last .0 in let after = c .before .before .before .take-step .last .1 .1 .1 .1 .1 .1 .1 .1 .1 .0 in (
   (omega (arith, c .before .before .before .before .before .before .before .before .before .loop-test .taken), (λ e. absurd (let z : _≡_ {A = ℕ} 0 1 = cc in omega arith), c .before .before .before .take-step .ensures .0 .long)),
   λ d l p entered agents.
       let told = turn (c .before .before .before) d l p entered agents in
@@ -98,10 +105,10 @@ enum-told : tie.Need-enum-told Inv-loop μ-loop
 enum-told c = search needs
 
 sub-rest : tie.Need-sub-rest Inv-loop μ-loop
-sub-rest c = omega (arith, row-there (c .before .before .before .before .before .before .before .before .before .before .before .args .agents) (c .before .before .before .before .before .before .before .before .before .before .before .args .n) (c .before .before .before .before .before .before .before .before .before .loop .j) (c .before .before .before .before .before .before .before .before .before .loop .rest .now) (c .before .before .before .before .before .before .before .before .loop-test .taken) (c .before .before .before .before .before .before .before .before .before .loop .inv .0 .1))
+sub-rest c = omega (arith, row-there (c .before .before .before .before .before .before .before .before .before .before .before .before .args .agents) (c .before .before .before .before .before .before .before .before .before .before .before .before .args .n) (c .before .before .before .before .before .before .before .before .before .loop .j) (c .before .before .before .before .before .before .before .before .before .loop .rest .now) (c .before .before .before .before .before .before .before .before .loop-test .taken) (c .before .before .before .before .before .before .before .before .before .loop .inv .0 .1))
 
 part-rest-start : tie.Need-part-rest-start Inv-loop μ-loop
-part-rest-start c = omega (arith, row-there (c .before .before .before .before .before .before .before .before .before .before .before .args .agents) (c .before .before .before .before .before .before .before .before .before .before .before .args .n) (c .before .before .before .before .before .before .before .before .before .loop .j) (c .before .before .before .before .before .before .before .before .before .loop .rest .now) (c .before .before .before .before .before .before .before .before .loop-test .taken) (c .before .before .before .before .before .before .before .before .before .loop .inv .0 .1))
+part-rest-start c = omega (arith, row-there (c .before .before .before .before .before .before .before .before .before .before .before .before .args .agents) (c .before .before .before .before .before .before .before .before .before .before .before .before .args .n) (c .before .before .before .before .before .before .before .before .before .loop .j) (c .before .before .before .before .before .before .before .before .before .loop .rest .now) (c .before .before .before .before .before .before .before .before .loop-test .taken) (c .before .before .before .before .before .before .before .before .before .loop .inv .0 .1))
 
 part-rest-end : tie.Need-part-rest-end Inv-loop μ-loop
 part-rest-end c = search needs
@@ -113,7 +120,7 @@ loop-less : tie.Need-loop-less Inv-loop μ-loop
 loop-less c = search needs
 
 loop-again : tie.Need-loop-again Inv-loop μ-loop
-loop-again c = let start = c .before .before .before .before .before .before .before .before .before .before .before .before in let s = start .args in let w = s .counts .fluents in let j = c .before .before .before .before .before .before .before .before .before .before .loop .j in let rest = c .before .before .before .before .before .before .before .before .before .before .loop .rest .now in let marked = c .before .before .before .before .before .mark-step .last .0 in let after = c .before .before .before .take-step .last .1 .1 .1 .1 .1 .1 .1 .1 .1 .0 in
+loop-again c = let start = c .before .before .before .before .before .before .before .before .before .before .before .before .before in let s = start .args in let w = s .counts .fluents in let j = c .before .before .before .before .before .before .before .before .before .before .loop .j in let rest = c .before .before .before .before .before .before .before .before .before .before .loop .rest .now in let marked = c .before .before .before .before .before .mark-step .last .0 in let after = c .before .before .before .take-step .last .1 .1 .1 .1 .1 .1 .1 .1 .1 .0 in
     let sheet = rows (s .agents) (s .n) (s .sheet .now) in
     let part : take (length rest - s .agents) (drop (s .agents) rest) ≡ drop (s .agents) rest = rest-is (s .agents) rest in (
       (omega (arith, c .before .before .before .before .before .before .before .before .before .loop-test .taken), ap length part ∙ row-left (s .agents) (s .n) j rest (c .before .before .before .before .before .before .before .before .before .loop-test .taken) (c .before .before .before .before .before .before .before .before .before .before .loop .inv .0 .1)),
@@ -135,11 +142,11 @@ loop-again c = let start = c .before .before .before .before .before .before .be
       ),
     )
 
-add-t32 : tie.Need-add-t32 Inv-loop μ-loop
-add-t32 c = search needs
+add-t33 : tie.Need-add-t33 Inv-loop μ-loop
+add-t33 c = search needs
 
 returns-2 : tie.Need-returns-2 Inv-loop μ-loop
-returns-2 c = let s = c .before .before .before .args in let z : c .before .loop .j ≡ s .n = omega arith in (
+returns-2 c = let s = c .before .before .before .before .args in let z : c .before .loop .j ≡ s .n = omega arith in (
   (search needs, (λ e. refl, c .before .loop .inv .1 .0 .0)),
   λ d l p entered agents.
       let going = c .before .loop .inv .1 .1 d l p entered agents in
@@ -153,14 +160,15 @@ run-steps-spec =
     (tie.spec
     Inv-loop
     μ-loop
+    idle-acting-requires
     loop-holds
     slice-aggregate-names
-    who-acts-requires
+    acting-in-requires
     mark-step-requires
     take-step-requires
     enum-known-fault
-    add-t25
-    add-t27
+    add-t26
+    add-t28
     returns
     enum-told
     sub-rest
@@ -169,5 +177,5 @@ run-steps-spec =
     add-j
     loop-less
     loop-again
-    add-t32
+    add-t33
     returns-2)

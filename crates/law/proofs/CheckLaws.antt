@@ -5,95 +5,70 @@ use mathlib.Core.List.{List}
 use mathlib.Core.Option.{Option, none, some}
 use Prim.Native.Nat.{ℕ, zero, suc, _+_, _-_, _≤_, _<_}
 use native.Mathlib.Nat.{add-assoc}
+use native.Mathlib.Numerals.{add-one}
 use native.Mathlib.Omega.{arith}
-use borrow.Author.Tests.{ne-eqb}
+use borrow.Author.Tests.{ne-eqb, eqb-true, eqb-false}
 use lib.Dec.{leb, ltb, eqb}
-use lib.ListN.{length, drop, getD}
-use lib.Seq.{drop-drop}
+use lib.ListN.{length, take, drop, getD, set}
+use lib.Seq.{drop-drop, length-take-le, getD-take, take-suc, take-suc-set}
 use Rattle.bmap.specs.declared.Operation.{Operation}
 use Rattle.bmap.specs.declared.Single.{Single}
 use Rattle.bmap.specs.declared.Comparison.{Comparison}
 use Rattle.bmap.specs.declared.Junction.{Junction}
-use Rattle.bmap.specs.Plain.{both, all}
+use Rattle.bmap.specs.Plain.{both, all, if-else}
 use Rattle.bmap.specs.Refusal.{Answer, got, refused, need}
-use Rattle.bmap.specs.declared.limits.Context.{Context}
-use Rattle.bmap.specs.Limits.{mostLag}
 use Rattle.bmap.specs.Number.{signedWord}
 use Rattle.bmap.specs.Tree.{Expr, Con, constant, fluent, two, one, reified, compared, joined, negated, occurs, always, allowedE, allowedC, namedE, namedC}
-use Rattle.bmap.proofs.PlainLaws.{both-end, all-append}
+use Rattle.bmap.proofs.PlainLaws.{all-append}
 use Rattle.bmap.specs.Code.{Code, Parsed, Parser, codeOf, made, second, operands, twoBytes, parseE, parseC}
 use Rattle.bmap.specs.Domain.{has}
 use Rattle.law.specs.declared.table.Node.the-variants.{Expression, Constraint}
 use Rattle.law.specs.declared.table.Pair.the-variants.{Bytes, Short}
-use Rattle.law.specs.declared.checks.Test.{Test}
-use Rattle.law.specs.declared.checks.Test.the-variants.{Allowed, Known}
 use Rattle.law.specs.Table.{opened, pairOf, sortIn, countIn, operatorIn, operationAt, singleAt, comparisonAt, junctionAt}
 use Rattle.law.specs.Names.{namesOnly}
-use Rattle.law.specs.Check.{nextOf, endOf, passesE, passesC}
-use Rattle.law.proofs.Trees.{at-constant, at-fluent, at-reified, at-one, at-two, at-truth, at-occurrence, at-negation, at-junction, at-comparison, no-pair, a-pair}
+use Rattle.law.specs.Check.{Test, allowed, in-mask, nextOf, endOf, passesE, passesC, leafIn}
+use Rattle.law.proofs.Trees.{at-constant, at-fluent, at-reified, at-one, at-two, at-truth, at-occurrence, at-negation, at-junction, at-comparison, pair-short, pair-long, no-pair, a-pair}
 
 -- A tree passes where its operands do.
 pub passes-constant : (t : Test) (hi lo : ℕ) → passesE t (constant (signedWord hi lo)) ≡ true
 unfolding allowedE namedE all
-passes-constant (Allowed x) hi lo = refl
-passes-constant (Known m) hi lo = refl
+passes-constant (allowed x) hi lo = refl
+passes-constant (in-mask m) hi lo = refl
 
 passes-two : (t : Test) (o : Operation) (a b : Expr) → passesE t (two o a b) ≡ both (passesE t a) (passesE t b)
 unfolding allowedE namedE
-passes-two (Allowed x) o a b = refl
-passes-two (Known m) o a b = all-append (has m) (namedE a) (namedE b)
+passes-two (allowed x) o a b = refl
+passes-two (in-mask m) o a b = all-append (has m) (namedE a) (namedE b)
 
 passes-one : (t : Test) (o : Single) (a : Expr) → passesE t (one o a) ≡ passesE t a
 unfolding allowedE namedE
-passes-one (Allowed x) o a = refl
-passes-one (Known m) o a = refl
+passes-one (allowed x) o a = refl
+passes-one (in-mask m) o a = refl
 
 passes-reified : (t : Test) (a : Con) → passesE t (reified a) ≡ passesC t a
 unfolding allowedE namedE
-passes-reified (Allowed x) a = refl
-passes-reified (Known m) a = refl
+passes-reified (allowed x) a = refl
+passes-reified (in-mask m) a = refl
 
 passes-compared : (t : Test) (o : Comparison) (a b : Expr) → passesC t (compared o a b) ≡ both (passesE t a) (passesE t b)
 unfolding allowedC namedC
-passes-compared (Allowed x) o a b = refl
-passes-compared (Known m) o a b = all-append (has m) (namedE a) (namedE b)
+passes-compared (allowed x) o a b = refl
+passes-compared (in-mask m) o a b = all-append (has m) (namedE a) (namedE b)
 
 passes-joined : (t : Test) (o : Junction) (a b : Con) → passesC t (joined o a b) ≡ both (passesC t a) (passesC t b)
 unfolding allowedC namedC
-passes-joined (Allowed x) o a b = refl
-passes-joined (Known m) o a b = all-append (has m) (namedC a) (namedC b)
+passes-joined (allowed x) o a b = refl
+passes-joined (in-mask m) o a b = all-append (has m) (namedC a) (namedC b)
 
 passes-negated : (t : Test) (a : Con) → passesC t (negated a) ≡ passesC t a
 unfolding allowedC namedC
-passes-negated (Allowed x) a = refl
-passes-negated (Known m) a = refl
+passes-negated (allowed x) a = refl
+passes-negated (in-mask m) a = refl
 
 passes-always : (t : Test) → passesC t always ≡ true
 unfolding allowedC namedC all
-passes-always (Allowed x) = refl
-passes-always (Known m) = refl
-
--- The tests of a leaf.
-module _ (t : Test) (n lag : ℕ) where
-  pub fluent-allowed : {x : Context} → t ≡ Allowed x → both (ltb n (x .fluents)) (leb lag mostLag) ≡ passesE t (fluent n lag)
-  unfolding allowedE
-  fluent-allowed e = rw e
-
-  pub fluent-known : {m : ℕ} → t ≡ Known m → has m n ≡ passesE t (fluent n lag)
-  unfolding namedE all
-  fluent-known {m} e = rw e (sym (both-end (has m n)))
-
-  pub entry-allowed : {x : Context} → t ≡ Allowed x → x .occurrences ≡ true → both (ltb n (x .entries)) (leb lag mostLag) ≡ passesC t (occurs n lag)
-  unfolding allowedC
-  entry-allowed e o = rw (e, o)
-
-  pub entry-barred : {x : Context} → t ≡ Allowed x → x .occurrences ≡ false → false ≡ passesC t (occurs n lag)
-  unfolding allowedC
-  entry-barred e o = rw (e, o)
-
-  pub entry-known : {m : ℕ} → t ≡ Known m → true ≡ passesC t (occurs n lag)
-  unfolding namedC all
-  entry-known e = rw e
+passes-always (allowed x) = refl
+passes-always (in-mask m) = refl
 
 -- One operand, and two.
 module _ {T A : Type 0} (okA : A → Bool) (okT : T → Bool) where
@@ -153,6 +128,39 @@ module _ {T : Type 0} (ok : T → Bool) (make : ℕ → ℕ → T) (s : List ℕ
     pub leaf-fails : ok (make a b) ≡ false → refused 4 ≡ endOf ok at (twoBytes make (drop (at + 1) s))
     leaf-fails h = rw (a-pair make (drop (at + 1) s) e, h)
 
+-- The first n bytes of an array.
+module _ (s : List ℕ) (n : ℕ) (le : n ≤ length s) where
+  pub as-long : length (take n s) ≡ n
+  as-long = length-take-le n s le
+
+  pub inside : {at : ℕ} → at < n → at < length (take n s)
+  inside h = rw as-long h
+
+  pub outside : {at : ℕ} → n ≤ at → length (take n s) ≤ at
+  outside h = rw as-long h
+
+  pub code-at : {A : Type 0} {x : A} (f : ℕ → A) (at : ℕ) → at < n → x ≡ f (getD s at 0) → x ≡ f (getD (take n s) at 0)
+  code-at f at h e = e ∙ ap f (sym (getD-take n s at 0 h))
+
+  -- a leaf there
+  module _ {T : Type 0} (ok : T → Bool) (make : ℕ → ℕ → T) (at : ℕ) where
+    pub pair-ends : n - at < 3 → refused 4 ≡ endOf ok at (twoBytes make (drop (at + 1) (take n s)))
+    pair-ends h = leaf-short ok make (take n s) at (pair-short (take n s) at (rw as-long h))
+
+    module _ (h : 3 ≤ n - at) where
+      bytes : Bytes (getD s (at + 1) 0) (getD s (at + 2) 0) ≡ pairOf (drop (at + 1) (take n s))
+      bytes = rw (← getD-take n s (at + 1) 0 (omega arith), ← getD-take n s (at + 2) 0 (omega arith)) (pair-long (take n s) at (rw as-long h))
+
+      pub pair-passes : ok (make (getD s (at + 1) 0) (getD s (at + 2) 0)) ≡ true → nextOf (at + 3) ≡ endOf ok at (twoBytes make (drop (at + 1) (take n s)))
+      pair-passes e = leaf-passes ok make (take n s) at bytes e
+
+      pub pair-fails : ok (make (getD s (at + 1) 0) (getD s (at + 2) 0)) ≡ false → refused 4 ≡ endOf ok at (twoBytes make (drop (at + 1) (take n s)))
+      pair-fails e = leaf-fails ok make (take n s) at bytes e
+
+-- One more byte of a law is copied.
+pub copy-byte : (s b : List ℕ) (i : ℕ) → i < length s → i < length b → take i b ≡ take i s → take (i + 1) (set b i (getD s i 0)) ≡ take (i + 1) s
+copy-byte s b i h k e = rw (add-one, take-suc-set b i (getD s i 0) k, e, take-suc s i 0 h)
+
 -- The tree at a place, by its code.
 module _ (t : Test) (s : List ℕ) (at d : ℕ) (ne : d ≡ 0 → ⊥) (lt : at < length s) where
   abbrev code : Code
@@ -171,11 +179,15 @@ module _ (t : Test) (s : List ℕ) (at d : ℕ) (ne : d ≡ 0 → ⊥) (lt : at 
   part-c m = endOf (passesC t) m (parseC (d - 1) (drop m s))
 
   module _ {row : ℕ} (p : Expression row ≡ opened code) where
-    pub check-constant : sortIn row ≡ 1 → operatorIn row ≡ 0 → endOf (passesE t) at (twoBytes (λ hi lo. constant (signedWord hi lo)) (drop (at + 1) s)) ≡ whole-e
-    check-constant q r = rw (at-constant s at d ne lt p q r)
+    pub check-leaf : sortIn row ≡ 1 → endOf (passesE t) at (twoBytes (leafIn row) (drop (at + 1) s)) ≡ whole-e
+    check-leaf q = go (eqb (operatorIn row) 0) refl
+      where
+        by : Bool → Answer ℕ
+        by b = endOf (passesE t) at (twoBytes (λ x y. if-else b (constant (signedWord x y)) (fluent x y)) (drop (at + 1) s))
 
-    pub check-fluent : sortIn row ≡ 1 → (operatorIn row ≡ 0 → ⊥) → endOf (passesE t) at (twoBytes fluent (drop (at + 1) s)) ≡ whole-e
-    check-fluent q r = rw (at-fluent s at d ne lt p q r)
+        go : (b : Bool) → eqb (operatorIn row) 0 ≡ b → by b ≡ whole-e
+        go true e = rw (at-constant s at d ne lt p q (eqb-true (operatorIn row) 0 e))
+        go false e = rw (at-fluent s at d ne lt p q (eqb-false (operatorIn row) 0 e))
 
     pub check-reified : sortIn row ≡ 3 → part-c (at + 1) ≡ whole-e
     check-reified q = rw (at-reified s at d ne lt p q) (one-checked (passesC t) (passesE t) reified (passes-reified t) at 1 (parseC (d - 1) (drop (at + 1) s)))
@@ -227,10 +239,10 @@ module _ (t : Test) (s : List ℕ) (at d : ℕ) (ne : d ≡ 0 → ⊥) (lt : at 
         check-first-c e = rw (at-junction s at d ne lt p q r m n) (first-refused (passesC t) (passesC t) (joined junction) (passes-joined t junction) (parseC (d - 1)) s at e)
 
 -- What the place after a tree says of the fluents that it names.
-pub names-known : (mask at n : ℕ) (o : Option (Parsed Con)) → nextOf n ≡ endOf (passesC (Known mask)) at o → not (eqb n 0) ≡ namesOnly mask o
+pub names-known : (mask at n : ℕ) (o : Option (Parsed Con)) → nextOf n ≡ endOf (passesC (in-mask mask)) at o → not (eqb n 0) ≡ namesOnly mask o
 names-known mask at zero none e = refl
 names-known mask at (suc n) none e = cc
-names-known mask at n (some p) e = go n (passesC (Known mask) (p .tree)) e
+names-known mask at n (some p) e = go n (passesC (in-mask mask) (p .tree)) e
   where
     go : (n : ℕ) (b : Bool) → nextOf n ≡ need b 4 (got (at + p .used)) → not (eqb n 0) ≡ b
     go zero true e = cc

@@ -2,6 +2,8 @@ pub mod Codes
 pub mod Trees
 pub mod Bits
 pub mod CheckLaws
+pub mod MayLaws
+pub mod LongLaws
 pub mod PackedLaws
 pub mod Evals
 pub mod Used

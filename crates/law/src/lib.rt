@@ -5,7 +5,9 @@
 // laws give.
 mod checks;
 mod eval;
+mod long;
 mod mask;
+mod may;
 mod names;
 mod packed;
 mod table;

@@ -5,14 +5,12 @@ ghost use Rattle.bmap.specs.Limits.{mostDepth};
 ghost use Rattle.bmap.specs.Code.{parseC};
 ghost use Rattle.law.specs.Names.{namesOnly};
 use crate::checks::REFUSED;
-use crate::checks::Test;
-use crate::checks::constraint_in;
-use crate::table::table;
+use crate::checks::constraint_end;
+use crate::may::only_of;
 
 // Whether every fluent that the constraint names has its bit in the mask: the checker, with this for its test.
 pub fn names_only(s: &[u8], at: usize, mask: u32) -> bool
     ensures { λ r. ⌜ r ≡ namesOnly mask (parseC mostDepth (drop at (now (s .entry)))) ⌝ }
 {
-    let rows = table();
-    constraint_in(s, at, bmap::DEPTH, Test::Known(mask), &rows) != REFUSED
+    constraint_end(s, at, only_of(mask)) != REFUSED
 }

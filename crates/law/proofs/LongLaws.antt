@@ -9,7 +9,7 @@ use denote.Enum.Declared.{tagOf}
 use borrow.Author.Tests.{eqb-true, eqb-false}
 use lib.Dec.{eqb}
 use lib.ListN.{length, drop, getD}
-use Rattle.bmap.specs.Refusal.{Answer, got, refused}
+use Rattle.bmap.specs.Refusal.{got, refused}
 use Rattle.bmap.specs.Tree.{occurs}
 use Rattle.bmap.specs.Code.{Code, expression, constraint, no-code, a-constant, a-fluent, of-two, of-one, a-reified, of-comparison, of-junction, a-negation, an-occurrence, a-truth, codeOf}
 use Rattle.law.specs.declared.table.Node.the-variants.{Expression, Constraint}
@@ -153,27 +153,27 @@ module _ (w : ℕ) (t : Test) (s : List ℕ) (at d : ℕ) where
         pub long-one : countIn row ≡ 1 → treeEnd k t (d - 1) s (at + 1) ≡ treeEnd w t d s at
         long-one n = by-test (eqb w 3)
             (λ f. by-test (eqb k 3)
-              (λ g. rw (f, g) (check-negation t s at d ne lt (con f) (no-expressions g) not-bytes n))
-              (λ g. absurd (others g (of-constraint code (con f) not-bytes n))))
+            (λ g. rw (f, g) (check-negation t s at d ne lt (con f) (no-expressions g) not-bytes n))
+            (λ g. absurd (others g (of-constraint code (con f) not-bytes n))))
             (λ f. by-test (eqb k 3)
-              (λ g. rw (f, g) (check-reified t s at d ne lt (expr f) (constraints g)))
-              (λ g. rw (f, g) (check-one t s at d ne lt (expr f) not-bytes (others g) n)))
+            (λ g. rw (f, g) (check-reified t s at d ne lt (expr f) (constraints g)))
+            (λ g. rw (f, g) (check-one t s at d ne lt (expr f) not-bytes (others g) n)))
 
         module _ (m : countIn row ≡ 0 → ⊥) (n : countIn row ≡ 1 → ⊥) where
           pub long-two : {next : ℕ} → got next ≡ treeEnd k t (d - 1) s (at + 1) → treeEnd k t (d - 1) s next ≡ treeEnd w t d s at
           long-two h = by-test (eqb w 3)
               (λ f. by-test (eqb k 3)
-                (λ g. rw (f, g) (check-junction t s at d ne lt (con f) (no-expressions g) not-bytes m n (rw g at h)))
-                (λ g. rw (f, g) (check-compared t s at d ne lt (con f) (of-expressions code (con f) not-bytes (others g) m) (rw g at h))))
+              (λ g. rw (f, g) (check-junction t s at d ne lt (con f) (no-expressions g) not-bytes m n (rw g at h)))
+              (λ g. rw (f, g) (check-compared t s at d ne lt (con f) (of-expressions code (con f) not-bytes (others g) m) (rw g at h))))
               (λ f. by-test (eqb k 3)
-                (λ g. absurd (n (one-constraint code (expr f) (constraints g))))
-                (λ g. rw (f, g) (check-two t s at d ne lt (expr f) not-bytes (others g) n (rw g at h))))
+              (λ g. absurd (n (one-constraint code (expr f) (constraints g))))
+              (λ g. rw (f, g) (check-two t s at d ne lt (expr f) not-bytes (others g) n (rw g at h))))
 
           pub long-first : refused 4 ≡ treeEnd k t (d - 1) s (at + 1) → refused 4 ≡ treeEnd w t d s at
           long-first h = by-test (eqb w 3)
               (λ f. by-test (eqb k 3)
-                (λ g. rw f (check-first-c t s at d ne lt (con f) (no-expressions g) not-bytes m n (rw g at h)))
-                (λ g. rw f (check-first-e t s at d ne lt (con f) (of-expressions code (con f) not-bytes (others g) m) (rw g at h))))
+              (λ g. rw f (check-first-c t s at d ne lt (con f) (no-expressions g) not-bytes m n (rw g at h)))
+              (λ g. rw f (check-first-e t s at d ne lt (con f) (of-expressions code (con f) not-bytes (others g) m) (rw g at h))))
               (λ f. by-test (eqb k 3)
-                (λ g. absurd (n (one-constraint code (expr f) (constraints g))))
-                (λ g. rw f (check-first t s at d ne lt (expr f) not-bytes (others g) n (rw g at h))))
+              (λ g. absurd (n (one-constraint code (expr f) (constraints g))))
+              (λ g. rw f (check-first t s at d ne lt (expr f) not-bytes (others g) n (rw g at h))))

@@ -8,14 +8,13 @@ use native.Mathlib.Decide.{decLe}
 use native.Mathlib.Omega.{arith}
 use borrow.Author.Tests.{lt-ltb, le-ltb, le-leb, lt-leb, eq-eqb, ne-eqb}
 use lib.Dec.{T, eqb, leb, ltb}
-use Rattle.bmap.specs.Plain.{both, all, if-else}
-use Rattle.bmap.specs.Limits.{mostLag}
+use Rattle.bmap.specs.Plain.{both, all}
 use Rattle.bmap.specs.Domain.{has}
-use Rattle.bmap.specs.Tree.{fluent, occurs, allowedE, allowedC, namedE, namedC}
+use Rattle.bmap.specs.Tree.{fluent, allowedE, allowedC, namedE, namedC}
 use Rattle.bmap.specs.declared.limits.Context.{Context}
 use Rattle.bmap.proofs.PlainLaws.{both-end, both-parts}
 use Rattle.law.specs.Table.{operatorIn}
-use Rattle.law.specs.Check.{Test, allowed, in-mask, passesE, passesC, wordOf, limitOf, fluentsIn, entriesIn, lagIn, maskIn, fluentMay, entryMay, Asks, leafIn}
+use Rattle.law.specs.Check.{Test, allowed, in-mask, passesE, wordOf, limitOf, fluentsIn, entriesIn, lagIn, maskIn, fluentMay, entryMay, Asks, leafIn}
 use Rattle.law.proofs.Bits.{no-bit}
 use Rattle.law.proofs.CheckLaws.{passes-constant}
 

@@ -63,7 +63,14 @@ fn entry_at(s: &[u8; LAW], n: usize, at: usize, may: u64) -> usize
     REFUSED
 }
 
-fn expression_in(s: &[u8; LAW], n: usize, at: usize, depth: usize, may: u64, table: &[u8; ROWS]) -> usize
+fn expression_in(
+    s: &[u8; LAW],
+    n: usize,
+    at: usize,
+    depth: usize,
+    may: u64,
+    table: &[u8; ROWS],
+) -> usize
     requires { ⌜ LawIn (now s) n × (now table ≡ rows) ⌝ }
     ensures { λ r. ⌜ ((t : Test) → Asks may t → nextOf r ≡ exprEnd t depth (take n (now (s .entry))) at) ⌝ }
 {
@@ -83,7 +90,15 @@ fn expression_in(s: &[u8; LAW], n: usize, at: usize, depth: usize, may: u64, tab
 }
 
 // An expression that holds others: apart, so that a leaf costs its parent no call.
-fn inner_in(s: &[u8; LAW], n: usize, at: usize, depth: usize, may: u64, table: &[u8; ROWS], row: u8) -> usize
+fn inner_in(
+    s: &[u8; LAW],
+    n: usize,
+    at: usize,
+    depth: usize,
+    may: u64,
+    table: &[u8; ROWS],
+    row: u8,
+) -> usize
     requires { ⌜ LawIn (now s) n × ((now table ≡ rows) × Inner (now s) n at depth row) ⌝ }
     ensures { λ r. ⌜ ((t : Test) → Asks may t → nextOf r ≡ exprEnd t depth (take n (now (s .entry))) at) ⌝ }
 {
@@ -100,7 +115,14 @@ fn inner_in(s: &[u8; LAW], n: usize, at: usize, depth: usize, may: u64, table: &
     expression_in(s, n, middle, depth - 1, may, table)
 }
 
-fn constraint_in(s: &[u8; LAW], n: usize, at: usize, depth: usize, may: u64, table: &[u8; ROWS]) -> usize
+fn constraint_in(
+    s: &[u8; LAW],
+    n: usize,
+    at: usize,
+    depth: usize,
+    may: u64,
+    table: &[u8; ROWS],
+) -> usize
     requires { ⌜ LawIn (now s) n × (now table ≡ rows) ⌝ }
     ensures { λ r. ⌜ ((t : Test) → Asks may t → nextOf r ≡ conEnd t depth (take n (now (s .entry))) at) ⌝ }
 {

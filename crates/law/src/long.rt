@@ -41,7 +41,14 @@ fn pair_passes(may: u64, wanted: u8, row: u8, a: u8, b: u8) -> bool
     leaf_passes(may, row, a, b)
 }
 
-pub(crate) fn tree_in(s: &[u8], at: usize, depth: usize, may: u64, wanted: u8, table: &[u8; ROWS]) -> usize
+pub(crate) fn tree_in(
+    s: &[u8],
+    at: usize,
+    depth: usize,
+    may: u64,
+    wanted: u8,
+    table: &[u8; ROWS],
+) -> usize
     requires { ⌜ now table ≡ rows ⌝ }
     ensures { λ r. ⌜ ((t : Test) → Asks may t → nextOf r ≡ treeEnd wanted t depth (now (s .entry)) at) ⌝ }
 {

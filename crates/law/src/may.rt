@@ -2,7 +2,7 @@
 // entries; and the largest lag.
 ghost use mathlib.Core.Path.{_≡_};
 ghost use Prim.Native.Nat.{_≤_, _<_};
-ghost use Rattle.bmap.specs.Tree.{fluent, occurs};
+ghost use Rattle.bmap.specs.Tree.{occurs};
 ghost use Rattle.law.specs.Check.{Test, allowed, in-mask, passesE, passesC, Asks, wordOf, limitOf, fluentsIn, entriesIn, lagIn, maskIn, fluentMay, entryMay, leafIn};
 use crate::mask::has_bit;
 use crate::table::operator;

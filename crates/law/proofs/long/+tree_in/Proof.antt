@@ -8,7 +8,7 @@ use borrow.Fn.PlainCycle.{Measures, is, falls, and}
 use lib.ListN.{length, getD}
 use Rattle.bmap.specs.Code.{codeOf}
 use Rattle.law.specs.Check.{rowFor}
-use Rattle.law.specs.Table.{opened, sortIn, countIn}
+use Rattle.law.specs.Table.{opened, countIn}
 use Rattle.law.proofs.Trees.{pair-in}
 use Rattle.law.proofs.CheckLaws.{nowhere, there}
 use Rattle.law.proofs.LongLaws.{long-deep, long-end, long-none, long-truth, long-short, long-passes, long-fails, long-one, long-two, long-first}

@@ -104,10 +104,11 @@ module _ (store laws supplement over held : List ℕ) (i : ℕ) (before : Held s
   }
 
 -- a law that is held is said there
-pub held-says : (d : Domain) {kind : ℕ} (payload bytes : List ℕ) (l : Law) → HeldLaw kind payload bytes → lawIn (countsOf d) kind payload ≡ some l → Says d bytes l
-held-says d payload bytes l w e = record {
+pub held-says : (d : Domain) {kind : ℕ} (payload bytes : List ℕ) (l : Law) → HeldLaw kind payload bytes → lawIn (countsOf d) kind payload ≡ some l → length payload ≤ mostPayload → Says d bytes l
+held-says d payload bytes l w e few = record {
   payload = payload;
   more = drop (length payload) (drop 2 bytes);
   stands = sym (take-append-drop (length payload) (drop 2 bytes)) ∙ ap (λ (p : List ℕ). p ++ drop (length payload) (drop 2 bytes)) (w .rest);
   law = ap (λ (k : ℕ). lawIn (countsOf d) k payload) (w .first) ∙ e;
+  short = few;
 }

@@ -66,7 +66,7 @@ module _ {s supplement : List ℕ} {u : Under} (here : UnderIs s supplement u) w
   index-lawful held copied = record {
     long = copied .long;
     count = length-in-force (here .replacements) (domainOf s x) ∙ law-count s x;
-    law = λ i h. held-says domainHere (payloadOf s (x .laws) supplement (u .over) i) (frameOf held i) (lawNumber domainHere i) (copied .law i h) (ap (λ (c : Counts). lawIn c (kindThere s (x .laws) i) (payloadOf s (x .laws) supplement (u .over) i)) counts-in-force ∙ here .law i h);
+    law = λ i h. held-says domainHere (payloadOf s (x .laws) supplement (u .over) i) (frameOf held i) (lawNumber domainHere i) (copied .law i h) (ap (λ (c : Counts). lawIn c (kindThere s (x .laws) i) (payloadOf s (x .laws) supplement (u .over) i)) counts-in-force ∙ here .law i h) (here .short i h);
   }
 
   pub index-ranged : Ranged domainHere (x .lowest) (x .highest) (n .fluents)

@@ -1,29 +1,29 @@
 -- Who knows what, and who may read which law. Assumes nothing.
-use Prim.Native.Nat.{ℕ, _+_, _%_, _^_, _<_}
+use Prim.Native.Nat.{ℕ, _+_, _-_, _%_, _^_, _<_}
 use mathlib.Core.Path.{_≡_, refl, sym, ap, _∙_, subst}
-use mathlib.Core.List.{List, map}
+use mathlib.Core.List.{List, [], _∷_, _++_, map}
 use mathlib.Core.Option.{Option, some}
 use mathlib.Core.Bool.{Bool, true, not}
 use native.Mathlib.Omega.{arith}
 use native.Mathlib.Nat.{mod-lt}
 use lib.Bits.{bitAnd}
 use lib.Dec.{eqb}
-use lib.ListN.{length, getD, drop}
-use lib.Seq.{getD-drop}
+use lib.ListN.{length, getD, take, drop}
+use lib.Seq.{getD-drop, getD-take, take-append-add}
 use lib.Pow.{pow-pos}
 use Rattle.bmap.specs.Plain.{both, if-else, any, numbers}
-use Rattle.bmap.specs.Limits.{mostDepth}
+use Rattle.bmap.specs.Limits.{mostDepth, mostPayload, frameSize}
 use Rattle.bmap.specs.Tree.{Con, allowedC}
 use Rattle.bmap.specs.Code.{Parsed, parseC}
 use Rattle.bmap.specs.Domain.{Domain, Knows, Law, executable, effect, must, has, knows, knownTo, readable, entryAt}
-use Rattle.bmap.specs.Payload.{context}
+use Rattle.bmap.specs.Payload.{context, lawIn}
 use Rattle.bmap.specs.Accept.{countsOf}
 use Rattle.law.specs.Names.{namesOnly}
 use Rattle.judge.specs.Masks.{unionFrom, maskFrom}
 use Rattle.judge.specs.Told.{Says, Knowing, ownerOf}
 use Rattle.judge.proofs.MaskLaws.{mask-bit, union-bit, any-same, any-map, shares, cut-bit}
 use Rattle.judge.proofs.NamedLaws.{same-named}
-use Rattle.judge.proofs.CheckLaws.{says, not-entry}
+use Rattle.judge.proofs.CheckLaws.{says, not-entry, front}
 use Rattle.judge.proofs.ReadingLaws.{stands}
 
 -- "several frames add up"
@@ -61,6 +61,24 @@ module _ (d : Domain) (table : List ℕ) (w : ℕ) (crews : List ℕ) (agents : 
       ∙ same-named (context (countsOf d) true) (has mask) (knownTo d (entryAt d e))
       (λ f p. let h : f < w = subst (λ (k : ℕ). f < k) (knowing .fluents) p in ap (λ (k : ℕ). has k f) m ∙ (mask-bit (shared cut table) 0 w f h ∙ (ap (shared cut table) (let z : 0 + f ≡ f = omega arith in z) ∙ known-is f h))) c fit
 
+-- a law is said in its frame's bytes alone
+frame-rest : (l : List ℕ) → drop 2 (take frameSize l) ≡ take mostPayload (drop 2 l)
+frame-rest [] = refl
+frame-rest (x ∷ []) = refl
+frame-rest (x ∷ y ∷ l) = refl
+
+pub in-frame : (d : Domain) (bytes : List ℕ) (l : Law) → Says d bytes l → Says d (take frameSize bytes) l
+in-frame d bytes l w =
+    let left = mostPayload - length (w .payload) in
+    let z : length (w .payload) + (mostPayload - length (w .payload)) ≡ mostPayload = omega (arith, w .short) in
+    record {
+      payload = w .payload;
+      more = take left (w .more);
+      stands = frame-rest bytes ∙ (ap (take mostPayload) (w .stands) ∙ (ap (λ (k : ℕ). take k (w .payload ++ w .more)) (sym z) ∙ take-append-add (w .payload) (w .more) left));
+      law = ap (λ (k : ℕ). lawIn (countsOf d) k (w .payload)) (getD-take frameSize bytes 0 0 (omega arith)) ∙ w .law;
+      short = w .short;
+    }
+
 -- the owner of a law, by its kind
 pub owner-other : (d : Domain) (frame : List ℕ) (l : Law) → Says d frame l → (getD frame 0 0 ≡ 0xA5 → ⊥) → 255 ≡ ownerOf d l
 owner-other d frame (executable e c) w n = absurd (n (says d frame (executable e c) w .0))
@@ -77,3 +95,12 @@ owner-is d frame table w crews agents (executable i c) {e} {mask} {t} says′ k 
     ap (λ (n : ℕ). if-else t n 255) i-is ∙ ap (λ (u : Bool). if-else u i 255) r
 owner-is d frame table w crews agents (effect i c f x) says′ k knowing q m b = let z : getD frame 0 0 ≡ 0xA6 = says d frame (effect i c f x) says′ .0 in absurd (omega arith)
 owner-is d frame table w crews agents (must s c) says′ k knowing q m b = absurd (not-entry (getD frame 0 0) s k (says d frame (must s c) says′ .0))
+
+-- and of one that is held, by its frame's bytes
+pub owner-held : (d : Domain) (held : List ℕ) (at : ℕ) (table : List ℕ) (w : ℕ) (crews : List ℕ) (agents : ℕ) (l : Law) {mask : ℕ} {t : Bool} {frame : List ℕ} → Says d (drop at held) l → getD held at 0 ≡ 0xA5 → Knowing d table w crews agents
+    → mask ≡ maskFrom (shared (getD crews (getD held (at + 2) 0) 0 % 2 ^ agents) table) 0 w → frame ≡ take frameSize (drop at held) → t ≡ namesOnly mask (parseC mostDepth (drop 3 frame)) → (b : Bool) → t ≡ b → if-else b (getD held (at + 2) 0) 255 ≡ ownerOf d l
+owner-held d held at table w crews agents l {mask} w′ k knowing m f e b is =
+    let bytes = drop at held in
+    sym (ap (λ (t : Bool). if-else t (getD held (at + 2) 0) 255) is)
+    ∙ owner-is d (take frameSize bytes) table w crews agents l (in-frame d bytes l w′) (getD-take frameSize bytes 0 0 (omega arith) ∙ (front held at ∙ k)) knowing
+    (sym (getD-take frameSize bytes 2 0 (omega arith) ∙ getD-drop at held 2 0)) m (e ∙ ap (λ (b : List ℕ). namesOnly mask (parseC mostDepth (drop 3 b))) f)

@@ -44,6 +44,7 @@ pub record Says (d : Domain) (bytes : List ℕ) (l : Law) : Type 0 where
   pub more : List ℕ
   pub stands : drop 2 bytes ≡ payload ++ more
   pub law : lawIn (countsOf d) (getD bytes 0 0) payload ≡ some l
+  pub short : length payload ≤ mostPayload
 
 -- the bytes from law i on, where laws are held: each has room for a whole frame
 abbrev pub frameOf : List ℕ → ℕ → List ℕ

@@ -17,6 +17,7 @@ use crate::acting::taken_in;
 use bmap::Counts;
 use bmap::FRAME;
 use bmap::Kind;
+use index::part;
 use law::HELD;
 
 // The owner of a law that does not count.
@@ -105,7 +106,8 @@ fn owner_of(
         return NOBODY;
     }
     let e = held[at + 2];
-    if law::names_only(held, at + 3, known_to(table, w, crew_of(crews, e, agents))) {
+    let frame = part(held, at, FRAME);
+    if law::names_only(frame, 3, known_to(table, w, crew_of(crews, e, agents))) {
         return e;
     }
     NOBODY

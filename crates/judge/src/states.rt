@@ -10,7 +10,6 @@ ghost use Rattle.bmap.specs.Buffer.{over};
 ghost use Rattle.bmap.specs.Domain.{has};
 ghost use Rattle.law.specs.Evaluate.{historySize, inStep};
 ghost use Rattle.judge.specs.States.{statesOf, Marking, Blank, marksFrom, markOf};
-use crate::acting::has_entry;
 use bmap::Counts;
 use law::HISTORY;
 use law::ROW;
@@ -57,9 +56,11 @@ pub(crate) fn mark_step(history: &mut [i16; HISTORY], j: usize, entries: u64, n:
         return;
     }
     let from = ROW * j + Counts::FLUENTS;
+    let mut rest = entries;
     let mut i = 0;
     while i < n {
-        history[from + i] = mark_of(has_entry(entries, i));
+        history[from + i] = mark_of(rest % 2 == 1);
+        rest /= 2;
         i += 1;
     }
 }

@@ -1,4 +1,5 @@
-use Prim.Native.Nat.{ℕ, _+_, _-_, _*_, _≤_, _<_}
+use Prim.Native.Nat.{ℕ, _+_, _-_, _*_, _/_, _%_, _^_, _≤_, _<_}
+use lib.Dec.{eqb}
 use mathlib.Core.Path.{_≡_, refl, sym, ap, _∙_}
 use native.Mathlib.Omega.{arith}
 use borrow.Author.Needs.{needs}
@@ -9,15 +10,15 @@ use Rattle.bmap.specs.Domain.{has}
 use Rattle.law.specs.Evaluate.{rowSize, marked}
 use Rattle.number.proofs.BackLaws.{back16}
 use Rattle.judge.specs.States.{Marking, marksFrom, markOf}
-use Rattle.judge.proofs.StateLaws.{between-set, marks-more, marks-none, in-step}
+use Rattle.judge.proofs.StateLaws.{between-set, marks-more, marks-none, in-step, first-rest, next-rest}
 use Rattle.judge.proofs.states.mark_step.Statement.{statement}
 use Rattle.judge.proofs.states.mark_step.Tie as tie
 
 abbrev Inv-loop : tie.InvT-loop
-Inv-loop history₀ j entries n from i₀ history i = (i ≤ n) × (Marking j history₀ history × ((e : ℕ) → e < i → marked (getD history (marksFrom j + e) (pos 0)) ≡ has entries e))
+Inv-loop history₀ j entries n from rest₀ i₀ history rest i = ((i ≤ n) × (rest ≡ entries / 2 ^ i)) × (Marking j history₀ history × ((e : ℕ) → e < i → marked (getD history (marksFrom j + e) (pos 0)) ≡ has entries e))
 
 abbrev μ-loop : tie.MeasureT-loop
-μ-loop history₀ j entries n from i₀ history i = n - i
+μ-loop history₀ j entries n from rest₀ i₀ history rest i = n - i
 
 returns : tie.Need-returns Inv-loop μ-loop
 returns c = let s = c .before .args in (
@@ -32,19 +33,16 @@ add-from : tie.Need-add-from Inv-loop μ-loop
 add-from c = search needs
 
 loop-holds : tie.Need-loop-holds Inv-loop μ-loop
-loop-holds c = (search needs, (record { before = refl; after = refl; long = c .before .pre .1 .1 }, λ e h. absurd (omega arith)))
-
-has-entry-requires : tie.Need-has-entry-requires Inv-loop μ-loop
-has-entry-requires c κs = search needs
+loop-holds c = ((search needs, first-rest (c .before .args .entries)), (record { before = refl; after = refl; long = c .before .pre .1 .1 }, λ e h. absurd (omega arith)))
 
 mark-of-requires : tie.Need-mark-of-requires Inv-loop μ-loop
 mark-of-requires c κs = search needs
 
-add-t11 : tie.Need-add-t11 Inv-loop μ-loop
-add-t11 c = search needs
+add-t13 : tie.Need-add-t13 Inv-loop μ-loop
+add-t13 c = search needs
 
-mul-t12 : tie.Need-mul-t12 Inv-loop μ-loop
-mul-t12 c = search needs
+mul-t14 : tie.Need-mul-t14 Inv-loop μ-loop
+mul-t14 c = search needs
 
 element-set-from-history : tie.Need-element-set-from-history Inv-loop μ-loop
 element-set-from-history c = search needs
@@ -56,11 +54,11 @@ loop-less : tie.Need-loop-less Inv-loop μ-loop
 loop-less c = search needs
 
 loop-again : tie.Need-loop-again Inv-loop μ-loop
-loop-again c = let s = c .before .before .before .before .before .args in let inv = c .before .before .before .loop .inv in let i = c .before .before .before .loop .i in let h = c .before .before .before .loop .history in (
-  omega arith,
+loop-again c = let s = c .before .before .before .before .args in let inv = c .before .before .loop .inv in let i = c .before .before .loop .i in let h = c .before .before .loop .history in (
+  (omega arith, next-rest (s .entries) i (inv .0 .1)),
   (
     between-set (marksFrom (s .j)) (rowSize * (s .j + 1)) (s .history .now) h (inv .1 .0) (marksFrom (s .j) + i) _ (omega arith) (omega arith),
-    marks-more h (marksFrom (s .j)) (s .entries) i (omega (arith, inv .1 .0 .long)) (back16 (c .mark-of .result) (c .mark-of .ok) ∙ (c .mark-of .ensures ∙ ap markOf (c .before .has-entry .ensures))) (inv .1 .1),
+    marks-more h (marksFrom (s .j)) (s .entries) i (omega (arith, inv .1 .0 .long)) (back16 (c .mark-of .result) (c .mark-of .ok) ∙ (c .mark-of .ensures ∙ ap (λ (k : ℕ). markOf (eqb (k % 2) 1)) (inv .0 .1))) (inv .1 .1),
   ),
 )
 
@@ -80,10 +78,9 @@ mark-step-spec =
     mul-from
     add-from
     loop-holds
-    has-entry-requires
     mark-of-requires
-    add-t11
-    mul-t12
+    add-t13
+    mul-t14
     element-set-from-history
     add-i
     loop-less

@@ -1,16 +1,16 @@
 -- What is found once for a judgement, and what a judgement leaves.
-use Prim.Native.Nat.{ℕ, _*_, _≤_}
+use Prim.Native.Nat.{ℕ, _+_, _*_, _≤_, _<_}
 use mathlib.Core.Path.{_≡_}
 use mathlib.Core.Bool.{true}
 use mathlib.Core.List.{List, map}
 use lib.IntN.{ℤ}
 use lib.ListN.{length, getD}
 use Rattle.bmap.specs.Plain.{numbers}
-use Rattle.bmap.specs.Limits.{mostSteps}
+use Rattle.bmap.specs.Limits.{mostAgents, mostFluents, mostEntries, mostSteps}
 use Rattle.bmap.specs.Refusal.{got}
 use Rattle.bmap.specs.Domain.{Domain}
 use Rattle.bmap.specs.Supplement.{Replacement, replaced, supplementIn}
-use Rattle.bmap.specs.Judge.{Judged}
+use Rattle.bmap.specs.Judge.{Judged, accepted}
 use Rattle.law.specs.Evaluate.{historySize}
 use Rattle.index.specs.Index.{domainOf}
 use Rattle.supplement.specs.Under.{underIn}
@@ -18,8 +18,9 @@ use Rattle.supplement.specs.declared.under.Under.{Under}
 use Rattle.judge.specs.Answer.{verdictOf}
 use Rattle.judge.specs.States.{statesOf, Blank}
 use Rattle.judge.specs.Landing.{Ranged}
-use Rattle.judge.specs.Told.{Lawful, Owned, Ordered}
+use Rattle.judge.specs.Told.{Lawful, Owned, Ordered, Few}
 use Rattle.judge.specs.declared.reading.Runs.{Runs}
+use Rattle.judge.specs.declared.steps.Plan.{Plan}
 use Rattle.judge.specs.declared.steps.Ran.{Ran}
 
 -- what was found of a domain and of a supplement accepted for it
@@ -52,6 +53,42 @@ pub record Prepared (d : Domain) (held owners : List ℕ) (n : ℕ) (runs : Runs
 -- the names and crews of a domain's entries
 abbrev pub Entered : Domain → List ℕ → List ℕ → ℕ → Type 0
 Entered d actions crews count = d .entries ≡ map (λ i. record { name = getD actions i 0; crew = getD crews i 0 }) (numbers 0 count)
+
+-- state j + 1 can be stored, and the laws of each kind be read
+pub record Landable (runs : Runs) (lowest highest : List ℤ) (w : ℕ) (history : List ℤ) (j : ℕ) : Type 0 where
+  pub step : j < mostSteps
+  pub laws : Few runs
+  pub fluents : w ≤ mostFluents
+  pub low : w ≤ length lowest
+  pub high : w ≤ length highest
+  pub room : length history ≡ historySize
+
+-- a plan keeps the limits, the sheet has so many steps of it, and nothing of the history is written from a place on
+pub record Runnable (p : Plan) (sheet : List ℕ) (n : ℕ) (history : List ℤ) (from : ℕ) : Type 0 where
+  pub steps : n ≤ mostSteps
+  pub whole : length sheet ≡ n * p .counts .agents
+  pub agents : p .counts .agents ≤ mostAgents
+  pub entries : p .counts .entries ≤ mostEntries
+  pub named : p .counts .entries ≤ length (p .names)
+  pub crewed : p .counts .entries ≤ length (p .crews)
+  pub laws : Few (p .runs)
+  pub fluents : p .counts .fluents ≤ mostFluents
+  pub low : p .counts .fluents ≤ length (p .lowest)
+  pub high : p .counts .fluents ≤ length (p .highest)
+  pub room : length history ≡ historySize
+  pub blank : Blank from history
+
+-- a plan is a domain's
+pub record Planned (d : Domain) (held : List ℕ) (l : ℕ) (p : Plan) : Type 0 where
+  pub prepared : Prepared d held (p .owners) l (p .runs) (p .lowest) (p .highest) (p .counts .fluents) (p .counts .entries)
+  pub entered : Entered d (p .names) (p .crews) (p .counts .entries)
+  pub agents : d .agents ≡ p .counts .agents
+
+-- a run over n steps ends within them, and at the last of them where it accepts
+pub record RanThrough (r : Ran) (n : ℕ) (history : List ℤ) : Type 0 where
+  pub most : r .reached ≤ n + 1
+  pub all : verdictOf (r .verdict) ≡ accepted → r .reached ≡ n + 1
+  pub room : length history ≡ historySize
 
 -- what a run leaves: its verdict, and the states that it reached in the history
 abbrev pub judgedOf : ℕ → Ran → List ℤ → Judged

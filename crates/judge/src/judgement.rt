@@ -18,6 +18,7 @@ use crate::knowledge::all_knowers;
 use crate::knowledge::all_owners;
 use crate::reading::all_runs;
 use crate::states::copy_states;
+use crate::steps::Plan;
 use crate::steps::Ran;
 use crate::steps::run_sheet;
 use crate::verdict::Judgement;
@@ -65,21 +66,16 @@ fn judge_steps<'a>(
     let lowest = under.index.lowest;
     let highest = under.index.highest;
     let names = under.index.names;
-    run_sheet(
-        &held,
-        &owners,
-        runs,
-        &start,
-        &lowest,
-        &highest,
-        &names,
-        &crews,
+    let plan = Plan {
         counts,
-        counts.agents,
-        sheet,
-        n,
-        history,
-    )
+        owners,
+        runs,
+        lowest,
+        highest,
+        names,
+        crews,
+    };
+    run_sheet(&held, plan, &start, sheet, n, history)
 }
 
 // A judgement, and how many states the levels buffer received.

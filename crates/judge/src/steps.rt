@@ -1,17 +1,16 @@
 // A step, the run over all steps, the goals.
 ghost use mathlib.Core.Path.{_≡_};
 ghost use mathlib.Core.List.{List};
-ghost use Prim.Native.Nat.{ℕ, _+_, _*_, _≤_, _<_};
+ghost use Prim.Native.Nat.{ℕ, _+_, _≤_};
 ghost use lib.ListN.{length, take};
-ghost use Rattle.bmap.specs.Limits.{mostAgents, mostFluents, mostEntries, mostSteps};
+ghost use Rattle.bmap.specs.Limits.{mostAgents, mostEntries, mostSteps};
 ghost use Rattle.bmap.specs.Domain.{Domain, Names};
 ghost use Rattle.bmap.specs.Sheet.{rows};
-ghost use Rattle.bmap.specs.Judge.{step, carried, judge, startOf, accepted, landed};
+ghost use Rattle.bmap.specs.Judge.{step, carried, judge, startOf, landed};
 ghost use Rattle.law.specs.Evaluate.{historySize};
-ghost use Rattle.judge.specs.Answer.{verdictOf};
-ghost use Rattle.judge.specs.States.{stateAt, statesOf, leaving, Kept, Blank, marksFrom};
-ghost use Rattle.judge.specs.Told.{Belonging, Occurring, Acted, Few};
-ghost use Rattle.judge.specs.Prepared.{Prepared, Entered, judgedOf};
+ghost use Rattle.judge.specs.States.{stateAt, statesOf, leaving, Kept, marksFrom};
+ghost use Rattle.judge.specs.Told.{Belonging, Occurring, Acted};
+ghost use Rattle.judge.specs.Prepared.{Prepared, Landable, Runnable, RanThrough, Planned, judgedOf};
 use crate::acting::Acting;
 use crate::acting::acting_in;
 use crate::acting::idle_acting;
@@ -43,7 +42,7 @@ fn land(
     history: &mut [i16; HISTORY],
     j: usize,
 ) -> Check
-    requires { ⌜ ((j < mostSteps) × Few runs) × ((w ≤ mostFluents) × (((w ≤ length (now lowest)) × (w ≤ length (now highest))) × (length (now history) ≡ historySize))) ⌝ }
+    requires { ⌜ Landable runs (now lowest) (now highest) w (now history) j ⌝ }
     ensures { λ r. ⌜ Kept j (now (history .entry)) (now (history .exit)) × ((d : Domain) (owners : List ℕ) (n count : ℕ) (sheet : List Names) (names : Names)
         → Prepared d (now (held .entry)) owners n runs (now (lowest .entry)) (now (highest .entry)) w count → Occurring d names entries → Acted d sheet (now (history .entry)) (j + 1)
         → leaving r (stateAt w (now (history .exit)) (j + 1)) ≡ landed d sheet (statesOf w (j + 1) (now (history .entry))) j names) ⌝ }
@@ -87,7 +86,7 @@ fn take_step(
     history: &mut [i16; HISTORY],
     j: usize,
 ) -> Check
-    requires { ⌜ ((j < mostSteps) × Few runs) × (((length (now names) ≤ mostAgents) × (count ≤ mostEntries)) × ((w ≤ mostFluents) × (((w ≤ length (now lowest)) × (w ≤ length (now highest))) × (length (now history) ≡ historySize)))) ⌝ }
+    requires { ⌜ ((length (now names) ≤ mostAgents) × (count ≤ mostEntries)) × Landable runs (now lowest) (now highest) w (now history) j ⌝ }
     ensures { λ r. ⌜ Kept j (now (history .entry)) (now (history .exit)) × ((d : Domain) (n : ℕ) (sheet : List Names)
         → Prepared d (now (held .entry)) (now (owners .entry)) n runs (now (lowest .entry)) (now (highest .entry)) w count
         → Occurring d (now (names .entry)) (acting .entries) → Belonging d (now (names .entry)) (acting .agents) → Acted d sheet (now (history .entry)) (j + 1)
@@ -131,40 +130,51 @@ pub struct Ran {
     pub reached: usize,
 }
 
+// What is found once for a judgement. It goes by value once, to each of the two that follow: what is called in every step is lent
+// its parts, since a struct that holds arrays is copied at each call.
+pub struct Plan {
+    pub counts: Counts,
+    pub owners: [u8; Counts::LAWS],
+    pub runs: Runs,
+    pub lowest: [i16; Counts::FLUENTS],
+    pub highest: [i16; Counts::FLUENTS],
+    pub names: [u8; Counts::ENTRIES],
+    pub crews: [u16; Counts::ENTRIES],
+}
+
 // The steps in turn, from state 0 of the history; who acted in each is marked for code 29.
 fn run_steps(
     held: &[u8; HELD],
-    owners: &[u8; Counts::LAWS],
-    runs: Runs,
-    lowest: &[i16; Counts::FLUENTS],
-    highest: &[i16; Counts::FLUENTS],
-    actions: &[u8; Counts::ENTRIES],
-    crews: &[u16; Counts::ENTRIES],
-    counts: Counts,
-    agents: usize,
+    plan: Plan,
     sheet: &[u8],
     n: usize,
     history: &mut [i16; HISTORY],
 ) -> Ran
-    requires { ⌜ ((n ≤ mostSteps) × (Few runs × (length (now sheet) ≡ n * agents))) × (((agents ≤ mostAgents) × ((counts .entries ≤ mostEntries) × ((counts .entries ≤ length (now actions)) × (counts .entries ≤ length (now crews)))))
-        × ((counts .fluents ≤ mostFluents) × (((counts .fluents ≤ length (now lowest)) × (counts .fluents ≤ length (now highest))) × ((length (now history) ≡ historySize) × Blank (marksFrom 0) (now history))))) ⌝ }
-    ensures { λ r. ⌜ ((r .reached ≤ n + 1) × ((verdictOf (r .verdict) ≡ accepted → r .reached ≡ n + 1) × (length (now (history .exit)) ≡ historySize))) × ((d : Domain) (l : ℕ)
-        → Prepared d (now (held .entry)) (now (owners .entry)) l runs (now (lowest .entry)) (now (highest .entry)) (counts .fluents) (counts .entries) → Entered d (now (actions .entry)) (now (crews .entry)) (counts .entries) → d .agents ≡ agents
-        → judgedOf (counts .fluents) r (now (history .exit)) ≡ carried d (rows agents n (now (sheet .entry))) 0 (statesOf (counts .fluents) 1 (now (history .entry))) (rows agents n (now (sheet .entry)))) ⌝ }
+    requires { ⌜ Runnable plan (now sheet) n (now history) (marksFrom 0) ⌝ }
+    ensures { λ r. ⌜ RanThrough r n (now (history .exit)) × ((d : Domain) (l : ℕ) → Planned d (now (held .entry)) l plan
+        → judgedOf (plan .counts .fluents) r (now (history .exit)) ≡ carried d (rows (plan .counts .agents) n (now (sheet .entry))) 0 (statesOf (plan .counts .fluents) 1 (now (history .entry))) (rows (plan .counts .agents) n (now (sheet .entry)))) ⌝ }
 {
-    let idle = idle_acting(agents, actions, crews, counts.entries);
+    let counts = plan.counts;
+    let agents = counts.agents;
+    let owners = plan.owners;
+    let runs = plan.runs;
+    let lowest = plan.lowest;
+    let highest = plan.highest;
+    let actions = plan.names;
+    let crews = plan.crews;
+    let idle = idle_acting(agents, &actions, &crews, counts.entries);
     let mut rest = sheet;
     let mut j = 0;
     while j < n {
         let names = &rest[..agents];
-        let acting = acting_in(names, idle, actions, crews, counts.entries);
+        let acting = acting_in(names, idle, &actions, &crews, counts.entries);
         mark_step(history, j, acting.entries, counts.entries);
         if let Check::Failed(fault, number) = take_step(
             held,
-            owners,
+            &owners,
             runs,
-            lowest,
-            highest,
+            &lowest,
+            &highest,
             counts.fluents,
             counts.entries,
             names,
@@ -193,25 +203,18 @@ fn run_steps(
 // The static laws on state 0, the steps, the goals after the last.
 pub(crate) fn run_sheet(
     held: &[u8; HELD],
-    owners: &[u8; Counts::LAWS],
-    runs: Runs,
+    plan: Plan,
     start: &[i16; Counts::FLUENTS],
-    lowest: &[i16; Counts::FLUENTS],
-    highest: &[i16; Counts::FLUENTS],
-    actions: &[u8; Counts::ENTRIES],
-    crews: &[u16; Counts::ENTRIES],
-    counts: Counts,
-    agents: usize,
     sheet: &[u8],
     n: usize,
     history: &mut [i16; HISTORY],
 ) -> Ran
-    requires { ⌜ ((n ≤ mostSteps) × (Few runs × (length (now sheet) ≡ n * agents))) × (((agents ≤ mostAgents) × ((counts .entries ≤ mostEntries) × ((counts .entries ≤ length (now actions)) × (counts .entries ≤ length (now crews)))))
-        × ((counts .fluents ≤ mostFluents) × (((counts .fluents ≤ length (now lowest)) × (counts .fluents ≤ length (now highest))) × ((counts .fluents ≤ length (now start)) × ((length (now history) ≡ historySize) × Blank 0 (now history)))))) ⌝ }
-    ensures { λ r. ⌜ ((r .reached ≤ mostSteps + 1) × (length (now (history .exit)) ≡ historySize)) × ((d : Domain) (l : ℕ)
-        → Prepared d (now (held .entry)) (now (owners .entry)) l runs (now (lowest .entry)) (now (highest .entry)) (counts .fluents) (counts .entries) → Entered d (now (actions .entry)) (now (crews .entry)) (counts .entries) → d .agents ≡ agents
-        → startOf d ≡ take (counts .fluents) (now (start .entry)) → judgedOf (counts .fluents) r (now (history .exit)) ≡ judge d (rows agents n (now (sheet .entry)))) ⌝ }
+    requires { ⌜ Runnable plan (now sheet) n (now history) 0 × (plan .counts .fluents ≤ length (now start)) ⌝ }
+    ensures { λ r. ⌜ ((r .reached ≤ mostSteps + 1) × (length (now (history .exit)) ≡ historySize)) × ((d : Domain) (l : ℕ) → Planned d (now (held .entry)) l plan
+        → startOf d ≡ take (plan .counts .fluents) (now (start .entry)) → judgedOf (plan .counts .fluents) r (now (history .exit)) ≡ judge d (rows (plan .counts .agents) n (now (sheet .entry)))) ⌝ }
 {
+    let counts = plan.counts;
+    let runs = plan.runs;
     copy_levels(start, 0, counts.fluents, history, 0);
     let fixed = runs.fixed;
     if let Check::Failed(fault, number) = check_laws(
@@ -232,20 +235,7 @@ pub(crate) fn run_sheet(
             reached: 0,
         };
     }
-    let ran = run_steps(
-        held,
-        owners,
-        runs,
-        lowest,
-        highest,
-        actions,
-        crews,
-        counts,
-        agents,
-        sheet,
-        n,
-        history,
-    );
+    let ran = run_steps(held, plan, sheet, n, history);
     let verdict = ran.verdict;
     let Verdict::Accepted = verdict else {
         return ran;

@@ -76,31 +76,39 @@ all-runs-requires c κs = here (start (held (known (c .before .before)))) .sound
 
 run-sheet-requires : tie.Need-run-sheet-requires
 run-sheet-requires c κs =
-    let ran = c .before .before .before .before .before .before .before .before .before .before .before .before in let s = begun ran in let sound = here s .sound in let runs = ran .all-runs .ensures in (
-      (
-        s .pre .steps,
-        (
-          ((λ i h. omega (arith, runs .executable i h .ends, sound .laws), omega (arith, runs .effect .ends, sound .laws)), (omega (arith, runs .fixed .ends, sound .laws), (omega (arith, runs .concurrency .ends, sound .laws), omega (arith, runs .goal .ends, sound .laws)))),
-          s .pre .whole,
-        ),
-      ),
-      (
-        (sound .agents, (sound .entries, (omega (arith, sound .entries, long s .names), omega (arith, sound .entries, long s .crews)))),
-        (sound .fluents, ((omega (arith, sound .fluents, long s .lowest), omega (arith, sound .fluents, long s .highest)), (omega (arith, sound .fluents, long s .start), (s .pre .room, s .pre .blank)))),
-      ),
+    let ran = c .before .before .before .before .before .before .before in let s = begun ran in let sound = here s .sound in let runs = ran .all-runs .ensures in (
+      record {
+        steps = s .pre .steps;
+        whole = s .pre .whole;
+        agents = sound .agents;
+        entries = sound .entries;
+        named = omega (arith, sound .entries, long s .names);
+        crewed = omega (arith, sound .entries, long s .crews);
+        laws = ((λ i h. omega (arith, runs .executable i h .ends, sound .laws), omega (arith, runs .effect .ends, sound .laws)), (omega (arith, runs .fixed .ends, sound .laws), (omega (arith, runs .concurrency .ends, sound .laws), omega (arith, runs .goal .ends, sound .laws))));
+        fluents = sound .fluents;
+        low = omega (arith, sound .fluents, long s .lowest);
+        high = omega (arith, sound .fluents, long s .highest);
+        room = s .pre .room;
+        blank = s .pre .blank;
+      },
+      omega (arith, sound .fluents, long s .start),
     )
 
 returns : tie.Need-returns
 returns c =
-    let ran = c .before .before .before .before .before .before .before .before .before .before .before .before .before in let s = begun ran in let x = s .args .under .index in let w = here s in let kept = held (known (owned ran)) in
+    let ran = c .before .before .before .before .before .before .before .before in let s = begun ran in let x = s .args .under .index in let w = here s in let kept = held (known (owned ran)) in
     let lawful : Lawful (domainHere w) (kept .hold-laws .last .0) (x .counts .laws) = index-lawful w (kept .hold-laws .last .0) (kept .hold-laws .ensures) in
     let judged = c .run-sheet .ensures .1 (domainHere w) (x .counts .laws) (record {
+      prepared = record {
       lawful = lawful;
       owned = owned ran .all-owners .ensures .1 (domainHere w) lawful (index-knowing w (known (owned ran) .all-knowers .result) (known (owned ran) .all-knowers .ensures .1));
       ordered = ran .all-runs .ensures;
       ranged = index-ranged w;
       entries = index-entries w;
-    }) (index-entered w) (index-agents w) (index-started w (omega (arith, w .sound .fluents, long s .start))) in
+      };
+      entered = index-entered w;
+      agents = index-agents w;
+    }) (index-started w (omega (arith, w .sound .fluents, long s .start))) in
     (c .run-sheet .ensures .0, λ d f. judged ∙ ap (λ (e : Domain). judge e (rows (x .counts .agents) (s .args .n) (s .args .sheet .now))) (only-one w f))
 
 pub judge-steps-spec : {M : Type 1} → statement M

@@ -16,13 +16,13 @@ use Rattle.judge.proofs.steps.land.Statement.{statement}
 use Rattle.judge.proofs.steps.land.Tie as tie
 
 old-levels-requires : tie.Need-old-levels-requires
-old-levels-requires c κs = search needs
+old-levels-requires c κs = let pre = c .before .before .pre in ((omega (arith, pre .step), pre .fluents), (pre .room, refl))
 
 add-next : tie.Need-add-next
-add-next c = search needs
+add-next c = omega (arith, c .before .before .before .pre .step)
 
 lay-effects-requires : tie.Need-lay-effects-requires
-lay-effects-requires c κs = (c .before .before .before .before .before .pre .0 .1 .0 .1, c .before .before .old-levels .ensures .0)
+lay-effects-requires c κs = (c .before .before .before .before .before .pre .laws .0 .1, c .before .before .old-levels .ensures .0)
 
 -- what check 4 says of a domain
 laying : (c : tie.After-lay-effects) (d : Domain) (owners : List ℕ) (n count : ℕ) (sheet : List Names) (names : Names) → let s = c .before .before .before .before .before .before .args in
@@ -30,14 +30,14 @@ laying : (c : tie.After-lay-effects) (d : Domain) (owners : List ℕ) (n count :
     → Lays (c .lay-effects .result) (s .w) (c .lay-effects .last .1 .1 .1 .1 .1 .0) (settled d (history d sheet (statesOf (s .w) (s .j + 1) (s .history .now))) (s .j) names 0 [] (d .laws)) (stateAt (s .w) (s .history .now) (s .j))
 laying c d owners n count sheet names p occurring acted = let s = c .before .before .before .before .before .before .args in
     c .lay-effects .ensures .1 d (history d sheet (statesOf (s .w) (s .j + 1) (s .history .now))) n names (s .w) (stateAt (s .w) (s .history .now) (s .j)) (p .lawful) (p .ordered .effect) occurring
-    (seen-all d sheet (s .w) (s .history .now) (s .j) (p .ranged .count) acted) (c .before .before .before .before .before .before .pre .1 .0) (c .before .before .before .old-levels .ensures .1)
+    (seen-all d sheet (s .w) (s .history .now) (s .j) (p .ranged .count) acted) (c .before .before .before .before .before .before .pre .fluents) (c .before .before .before .old-levels .ensures .1)
 
 enum-known-fault : tie.Need-enum-known-fault
 enum-known-fault c = search needs
 
 returns : tie.Need-returns
 returns c = let s = c .before .before .before .before .before .before .before .before .before .args in (
-  record { before = refl; after = refl; long = c .before .before .before .before .before .before .before .before .before .pre .1 .1 .1 },
+  record { before = refl; after = refl; long = c .before .before .before .before .before .before .before .before .before .pre .room },
   λ d owners n count sheet names p occurring acted.
       landed-clash d sheet (statesOf (s .w) (s .j + 1) (s .history .now)) (s .j) names
       (subst (λ (t : Check). Lays t (s .w) (c .before .before .before .lay-effects .last .1 .1 .1 .1 .1 .0) (settled d (history d sheet (statesOf (s .w) (s .j + 1) (s .history .now))) (s .j) names 0 [] (d .laws)) (stateAt (s .w) (s .history .now) (s .j))) (c .before .fault .given .1) (laying (c .before .before .before) d owners n count sheet names p occurring acted)),
@@ -47,7 +47,7 @@ enum-told : tie.Need-enum-told
 enum-told c = search needs
 
 put-state-requires : tie.Need-put-state-requires
-put-state-requires c κs = search needs
+put-state-requires c κs = let pre = c .before .before .before .before .before .before .before .before .before .before .pre in (pre .step, (pre .fluents, ((pre .low, pre .high), pre .room)))
 
 enum-known-fault-2 : tie.Need-enum-known-fault-2
 enum-known-fault-2 c = search needs
@@ -65,7 +65,7 @@ enum-told-2 : tie.Need-enum-told-2
 enum-told-2 c = search needs
 
 check-laws-requires : tie.Need-check-laws-requires
-check-laws-requires c κs = c .before .before .before .before .before .before .before .before .before .before .before .before .before .before .before .pre .0 .1 .1 .0
+check-laws-requires c κs = c .before .before .before .before .before .before .before .before .before .before .before .before .before .before .before .pre .laws .1 .0
 
 returns-3 : tie.Need-returns-3
 returns-3 c = let s = c .before .before .before .before .before .before .before .before .before .before .before .before .before .before .before .before .args in let old = stateAt (s .w) (s .history .now) (s .j) in let after = c .before .before .before .before .before .put-state .last .1 .1 .1 .1 .0 in (
@@ -75,7 +75,7 @@ returns-3 c = let s = c .before .before .before .before .before .before .before 
       let l = subst (λ (t : Check). Lays t (s .w) (c .before .before .before .before .before .before .before .before .before .before .lay-effects .last .1 .1 .1 .1 .1 .0) (settled d (history d sheet states) (s .j) names 0 [] (d .laws)) old) (c .before .before .before .before .before .before .before .before .enum-told .given .1) (laying (c .before .before .before .before .before .before .before .before .before .before) d owners n count sheet names p occurring acted) in
       landed-fine d sheet states (s .j) names (l .settings) old (l .are) (states-at (s .w) (s .j + 1) (s .j) (s .history .now) (omega arith)) (c .before .before .before .before .before .put-state .result) (c .check-laws .result) (stateAt (s .w) after (s .j + 1)) (statesOf (s .w) (s .j + 1 + 1) after)
       (c .before .before .before .before .before .put-state .ensures .1 d (l .settings) old (p .ranged) (l .laid)) (c .before .before .before .enum-told2 .given .1)
-      (states-more (s .w) (s .j) (s .history .now) after (c .before .before .before .before .before .put-state .ensures .0 .before) (c .before .before .before .before .before .before .before .before .before .before .before .before .before .before .before .before .pre .1 .0))
+      (states-more (s .w) (s .j) (s .history .now) after (c .before .before .before .before .before .put-state .ensures .0 .before) (c .before .before .before .before .before .before .before .before .before .before .before .before .before .before .before .before .pre .fluents))
       (c .check-laws .ensures d (history d sheet (statesOf (s .w) (s .j + 1 + 1) after)) static n refl (p .lawful) (p .ordered .fixed) (seen-states d sheet (s .w) after (s .j + 1) (p .ranged .count))),
 )
 

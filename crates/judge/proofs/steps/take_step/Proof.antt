@@ -10,14 +10,14 @@ use Rattle.judge.proofs.steps.take_step.Statement.{statement}
 use Rattle.judge.proofs.steps.take_step.Tie as tie
 
 check-agents-requires : tie.Need-check-agents-requires
-check-agents-requires c κs = search needs
+check-agents-requires c κs = c .before .pre .0 .0
 
 enum-known-fault : tie.Need-enum-known-fault
 enum-known-fault c = search needs
 
 returns : tie.Need-returns
 returns c = let s = c .before .before .before .before .before .args in (
-  record { before = refl; after = refl; long = c .before .before .before .before .before .pre .1 .1 .1 .1 },
+  record { before = refl; after = refl; long = c .before .before .before .before .before .pre .1 .room },
   λ d n sheet p occurring belonging acted.
       step-agents d sheet (statesOf (s .w) (s .j + 1) (s .history .now)) (s .j) (s .names .now) (sym (c .before .before .before .check-agents .ensures d belonging) ∙ ap passOf (c .before .fault .given .1)),
 )
@@ -26,14 +26,14 @@ enum-told : tie.Need-enum-told
 enum-told c = search needs
 
 check-entries-requires : tie.Need-check-entries-requires
-check-entries-requires c κs = search needs
+check-entries-requires c κs = (c .before .before .before .before .before .before .before .before .before .pre .0 .1, c .before .before .before .before .before .before .before .before .before .pre .1 .laws .0 .0)
 
 enum-known-fault-2 : tie.Need-enum-known-fault-2
 enum-known-fault-2 c = search needs
 
 returns-2 : tie.Need-returns-2
 returns-2 c = let s = c .before .before .before .before .before .before .before .before .before .before .before .before .before .args in (
-  record { before = refl; after = refl; long = c .before .before .before .before .before .before .before .before .before .before .before .before .before .pre .1 .1 .1 .1 },
+  record { before = refl; after = refl; long = c .before .before .before .before .before .before .before .before .before .before .before .before .before .pre .1 .room },
   λ d n sheet p occurring belonging acted.
       let h = history d sheet (statesOf (s .w) (s .j + 1) (s .history .now)) in let seen = seen-all d sheet (s .w) (s .history .now) (s .j) (p .ranged .count) acted in
       step-entries d sheet (statesOf (s .w) (s .j + 1) (s .history .now)) (s .j) (s .names .now) (sym (c .before .before .before .before .before .before .before .before .before .before .before .check-agents .ensures d belonging) ∙ ap passOf (c .before .before .before .before .before .before .before .before .before .enum-told .given .1))
@@ -44,14 +44,14 @@ enum-told-2 : tie.Need-enum-told-2
 enum-told-2 c = search needs
 
 check-laws-requires : tie.Need-check-laws-requires
-check-laws-requires c κs = search needs
+check-laws-requires c κs = c .before .before .before .before .before .before .before .before .before .before .before .before .before .before .pre .1 .laws .1 .1 .0
 
 enum-known-fault-3 : tie.Need-enum-known-fault-3
 enum-known-fault-3 c = search needs
 
 returns-3 : tie.Need-returns-3
 returns-3 c = let s = c .before .before .before .before .before .before .before .before .before .before .before .before .before .before .before .before .before .before .args in (
-  record { before = refl; after = refl; long = c .before .before .before .before .before .before .before .before .before .before .before .before .before .before .before .before .before .before .pre .1 .1 .1 .1 },
+  record { before = refl; after = refl; long = c .before .before .before .before .before .before .before .before .before .before .before .before .before .before .before .before .before .before .pre .1 .room },
   λ d n sheet p occurring belonging acted.
       let h = history d sheet (statesOf (s .w) (s .j + 1) (s .history .now)) in let seen = seen-all d sheet (s .w) (s .history .now) (s .j) (p .ranged .count) acted in
       step-laws d sheet (statesOf (s .w) (s .j + 1) (s .history .now)) (s .j) (s .names .now) (sym (c .before .before .before .before .before .before .before .before .before .before .before .before .before .before .before .before .check-agents .ensures d belonging) ∙ ap passOf (c .before .before .before .before .before .before .before .before .before .before .before .before .before .before .enum-told .given .1))
@@ -63,7 +63,7 @@ enum-told-3 : tie.Need-enum-told-3
 enum-told-3 c = search needs
 
 land-requires : tie.Need-land-requires
-land-requires c κs = (c .before .before .before .before .before .before .before .before .before .before .before .before .before .before .before .before .before .before .pre .0, c .before .before .before .before .before .before .before .before .before .before .before .before .before .before .before .before .before .before .pre .1 .1)
+land-requires c κs = c .before .before .before .before .before .before .before .before .before .before .before .before .before .before .before .before .before .before .pre .1
 
 returns-4 : tie.Need-returns-4
 returns-4 c = let s = c .before .before .before .before .before .before .before .before .before .before .before .before .before .before .before .before .before .before .before .args in (

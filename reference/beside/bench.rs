@@ -14,10 +14,11 @@ use std::time::{Duration, Instant};
 use waroth_reference::generate::draft::sheet_text;
 use waroth_reference::generate::{random::Random, sheets, Answer};
 use waroth_reference::judge::{Judged, Verdict, LEVELS};
+use waroth_reference::program::{Program, OUTPUT_BYTES};
 use waroth_reference::sheet::SHEET_BYTES;
 use waroth_reference::store::STORE_BYTES;
 use waroth_reference::supplement::SUPPLEMENT_BYTES;
-use waroth_reference::{judge, judge_under, lay, plain, read_domain, read_sheet};
+use waroth_reference::{judge, judge_under, lay, plain, read_domain, read_sheet, Session};
 
 const RUNS: usize = 9;
 const RUN: Duration = Duration::from_millis(60);
@@ -48,7 +49,7 @@ fn best<const N: usize>(mut calls: [&mut dyn FnMut(); N]) -> [f64; N] {
 fn compared(name: &str, mut library: impl FnMut(), mut peer: impl FnMut()) {
     let [library, peer] = best([&mut library, &mut peer]);
     let ratio = library / peer;
-    println!("{name:42} {library:12.0} {peer:12.0} {ratio:8.2}");
+    println!("{name:46} {library:12.0} {peer:12.0} {ratio:8.2}");
 }
 
 fn verdicts(input: &Input) {
@@ -78,7 +79,7 @@ fn verdicts(input: &Input) {
     assert!(same, "the levels differ");
     let name = format!("verdicts: {}", input.name);
     let (tuned, straight) = (library / second, library / plain);
-    println!("{name:42} {library:12.0} {second:12.0} {tuned:8.2} {plain:12.0} {straight:8.2}");
+    println!("{name:46} {library:12.0} {second:12.0} {tuned:8.2} {plain:12.0} {straight:8.2}");
 }
 
 /// A supplement as its reader leaves it.
@@ -116,7 +117,7 @@ fn verdicts_under(input: &Input, laws: usize) {
     assert!(same, "the levels differ");
     let name = format!("under {} laws: {}", lines.len(), input.name);
     let (tuned, kept) = (library / second, library / alone);
-    println!("{name:42} {library:12.0} {second:12.0} {tuned:8.2} {alone:12.0} {kept:8.2}");
+    println!("{name:46} {library:12.0} {second:12.0} {tuned:8.2} {alone:12.0} {kept:8.2}");
 }
 
 fn domain_texts(input: &Input) {
@@ -145,12 +146,56 @@ fn sheet_texts(input: &Input) {
     assert_eq!(answer, Answer::Count(steps));
     let mut other = buffer;
     compared(
-        &format!("sheet texts of {steps} steps"),
+        &format!("sheet texts of {steps} steps, {agents} agents"),
         || {
             black_box(desk::read_sheet(black_box(&text), agents, &mut buffer));
         },
         || {
             let _ = black_box(read_sheet(black_box(&text), agents, &mut other));
+        },
+    );
+}
+
+/// From a program's input to its output.
+fn programs(input: &Input) {
+    let sheet = sheet_text(&input.sheet, input.draft.agents);
+    let text = [input.draft.text(), sheet].concat();
+    let (mut output, mut other) = (vec![0; OUTPUT_BYTES], vec![0; OUTPUT_BYTES]);
+    let printed = Program::Waroth.answer(&text, &mut other);
+    assert!(other[..printed].ends_with(b"ACCEPTED\n"));
+    let answer = desk::answer(Program::Waroth, &text, &mut output);
+    assert!(answer == printed && output == other, "the outputs differ");
+    compared(
+        &format!("program: {}", input.name),
+        || {
+            black_box(desk::answer(Program::Waroth, black_box(&text), &mut output));
+        },
+        || {
+            black_box(Program::Waroth.answer(black_box(&text), &mut other));
+        },
+    );
+}
+
+/// Verdicts of a session into which the sheet was entered.
+fn session_verdicts(input: &Input) {
+    let store = input.draft.store();
+    let mut session = Session::closed();
+    assert_eq!(session.open(&store), Ok(()));
+    for names in input.sheet.chunks_exact(input.draft.agents) {
+        assert_eq!(session.enter(names), Ok(()));
+    }
+    let (mut levels, mut others) = (vec![0; LEVELS], vec![0; LEVELS]);
+    let judged = session.verdict(&store, &mut others).expect("a verdict");
+    let answer = desk::verdict_of(&session, &store, &mut levels);
+    assert_eq!(answer, Answer::Judged(judged));
+    assert!(levels == others, "the levels differ");
+    compared(
+        &format!("session's verdict: {}", input.name),
+        || {
+            black_box(desk::verdict_of(black_box(&session), &store, &mut levels));
+        },
+        || {
+            let _ = black_box(black_box(&session).verdict(&store, &mut others));
         },
     );
 }
@@ -201,25 +246,36 @@ fn layings(two: &Two) {
 
 fn main() {
     println!(
-        "{:42} {:>12} {:>12} {:>8} {:>12} {:>8}",
+        "{:46} {:>12} {:>12} {:>8} {:>12} {:>8}",
         "a second", "library", "second", "ratio", "plain", "ratio"
     );
-    let full = inputs::full();
-    for input in [inputs::pool(), inputs::deep()] {
-        verdicts(&input);
+    let (pool, two_steps, deep) = (inputs::pool(), inputs::two_steps(), inputs::deep());
+    let (full, filled, idle) = (inputs::full(), inputs::filled(true), inputs::filled(false));
+    let crews = inputs::large_crews();
+    for input in [&pool, &two_steps, &deep, &full, &filled, &idle, &crews] {
+        verdicts(input);
     }
-    verdicts(&full);
-    domain_texts(&inputs::long_text());
-    sheet_texts(&full);
+    for input in [&inputs::long_text(), &filled] {
+        domain_texts(input);
+    }
+    for input in [&pool, &full] {
+        sheet_texts(input);
+    }
+    for input in [&two_steps, &pool, &full, &filled] {
+        programs(input);
+    }
+    for input in [&pool, &full] {
+        session_verdicts(input);
+    }
     edits();
     for two in [inputs::few_laws(), inputs::longest_laws()] {
         layings(&two);
     }
     println!(
-        "{:42} {:>12} {:>12} {:>8} {:>12} {:>8}",
+        "{:46} {:>12} {:>12} {:>8} {:>12} {:>8}",
         "verdicts under a supplement, a second", "library", "second", "ratio", "without", "ratio"
     );
-    for input in [inputs::pool(), inputs::deep(), full, inputs::long_laws()] {
+    for input in [pool, deep, full, inputs::long_laws()] {
         verdicts_under(&input, 5);
         if input.draft.laws() > 5 {
             verdicts_under(&input, usize::MAX);

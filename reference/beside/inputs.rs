@@ -1,11 +1,13 @@
-//! What the benchmark runs on: accepted domains, and sheets of 64 steps for them that are accepted; and two supplements.
+//! What the benchmark runs on: accepted domains, and sheets for them that are accepted, of 64 steps but for one; and two
+//! supplements.
 
-use waroth_reference::generate::draft::{law, replacement, Draft};
+use waroth_reference::generate::draft::{law, mask_frame, replacement, Draft};
 use waroth_reference::generate::faults::Lines;
 use waroth_reference::generate::laws::{constant, node, wrapped};
 use waroth_reference::generate::random::Random;
 use waroth_reference::generate::shapes::longest;
 use waroth_reference::generate::supplements::{longest_lines, LONGEST_LAW};
+use waroth_reference::line::MAX_PAYLOAD;
 
 const STEPS: usize = 64;
 
@@ -39,6 +41,15 @@ pub fn pool() -> Input {
         name: "pool, 64 idle steps",
         draft: Draft::pool(),
         sheet: vec![0; 2 * STEPS],
+    }
+}
+
+/// The paper's pool, and the sheet that it accepts.
+pub fn two_steps() -> Input {
+    Input {
+        name: "pool, 2 steps",
+        draft: Draft::pool(),
+        sheet: vec![1, 0, 0, 2],
     }
 }
 
@@ -93,25 +104,76 @@ pub fn deep() -> Input {
     }
 }
 
-/// A constraint of so many bytes, 111 or more, that is true.
-fn long(bytes: usize) -> Vec<u8> {
-    let short = at_least(&fluent(0), 0);
-    let most = (0..12).fold(short.clone(), |all, _| node(0x26, &[&all, &short]));
-    let last = at_least(&wrapped(0x18, bytes - 111, &fluent(0)), 0);
+/// A constraint of so many bytes, 15 to 120, that is true: comparisons of fluents, this many of which there are, joined
+/// by "and", and the absolute value in the last as often as is needed.
+fn long(bytes: usize, fluents: usize, least: i16) -> Vec<u8> {
+    let compared = |place, wraps| {
+        let read = wrapped(0x18, wraps, &fluent(place % fluents));
+        at_least(&read, least)
+    };
+    let (joints, wraps) = ((bytes - 7) / 8, (bytes - 7) % 8);
+    let (first, last) = (compared(0, 0), compared(joints, wraps));
+    let most = (1..joints).fold(first, |all, place| node(0x26, &[&all, &compared(place, 0)]));
     node(0x26, &[&most, &last])
 }
 
 /// As many laws as is allowed, each as long as a supplement can give it, and nobody acts.
 pub fn long_laws() -> Input {
     let mut draft = Draft::new(1, &[[0, 100, 1]], &[(1, 1)]);
-    draft.insert(law(0xA5, &[&[0], &long(LONGEST_LAW - 1)]));
+    draft.insert(law(0xA5, &[&[0], &long(LONGEST_LAW - 1, 1, 0)]));
     for _ in 1..128 {
-        draft.insert(law(0xA7, &[&long(LONGEST_LAW)]));
+        draft.insert(law(0xA7, &[&long(LONGEST_LAW, 1, 0)]));
     }
     Input {
         name: "118 bytes each, 64 steps",
         draft,
         sheet: vec![0; STEPS],
+    }
+}
+
+/// Two of 16 agents as masks, 64 times, no two alike; each agent is among them.
+fn pairs() -> impl Iterator<Item = u16> {
+    let all = (0..16)
+        .rev()
+        .flat_map(|high| (0..high).map(move |low| 1 << high | 1 << low));
+    all.take(64)
+}
+
+/// As many agents, fluents, entries and laws as is allowed, and every law fills its line. All entries have one name: where
+/// everybody gives it, all of them occur and all laws are read; where nobody acts, none is.
+pub fn filled(acting: bool) -> Input {
+    let entries: Vec<_> = pairs().map(|crew| (1, crew)).collect();
+    let mut draft = Draft::new(16, &[[-1000, 1000, 0]; 32], &entries);
+    for fluent in 0..32 {
+        draft.insert(mask_frame(0xA3, fluent, 0xFFFF));
+    }
+    for entry in 0..64u8 {
+        let condition = long(MAX_PAYLOAD - 1, 32, -1000);
+        draft.insert(law(0xA5, &[&[entry], &condition]));
+        let set = entry % 32;
+        let raised = node(0x12, &[&fluent(set.into()), &constant(7)]);
+        let value = node(0x16, &[&raised, &constant(1000)]);
+        let condition = long(MAX_PAYLOAD - 2 - value.len(), 32, -1000);
+        draft.insert(law(0xA6, &[&[entry], &condition, &[set], &value]));
+    }
+    Input {
+        name: match acting {
+            true => "128 full lines, all read, 64 steps",
+            false => "128 full lines, 64 idle steps",
+        },
+        draft,
+        sheet: vec![acting.into(); 16 * STEPS],
+    }
+}
+
+/// Who names what: 16 agents who all act, and 64 entries with 14 of them in each crew. All crews are complete, so that
+/// whoever compares agent by agent has to compare all; laws are short and few.
+pub fn large_crews() -> Input {
+    let entries: Vec<_> = pairs().map(|absent| (1, !absent)).collect();
+    Input {
+        name: "who names what, 64 crews of 14",
+        draft: Draft::new(16, &[[0, 100, 1]], &entries).free(),
+        sheet: vec![1; 16 * STEPS],
     }
 }
 

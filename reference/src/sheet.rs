@@ -1,7 +1,7 @@
 //! Sheets: one name (or 0) per agent, step after step.
 
 use crate::domain::Domain;
-use crate::line::{line_length, write_line, Lines};
+use crate::line::{line_length, write_line, Line, Lines, MAX_PAYLOAD};
 use crate::refusal;
 
 pub const STEP: u8 = 0xB1;
@@ -33,39 +33,43 @@ pub fn steps_of(sheet: &[u8], agents: usize) -> Result<usize, u8> {
 /// Reads a sheet text into the buffer and returns the number of steps, or the
 /// refusal and its line.
 pub fn read_sheet(text: &[u8], agents: usize, buffer: &mut [u8]) -> Result<usize, (u8, usize)> {
+    let lines = &mut Lines::of(text);
     if buffer.len() < SHEET_BYTES {
         return Err((refusal::BUFFER, 0));
     }
-    let read = check_agents(agents)
-        .map_err(|number| (number, 0))
-        .and_then(|()| fill(text, agents, buffer));
+    let read = match check_agents(agents) {
+        Ok(()) => fill(lines, agents, buffer).map_err(|number| (number, lines.number())),
+        Err(number) => Err((number, 0)),
+    };
     let used = read.map_or(0, |steps| steps * agents);
     buffer[used..].fill(0);
     read
 }
 
-fn fill(text: &[u8], agents: usize, buffer: &mut [u8]) -> Result<usize, (u8, usize)> {
-    let mut lines = Lines::of(text);
+/// Each step goes from its line straight to its place.
+fn fill(lines: &mut Lines, agents: usize, buffer: &mut [u8]) -> Result<usize, u8> {
+    let mut places = buffer.chunks_exact_mut(agents).take(MAX_STEPS);
     let mut steps = 0;
-    while let Some(frame) = lines.next_frame() {
-        let taken = frame.and_then(|frame| {
-            let names = &frame[2..];
-            if frame[0] != STEP {
-                return Err(refusal::KIND);
-            }
-            if steps == MAX_STEPS {
-                return Err(refusal::STEP_65);
-            }
-            if names.len() != agents {
-                return Err(refusal::NOT_WHOLE);
-            }
-            buffer[steps * agents..][..agents].copy_from_slice(names);
-            steps += 1;
-            Ok(())
-        });
-        taken.map_err(|number| (number, lines.number()))?;
+    while let Some(line) = lines.next_line() {
+        let line = line?;
+        match places.next() {
+            Some(place) if line.kind == STEP && line.count() == agents => line.read(place)?,
+            place => return Err(refused(&line, place.is_none())),
+        }
+        steps += 1;
     }
     Ok(steps)
+}
+
+/// The refusal of a line that is not a further step: 1, 3, 9 or 8, in this order.
+#[cold]
+fn refused(line: &Line, full: bool) -> u8 {
+    match line.read(&mut [0; MAX_PAYLOAD][..line.count()]) {
+        Err(number) => number,
+        Ok(()) if line.kind != STEP => refusal::KIND,
+        Ok(()) if full => refusal::STEP_65,
+        Ok(()) => refusal::NOT_WHOLE,
+    }
 }
 
 /// Writes the text of a sheet and returns the bytes written.

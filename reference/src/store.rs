@@ -16,9 +16,6 @@ pub const LONGEST_TEXT: usize = line_length(2 + 1)
 
 /// Reads a domain text into the store and returns the bytes used, or the
 /// refusal and its line.
-///
-/// The limits keep every accepted domain far below [`STORE_BYTES`], so the
-/// frames always fit.
 pub fn read_domain(text: &[u8], store: &mut [u8]) -> Result<usize, (u8, usize)> {
     if store.len() < STORE_BYTES {
         return Err((refusal::BUFFER, 0));
@@ -34,6 +31,8 @@ pub fn read_domain(text: &[u8], store: &mut [u8]) -> Result<usize, (u8, usize)> 
 
 /// Puts the frames of a text end to end as long as they are taken, and returns
 /// the bytes used and the number of lines.
+///
+/// The limits keep what is taken so short that a further frame always fits.
 pub(crate) fn fill(
     text: &[u8],
     store: &mut [u8],
@@ -41,14 +40,16 @@ pub(crate) fn fill(
 ) -> Result<(usize, usize), (u8, usize)> {
     let mut lines = Lines::of(text);
     let mut used = 0;
-    while let Some(frame) = lines.next_frame() {
-        let taken = frame.and_then(|frame| {
+    while let Some(line) = lines.next_line() {
+        let taken = line.and_then(|line| {
+            let frame = &mut store[used..][..2 + line.count()];
+            frame[0] = line.kind;
+            frame[1] = line.count() as u8;
+            line.read(&mut frame[2..])?;
             take(frame)?;
-            store[used..used + frame.len()].copy_from_slice(frame);
-            used += frame.len();
-            Ok(())
+            Ok(frame.len())
         });
-        taken.map_err(|number| (number, lines.number()))?;
+        used += taken.map_err(|number| (number, lines.number()))?;
     }
     Ok((used, lines.number()))
 }
@@ -83,12 +84,14 @@ pub(crate) fn take_all(store: &[u8], take: impl FnMut(&[u8]) -> Result<(), u8>) 
     all_zero(&store[frames.place..]).then_some(())
 }
 
-/// Whether all bytes are 0. Most of a store is, so this goes block by block,
-/// without an exit inside a block.
+/// Whether all bytes are 0. Most of a store is, so this goes by blocks that begin
+/// where those of the memory do, and leaves none before its end.
 pub(crate) fn all_zero(bytes: &[u8]) -> bool {
     let none_set = |block: &[u8]| block.iter().fold(0, |seen, byte| seen | byte) == 0;
-    let mut blocks = bytes.chunks_exact(256);
-    none_set(blocks.remainder()) && blocks.all(none_set)
+    let before = bytes.as_ptr().align_offset(64).min(bytes.len());
+    let (first, rest) = bytes.split_at(before);
+    let mut blocks = rest.chunks_exact(512);
+    none_set(first) && blocks.all(none_set) && none_set(blocks.remainder())
 }
 
 /// Whether the store is an accepted domain followed by zeros.

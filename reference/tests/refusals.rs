@@ -41,6 +41,47 @@ fn every_line_fault_has_its_number() {
     }
 }
 
+/// What a first line of one step comes to, character after character.
+fn one_step(text: &[u8], agents: usize) -> Result<Vec<u8>, u8> {
+    let line = text
+        .split(|&character| character == b'\n')
+        .next()
+        .unwrap_or_default();
+    let digit = |&character: &u8| match character {
+        b'0'..=b'9' => Ok(character - b'0'),
+        b'A'..=b'F' => Ok(character - b'A' + 10),
+        _ => Err(1),
+    };
+    let digits: Vec<u8> = line.iter().map(digit).collect::<Result<_, _>>()?;
+    if digits.len() % 2 == 1 {
+        return Err(1);
+    }
+    let bytes: Vec<u8> = digits
+        .chunks(2)
+        .map(|pair| pair[0] << 4 | pair[1])
+        .collect();
+    match bytes.len() == 2 + agents {
+        true => Ok(bytes[2..].to_vec()),
+        false => Err(2),
+    }
+}
+
+#[test]
+fn every_pair_of_characters() {
+    // Long lines and short ones are read in different ways.
+    for (agents, place) in [(3, 0), (3, 2), (16, 0), (16, 15)] {
+        let mut text = format!("B1{agents:02X}{}\n", "5A".repeat(agents)).into_bytes();
+        for pair in 0..=u16::MAX {
+            text[4 + 2 * place..][..2].copy_from_slice(&pair.to_be_bytes());
+            let mut buffer = [0xEE; 1024];
+            let read = read_sheet(&text, agents, &mut buffer);
+            let names = read.map(|_| buffer[..agents].to_vec());
+            let expected = one_step(&text, agents).map_err(|number| (number, 1));
+            assert_eq!(names, expected, "{pair:04X} at {place} of {agents}");
+        }
+    }
+}
+
 #[test]
 fn two_faults_in_one_line() {
     // 1 before 2: a bad character in a line without count byte.
@@ -49,6 +90,10 @@ fn two_faults_in_one_line() {
     // An overlong line is read to its end.
     let overlong = format!("A1FF{}g\n", "00".repeat(300));
     assert_eq!(domain(overlong.as_bytes()), Err((1, 1)));
+    // A line ends at its first LF, also where its count asks for a later one.
+    assert_eq!(domain(b"A104\nA101011\n"), Err((2, 1)));
+    assert_eq!(domain(b"A104x\nA10101\n"), Err((1, 1)));
+    assert_eq!(sheet("B103\n00010\n", 3), Err((2, 1)));
     // 2 before 3.
     assert_eq!(domain(b"FF\n"), Err((2, 1)));
     assert_eq!(domain(b"FF0200\n"), Err((2, 1)));

@@ -1,7 +1,7 @@
 //! A domain, built frame after frame with all of the domain reader's checks
 //! that look at more than one line's form.
 
-use crate::law::{Nowhere, Op, Parser, Scope, Target};
+use crate::law::Checker;
 use crate::number;
 use crate::refusal;
 use std::ops::Range;
@@ -23,7 +23,7 @@ pub fn has_entry(kind: u8) -> bool {
     kind == EXECUTABILITY || kind == EFFECT
 }
 
-#[derive(Clone, Copy, Default, Debug)]
+#[derive(Clone, Copy, Debug)]
 pub struct Fluent {
     pub lowest: i16,
     pub highest: i16,
@@ -32,21 +32,48 @@ pub struct Fluent {
     pub knowers: u16,
 }
 
-#[derive(Clone, Copy, Default, PartialEq, Eq, Debug)]
-pub struct Entry {
-    pub name: u8,
-    pub crew: u16,
+impl Fluent {
+    fn of(payload: &[u8]) -> Option<Self> {
+        let &[a, b, c, d, e, f] = payload else {
+            return None;
+        };
+        let [lowest, highest, start] = [[a, b], [c, d], [e, f]].map(i16::from_be_bytes);
+        let fluent = Fluent {
+            lowest,
+            highest,
+            start,
+            knowers: 0,
+        };
+        (lowest..=highest).contains(&start).then_some(fluent)
+    }
 }
 
-/// A law's place in the code. Only A5 and A6 have an entry; only A6 has a
-/// fluent and an expression, which then follows its constraint.
-#[derive(Clone, Copy, Default, Debug)]
+/// A name above the crew that it is for, so that entries are compared at once.
+#[derive(Clone, Copy, Debug)]
+pub struct Entry(u32);
+
+impl Entry {
+    fn of(name: u8, crew: u16) -> Self {
+        Entry(u32::from(name) << 16 | u32::from(crew))
+    }
+
+    pub fn name(self) -> u8 {
+        (self.0 >> 16) as u8
+    }
+
+    pub fn crew(self) -> u16 {
+        self.0 as u16
+    }
+}
+
+/// What is kept of a law. Only A5 and A6 have an entry; only A6 has a fluent and
+/// an expression, both behind its constraint.
+#[derive(Clone, Copy, Debug)]
 pub struct Law {
     pub entry: u8,
     pub fluent: u8,
-    start: u16,
-    middle: u16,
-    end: u16,
+    /// Where its constraint stands, in the store that the law came from.
+    pub place: u16,
 }
 
 /// How many of each a domain has.
@@ -58,9 +85,9 @@ pub struct Counts {
     pub laws: usize,
 }
 
-/// A domain, finished once [`Domain::finish`] has agreed. With the target
-/// `Vec<Op>` its laws can be evaluated, with `Nowhere` it is only checked.
-pub struct Domain<T = Vec<Op>> {
+/// A domain, finished once [`Domain::finish`] has agreed. What was refused a frame
+/// is none any more.
+pub struct Domain {
     agents: usize,
     fluents: [Fluent; Domain::MAX_FLUENTS],
     fluent_count: usize,
@@ -68,15 +95,11 @@ pub struct Domain<T = Vec<Op>> {
     entries: [Entry; Domain::MAX_ENTRIES],
     entry_count: usize,
     laws: [Law; Domain::MAX_LAWS],
-    law_count: usize,
-    laws_by_kind: [usize; LAW_KINDS],
-    /// For each entry the A5 laws that its crew can read, as a mask of law
-    /// numbers: a law about a fluent unknown to the crew counts as false.
-    readable: [u128; Domain::MAX_ENTRIES],
-    /// The entries that have an A5 law, readable or not.
+    /// Number of the laws of each kind or a lower one.
+    laws_up_to: [u8; LAW_KINDS],
+    /// The entries that have an A5 law.
     with_law: u64,
     last_kind: u8,
-    code: T,
 }
 
 impl Domain {
@@ -86,48 +109,27 @@ impl Domain {
     pub const MAX_ENTRIES: usize = 64;
     pub const MAX_LAWS: usize = 128;
 
-    /// A domain to be filled whose laws are kept in compiled form.
-    pub fn compiling(store_bytes: usize) -> Self {
-        let most = Domain::MAX_LAWS * crate::line::MAX_PAYLOAD;
-        Domain::with(Vec::with_capacity(store_bytes.min(most)))
-    }
-
-    pub fn constraint(&self, law: usize) -> &[Op] {
-        let law = &self.laws[law];
-        &self.code[law.start as usize..law.middle as usize]
-    }
-
-    pub fn expression(&self, law: usize) -> &[Op] {
-        let law = &self.laws[law];
-        &self.code[law.middle as usize..law.end as usize]
-    }
-}
-
-impl Domain<Nowhere> {
-    /// A domain to be filled that is only checked.
-    pub fn checking() -> Self {
-        Domain::with(Nowhere)
-    }
-}
-
-impl<T: Target> Domain<T> {
-    fn with(code: T) -> Self {
-        Domain {
-            agents: 0,
-            fluents: [Fluent::default(); Domain::MAX_FLUENTS],
-            fluent_count: 0,
-            knows_count: 0,
-            entries: [Entry::default(); Domain::MAX_ENTRIES],
-            entry_count: 0,
-            laws: [Law::default(); Domain::MAX_LAWS],
-            law_count: 0,
-            laws_by_kind: [0; LAW_KINDS],
-            readable: [0; Domain::MAX_ENTRIES],
-            with_law: 0,
-            last_kind: 0,
-            code,
-        }
-    }
+    pub const EMPTY: Domain = Domain {
+        agents: 0,
+        fluents: [Fluent {
+            lowest: 0,
+            highest: 0,
+            start: 0,
+            knowers: 0,
+        }; Domain::MAX_FLUENTS],
+        fluent_count: 0,
+        knows_count: 0,
+        entries: [Entry(0); Domain::MAX_ENTRIES],
+        entry_count: 0,
+        laws: [Law {
+            entry: 0,
+            fluent: 0,
+            place: 0,
+        }; Domain::MAX_LAWS],
+        laws_up_to: [0; LAW_KINDS],
+        with_law: 0,
+        last_kind: 0,
+    };
 
     pub fn agents(&self) -> usize {
         self.agents
@@ -141,30 +143,27 @@ impl<T: Target> Domain<T> {
         &self.entries[..self.entry_count]
     }
 
+    pub fn laws(&self) -> &[Law] {
+        &self.laws[..self.laws_of(GOAL).end]
+    }
+
     pub fn counts(&self) -> Counts {
         Counts {
             agents: self.agents,
             fluents: self.fluent_count,
             entries: self.entry_count,
-            laws: self.law_count,
+            laws: self.laws().len(),
         }
-    }
-
-    pub fn law(&self, number: usize) -> &Law {
-        &self.laws[number]
-    }
-
-    /// The A5 laws of an entry that its crew can read, as a mask.
-    pub fn readable(&self, entry: usize) -> u128 {
-        self.readable[entry]
     }
 
     /// The numbers of the laws of a kind; they follow one another because
     /// kinds never decrease.
     pub fn laws_of(&self, kind: u8) -> Range<usize> {
-        let kind = (kind - EXECUTABILITY) as usize;
-        let start: usize = self.laws_by_kind[..kind].iter().sum();
-        start..start + self.laws_by_kind[kind]
+        let up_to = |kind: u8| usize::from(self.laws_up_to[usize::from(kind - EXECUTABILITY)]);
+        match kind {
+            EXECUTABILITY => 0..up_to(kind),
+            _ => up_to(kind - 1)..up_to(kind),
+        }
     }
 
     /// The kind of the law with this number, if there is one.
@@ -172,41 +171,21 @@ impl<T: Target> Domain<T> {
         (EXECUTABILITY..=GOAL).find(|&kind| self.laws_of(kind).contains(&number))
     }
 
-    /// Adds a frame whose count is already known to be right. Refusals 3, 5,
-    /// 4 and 6, in this order.
-    pub fn add(&mut self, frame: &[u8]) -> Result<(), u8> {
+    /// Adds a frame whose count is already known to be right, and which stands
+    /// at this place of the store. Refusals 3, 5, 4 and 6, in this order.
+    pub fn add(&mut self, frame: &[u8], place: usize) -> Result<(), u8> {
         let (kind, payload) = (frame[0], &frame[2..]);
         if !(AGENTS..=GOAL).contains(&kind) || kind < self.last_kind {
             return Err(refusal::KIND);
         }
-        let (held, allowed) = match kind {
-            AGENTS => ((self.agents > 0) as usize, 1),
-            FLUENT => (self.fluent_count, Domain::MAX_FLUENTS),
-            KNOWS => (self.knows_count, Domain::MAX_KNOWS),
-            ENTRY => (self.entry_count, Domain::MAX_ENTRIES),
-            _ => (self.law_count, Domain::MAX_LAWS),
-        };
-        if held == allowed {
-            return Err(refusal::TOO_MANY);
-        }
+        self.last_kind = kind;
         match kind {
             AGENTS => self.add_agents(payload),
             FLUENT => self.add_fluent(payload),
             KNOWS => self.add_knows(payload),
-            ENTRY => {
-                let entry = self.entry(payload).ok_or(refusal::PAYLOAD)?;
-                if self.entries().contains(&entry) {
-                    return Err(refusal::TWICE);
-                }
-                self.entries[self.entry_count] = entry;
-                self.entry_count += 1;
-                Some(())
-            }
-            _ => self.add_law(kind, payload),
+            ENTRY => self.add_entry(payload),
+            _ => self.add_law(kind, payload, place + 2),
         }
-        .ok_or(refusal::PAYLOAD)?;
-        self.last_kind = kind;
-        Ok(())
     }
 
     /// Refusal 7, if the frames so far do not make a domain.
@@ -218,111 +197,121 @@ impl<T: Target> Domain<T> {
         complete.then_some(()).ok_or(refusal::INCOMPLETE)
     }
 
-    fn add_agents(&mut self, payload: &[u8]) -> Option<()> {
-        let &[agents] = payload else { return None };
-        if !(1..=Domain::MAX_AGENTS).contains(&(agents as usize)) {
-            return None;
-        }
-        self.agents = agents as usize;
-        Some(())
+    fn add_agents(&mut self, payload: &[u8]) -> Result<(), u8> {
+        room(usize::from(self.agents > 0), 1)?;
+        self.agents = match *payload {
+            [agents] if (1..=Domain::MAX_AGENTS).contains(&agents.into()) => agents.into(),
+            _ => return Err(refusal::PAYLOAD),
+        };
+        Ok(())
     }
 
-    fn add_fluent(&mut self, payload: &[u8]) -> Option<()> {
-        let &[a, b, c, d, e, f] = payload else {
-            return None;
-        };
-        let fluent = Fluent {
-            lowest: number::value(a, b),
-            highest: number::value(c, d),
-            start: number::value(e, f),
-            knowers: 0,
-        };
-        if !(fluent.lowest..=fluent.highest).contains(&fluent.start) {
-            return None;
-        }
-        self.fluents[self.fluent_count] = fluent;
+    fn add_fluent(&mut self, payload: &[u8]) -> Result<(), u8> {
+        room(self.fluent_count, Domain::MAX_FLUENTS)?;
+        self.fluents[self.fluent_count] = Fluent::of(payload).ok_or(refusal::PAYLOAD)?;
         self.fluent_count += 1;
-        Some(())
+        Ok(())
     }
 
-    /// A mask that names at least one agent and none that is not there.
-    fn agents_of(&self, mask: u16) -> Option<u16> {
-        (mask != 0 && u32::from(mask) >> self.agents == 0).then_some(mask)
-    }
-
-    fn add_knows(&mut self, payload: &[u8]) -> Option<()> {
-        let &[fluent, high, low] = payload else {
-            return None;
-        };
-        let knowers = self.agents_of(number::mask(high, low))?;
-        let known = self.fluents[..self.fluent_count].get_mut(fluent as usize)?;
-        known.knowers |= knowers;
+    fn add_knows(&mut self, payload: &[u8]) -> Result<(), u8> {
+        room(self.knows_count, Domain::MAX_KNOWS)?;
+        let (fluent, knowers) = self.masked(payload).ok_or(refusal::PAYLOAD)?;
+        let known = self.fluents[..self.fluent_count].get_mut(usize::from(fluent));
+        known.ok_or(refusal::PAYLOAD)?.knowers |= knowers;
         self.knows_count += 1;
-        Some(())
+        Ok(())
     }
 
-    fn entry(&self, payload: &[u8]) -> Option<Entry> {
-        let &[name, high, low] = payload else {
+    fn add_entry(&mut self, payload: &[u8]) -> Result<(), u8> {
+        room(self.entry_count, Domain::MAX_ENTRIES)?;
+        let (name @ 1.., crew) = self.masked(payload).ok_or(refusal::PAYLOAD)? else {
+            return Err(refusal::PAYLOAD);
+        };
+        // Places that hold none yet have no name either.
+        let entry = Entry::of(name, crew);
+        let same = |seen, held: &Entry| seen | (held.0 == entry.0);
+        if self.entries.iter().fold(false, same) {
+            return Err(refusal::TWICE);
+        }
+        self.entries[self.entry_count] = entry;
+        self.entry_count += 1;
+        Ok(())
+    }
+
+    /// A byte, and a mask that names at least one agent and none that is not there.
+    fn masked(&self, payload: &[u8]) -> Option<(u8, u16)> {
+        let &[first, high, low] = payload else {
             return None;
         };
-        let crew = self.agents_of(number::mask(high, low))?;
-        (name != 0).then_some(Entry { name, crew })
+        let mask = number::mask(high, low);
+        (mask != 0 && u32::from(mask) >> self.agents == 0).then_some((first, mask))
     }
 
-    fn add_law(&mut self, kind: u8, payload: &[u8]) -> Option<()> {
-        self.set_law(self.law_count, kind, payload)?;
-        self.law_count += 1;
-        self.laws_by_kind[(kind - EXECUTABILITY) as usize] += 1;
-        Some(())
+    fn add_law(&mut self, kind: u8, payload: &[u8], place: usize) -> Result<(), u8> {
+        let number = self.laws().len();
+        room(number, Domain::MAX_LAWS)?;
+        let set = self.set_law(number, kind, payload, place);
+        set.ok_or(refusal::PAYLOAD)?;
+        let from_kind = &mut self.laws_up_to[usize::from(kind - EXECUTABILITY)..];
+        from_kind.iter_mut().for_each(|laws| *laws += 1);
+        Ok(())
     }
 
-    /// Gives the law of this number a payload, whether it had one or not.
-    pub(crate) fn set_law(&mut self, number: usize, kind: u8, payload: &[u8]) -> Option<()> {
-        let scope = Scope {
-            fluents: self.fluent_count,
-            entries: self.entry_count,
-            occurrences: kind != STATIC && kind != GOAL,
+    /// Gives the law of this number a payload, which stands at this place of its
+    /// store, whether the law had one or not.
+    pub(crate) fn set_law(
+        &mut self,
+        number: usize,
+        kind: u8,
+        payload: &[u8],
+        place: usize,
+    ) -> Option<()> {
+        let entries = self.entry_count as u8;
+        let checker = Checker {
+            fluents: self.fluent_count as u8,
+            entries: match kind {
+                STATIC | GOAL => 0,
+                _ => entries,
+            },
         };
-        let mut parser = Parser::of(payload, scope);
-        let mut law = Law {
-            start: self.code.place(),
-            ..Law::default()
-        };
+        let (mut entry, mut fluent, mut rest) = (0, 0, payload);
         if has_entry(kind) {
-            law.entry = parser.index(scope.entries)?;
+            (entry, rest) = numbered(rest, entries)?;
         }
-        parser.constraint(&mut self.code)?;
-        law.middle = self.code.place();
+        let place = (place + payload.len() - rest.len()) as u16;
+        rest = checker.constraint(rest)?;
         if kind == EFFECT {
-            law.fluent = parser.index(scope.fluents)?;
-            parser.expression(&mut self.code)?;
+            (fluent, rest) = numbered(rest, checker.fluents)?;
+            rest = checker.expression(rest)?;
         }
-        law.end = self.code.place();
-        if !parser.at_end() {
+        if !rest.is_empty() {
             return None;
         }
         if kind == EXECUTABILITY {
-            let crew = self.entries[law.entry as usize].crew;
-            self.with_law |= 1 << law.entry;
-            let bit = 1 << number;
-            if self.all_known(parser.named(), crew) {
-                self.readable[law.entry as usize] |= bit;
-            } else {
-                self.readable[law.entry as usize] &= !bit;
-            }
+            self.with_law |= 1 << entry;
         }
-        self.laws[number] = law;
+        self.laws[number] = Law {
+            entry,
+            fluent,
+            place,
+        };
         Some(())
-    }
-
-    /// Whether each fluent of the mask is known to somebody in the crew.
-    fn all_known(&self, fluents: u32, crew: u16) -> bool {
-        bits(fluents.into()).all(|fluent| self.fluents[fluent].knowers & crew != 0)
     }
 }
 
+/// Refusal 5, if as many are held as may be.
+fn room(held: usize, most: usize) -> Result<(), u8> {
+    (held < most).then_some(()).ok_or(refusal::TOO_MANY)
+}
+
+/// A byte that numbers one of so many things, and what follows it.
+fn numbered(bytes: &[u8], held: u8) -> Option<(u8, &[u8])> {
+    let (&number, rest) = bytes.split_first()?;
+    (number < held).then_some((number, rest))
+}
+
 /// The numbers of the bits that are set, lowest first.
-pub fn bits(mut mask: u128) -> impl Iterator<Item = usize> {
+pub fn bits(mut mask: u64) -> impl Iterator<Item = usize> {
     std::iter::from_fn(move || {
         let bit = (mask != 0).then_some(mask.trailing_zeros() as usize);
         mask &= mask.wrapping_sub(1);

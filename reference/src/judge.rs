@@ -1,10 +1,13 @@
 //! The judge: a sheet's steps in order until the first fault.
 
-use crate::domain::{bits, Domain, CONCURRENCY, EFFECT, GOAL, STATIC};
-use crate::law::{evaluate, Moment, Op};
+use crate::code::{Compiler, Op};
+use crate::domain::{bits, Domain, CONCURRENCY, EFFECT, EXECUTABILITY, GOAL, STATIC};
+use crate::history::History;
+use crate::line::MAX_PAYLOAD;
 use crate::refusal;
 use crate::sheet::{steps_of, MAX_STEPS};
-use crate::{store, supplement};
+use crate::supplement::InForce;
+use std::cell::RefCell;
 
 /// Numbers that the judge asks of its levels buffer: every state of the
 /// longest sheet.
@@ -54,36 +57,38 @@ pub fn judge_under(
     if levels.len() < LEVELS {
         return Err(refusal::BUFFER);
     }
-    let mut domain = store::parse(store).ok_or(refusal::STORE)?;
-    supplement::replace(&mut domain, supplement).ok_or(refusal::STORE)?;
-    steps_of(sheet, domain.agents())?;
-    Ok(run(&domain, sheet, levels))
+    let mut domain = Domain::EMPTY;
+    let laws = InForce::of(&mut domain, store, supplement).ok_or(refusal::STORE)?;
+    steps_of(sheet, laws.domain.agents())?;
+    Ok(run(&laws, sheet, levels))
+}
+
+/// No operation comes from less than a byte.
+const MAX_OPS: usize = Domain::MAX_LAWS * MAX_PAYLOAD;
+
+thread_local! {
+    /// Room for compiled laws, so that no judgement has to ask for it or clear
+    /// it. Each compiles anew what it reads.
+    static ROOM: RefCell<[Op; MAX_OPS]> = const { RefCell::new([Op::NONE; MAX_OPS]) };
 }
 
 /// Judges whole steps, at most 64 of them, over a domain.
-pub fn run(domain: &Domain, sheet: &[u8], levels: &mut [i16]) -> Judged {
-    let mut trial = Trial::start(domain);
-    let width = domain.fluents().len();
-    if let Err(fault) = trial.statics(0) {
-        return fault.at(0, 0);
-    }
-    levels[..width].copy_from_slice(&trial.states[0][..width]);
-    let mut step = 0;
-    for names in sheet.chunks_exact(domain.agents()) {
-        step += 1;
-        if let Err(fault) = trial.step(step, names) {
-            return fault.at(step, step);
-        }
-        levels[step * width..][..width].copy_from_slice(&trial.states[step][..width]);
-    }
-    let states = step + 1;
-    match trial.all_true(domain.laws_of(GOAL), step, GOAL_MISSED) {
-        Ok(()) => Judged {
-            verdict: Verdict::Accepted,
-            states,
-        },
-        Err(fault) => fault.at(step, states),
-    }
+pub fn run(laws: &InForce, sheet: &[u8], levels: &mut [i16]) -> Judged {
+    ROOM.with_borrow_mut(|room| {
+        let mut trial = Trial {
+            laws,
+            history: History::start(laws.domain.fluents().len(), levels),
+            compiled: [Compiled::NOT; Domain::MAX_LAWS],
+            code: room,
+            used: 0,
+            named: [0; 256],
+            member: [0; Domain::MAX_AGENTS],
+            first: [0; Domain::MAX_ENTRIES],
+            next: [0; Domain::MAX_LAWS + 1],
+        };
+        trial.arrange();
+        trial.run(sheet)
+    })
 }
 
 impl Fault {
@@ -97,143 +102,209 @@ impl Fault {
     }
 }
 
-struct Trial<'a> {
-    domain: &'a Domain,
-    states: [[i16; Domain::MAX_FLUENTS]; MAX_STATES],
-    /// Mask of the entries that occur in each step; nothing occurs in step 0.
-    occurring: [u64; MAX_STATES],
-    /// For each name the agents that give it in the present step.
-    naming: [u16; 256],
+/// Where a law stands in the code, its expression behind its constraint, which
+/// is true if it has no operations; all 0 until it is asked for.
+#[derive(Clone, Copy)]
+struct Compiled {
+    start: u16,
+    middle: u16,
+    end: u16,
+    done: bool,
+    /// Whether it is an A5 law that names a fluent known to nobody in the crew.
+    unread: bool,
 }
 
-impl<'a> Trial<'a> {
-    fn start(domain: &'a Domain) -> Self {
-        let mut trial = Trial {
-            domain,
-            states: [[0; Domain::MAX_FLUENTS]; MAX_STATES],
-            occurring: [0; MAX_STATES],
-            naming: [0; 256],
-        };
-        for (level, fluent) in trial.states[0].iter_mut().zip(domain.fluents()) {
-            *level = fluent.start;
+impl Compiled {
+    const NOT: Compiled = Compiled {
+        start: 0,
+        middle: 0,
+        end: 0,
+        done: false,
+        unread: false,
+    };
+}
+
+struct Trial<'a> {
+    laws: &'a InForce<'a>,
+    history: History<'a>,
+    compiled: [Compiled; Domain::MAX_LAWS],
+    code: &'a mut [Op],
+    used: usize,
+    /// The entries of each name.
+    named: [u64; 256],
+    /// The entries that each agent is in.
+    member: [u64; Domain::MAX_AGENTS],
+    /// For each entry its first A5 law, and for each of these the next, by
+    /// numbers from 1; 0 is none.
+    first: [u8; Domain::MAX_ENTRIES],
+    next: [u8; Domain::MAX_LAWS + 1],
+}
+
+impl Trial<'_> {
+    /// Starts from the domain's values, and finds out once who is in what.
+    fn arrange(&mut self) {
+        let domain = self.laws.domain;
+        for (number, fluent) in domain.fluents().iter().enumerate() {
+            self.history.set(number, fluent.start);
         }
-        trial
+        for (number, entry) in domain.entries().iter().enumerate() {
+            self.named[usize::from(entry.name())] |= 1 << number;
+            bits(entry.crew().into()).for_each(|agent| self.member[agent] |= 1 << number);
+        }
+        for number in domain.laws_of(EXECUTABILITY).rev() {
+            let entry = usize::from(domain.laws()[number].entry);
+            self.next[number + 1] = self.first[entry];
+            self.first[entry] = number as u8 + 1;
+        }
+    }
+
+    fn run(&mut self, sheet: &[u8]) -> Judged {
+        if let Err(fault) = self.all_true(STATIC, STATE_REFUSED) {
+            return fault.at(0, 0);
+        }
+        self.history.reach();
+        let mut step = 0;
+        for names in sheet.chunks_exact(self.laws.domain.agents()) {
+            step += 1;
+            if let Err(fault) = self.step(names) {
+                return fault.at(step, step);
+            }
+            self.history.reach();
+        }
+        let states = step + 1;
+        match self.all_true(GOAL, GOAL_MISSED) {
+            Ok(()) => Judged {
+                verdict: Verdict::Accepted,
+                states,
+            },
+            Err(fault) => fault.at(step, states),
+        }
+    }
+
+    /// The law compiled, which is done once.
+    #[inline]
+    fn compiled(&mut self, law: usize) -> Compiled {
+        if !self.compiled[law].done {
+            self.compiled[law] = self.compile(law);
+        }
+        self.compiled[law]
+    }
+
+    #[cold]
+    fn compile(&mut self, number: usize) -> Compiled {
+        let domain = self.laws.domain;
+        let (kind, law) = (domain.kind_of(number), domain.laws()[number]);
+        let start = self.used as u16;
+        let mut compiler = Compiler::of(self.laws.bytes(number), self.code, self.used);
+        compiler.constraint();
+        let (middle, named) = (compiler.used() as u16, compiler.named());
+        if kind == Some(EFFECT) {
+            compiler.byte();
+            compiler.expression();
+        }
+        self.used = compiler.used();
+        let crew = domain.entries()[usize::from(law.entry)].crew();
+        let unknown = |fluent: usize| domain.fluents()[fluent].knowers & crew == 0;
+        Compiled {
+            start,
+            middle,
+            end: self.used as u16,
+            done: true,
+            unread: kind == Some(EXECUTABILITY) && bits(named.into()).any(unknown),
+        }
+    }
+
+    fn holds(&mut self, law: usize) -> Result<bool, Fault> {
+        let Compiled { start, middle, .. } = self.compiled(law);
+        Ok(start == middle || self.value(law, start, middle)? != 0)
     }
 
     /// Evaluates code of the law with this number.
-    fn value(&self, law: usize, code: &[Op], position: usize) -> Result<i64, Fault> {
-        let moment = Moment {
-            states: &self.states,
-            occurring: &self.occurring,
-            position,
-        };
-        evaluate(code, &moment).ok_or(Fault(NO_VALUE, law))
+    fn value(&mut self, law: usize, start: u16, end: u16) -> Result<i64, Fault> {
+        let code = &self.code[start.into()..end.into()];
+        self.history.evaluate(code).ok_or(Fault(NO_VALUE, law))
     }
 
-    fn holds(&self, law: usize, position: usize) -> Result<bool, Fault> {
-        let truth = self.value(law, self.domain.constraint(law), position)?;
-        Ok(truth != 0)
-    }
-
-    /// The first law that is false is a fault of the given kind.
-    fn all_true(
-        &self,
-        laws: std::ops::Range<usize>,
-        position: usize,
-        kind: u8,
-    ) -> Result<(), Fault> {
-        for law in laws {
-            if !self.holds(law, position)? {
-                return Err(Fault(kind, law));
+    /// The first law of a kind that is false is a fault.
+    #[inline]
+    fn all_true(&mut self, kind: u8, fault: u8) -> Result<(), Fault> {
+        for law in self.laws.domain.laws_of(kind) {
+            if !self.holds(law)? {
+                return Err(Fault(fault, law));
             }
         }
         Ok(())
     }
 
-    fn statics(&self, state: usize) -> Result<(), Fault> {
-        self.all_true(self.domain.laws_of(STATIC), state, STATE_REFUSED)
-    }
-
-    /// Leads from state `step - 1` to state `step`.
-    fn step(&mut self, step: usize, names: &[u8]) -> Result<(), Fault> {
-        let before = step - 1;
+    /// Leads to the next state.
+    fn step(&mut self, names: &[u8]) -> Result<(), Fault> {
         let occurring = self.take_up(names)?;
-        self.occurring[step] = occurring;
-        for entry in bits(occurring.into()) {
-            self.executable(entry, before)?;
+        self.history.occur(occurring);
+        for entry in bits(occurring) {
+            self.executable(entry)?;
         }
-        self.all_true(self.domain.laws_of(CONCURRENCY), before, NOT_TOGETHER)?;
-        self.states[step] = self.effects(occurring, before)?;
-        self.statics(step)
+        self.all_true(CONCURRENCY, NOT_TOGETHER)?;
+        match occurring {
+            0 => self.history.advance(),
+            _ => self.effects(occurring)?,
+        }
+        self.all_true(STATIC, STATE_REFUSED)
     }
 
-    /// The entries that occur. An agent of an occurring entry gives its name,
-    /// so it is enough that each agent with a name is in one of their crews.
-    fn take_up(&mut self, names: &[u8]) -> Result<u64, Fault> {
-        let mut busy = 0u16;
-        for (agent, &name) in names.iter().enumerate() {
-            if name != 0 {
-                self.naming[name as usize] |= 1 << agent;
-                busy |= 1 << agent;
-            }
+    /// The entries that occur: those of which each agent is no member or gives
+    /// the name. So it is enough that each agent with a name is in one of them.
+    fn take_up(&self, names: &[u8]) -> Result<u64, Fault> {
+        let mut occurring = u64::MAX >> (64 - self.laws.domain.entries().len());
+        for (&member, &name) in self.member.iter().zip(names) {
+            occurring &= !member | self.named[usize::from(name)];
         }
-        let mut occurring = 0u64;
-        let mut placed = 0u16;
-        for (number, entry) in self.domain.entries().iter().enumerate() {
-            if self.naming[entry.name as usize] & entry.crew == entry.crew {
-                occurring |= 1 << number;
-                placed |= entry.crew;
-            }
-        }
-        for &name in names {
-            self.naming[name as usize] = 0;
-        }
-        match busy & !placed {
-            0 => Ok(occurring),
-            astray => Err(Fault(NOT_TAKEN_UP, astray.trailing_zeros() as usize)),
+        let mut members = self.member.iter().zip(names);
+        match members.position(|(member, &name)| name != 0 && member & occurring == 0) {
+            Some(agent) => Err(Fault(NOT_TAKEN_UP, agent)),
+            None => Ok(occurring),
         }
     }
 
-    fn executable(&self, entry: usize, position: usize) -> Result<(), Fault> {
-        for law in bits(self.domain.readable(entry)) {
-            if self.holds(law, position)? {
+    fn executable(&mut self, entry: usize) -> Result<(), Fault> {
+        let mut next = usize::from(self.first[entry]);
+        while let Some(law) = next.checked_sub(1) {
+            if !self.compiled(law).unread && self.holds(law)? {
                 return Ok(());
             }
+            next = self.next[next].into();
         }
         Err(Fault(NOT_EXECUTABLE, entry))
     }
 
-    /// The state after the effects. All laws read the values before the step;
-    /// what no law sets stays as it is.
-    fn effects(
-        &self,
-        occurring: u64,
-        position: usize,
-    ) -> Result<[i16; Domain::MAX_FLUENTS], Fault> {
+    /// Goes on to the state after the effects. All laws read the values before
+    /// the step; what no law sets stays as it is.
+    fn effects(&mut self, occurring: u64) -> Result<(), Fault> {
+        let domain = self.laws.domain;
         let mut settings = [0i64; Domain::MAX_FLUENTS];
         let mut set = 0u32;
-        for number in self.domain.laws_of(EFFECT) {
-            let law = self.domain.law(number);
-            if (occurring >> law.entry) & 1 == 0 || !self.holds(number, position)? {
+        for number in domain.laws_of(EFFECT) {
+            let law = &domain.laws()[number];
+            if (occurring >> law.entry) & 1 == 0 || !self.holds(number)? {
                 continue;
             }
-            let value = self.value(number, self.domain.expression(number), position)?;
-            let fluent = law.fluent as usize;
+            let Compiled { middle, end, .. } = self.compiled[number];
+            let value = self.value(number, middle, end)?;
+            let fluent = usize::from(law.fluent);
             if (set >> fluent) & 1 != 0 && settings[fluent] != value {
                 return Err(Fault(DISAGREEMENT, number));
             }
             settings[fluent] = value;
             set |= 1 << fluent;
         }
-        let mut state = self.states[position];
+        self.history.advance();
         for fluent in bits(set.into()) {
-            let range = &self.domain.fluents()[fluent];
+            let range = &domain.fluents()[fluent];
             let value = settings[fluent];
-            if !(range.lowest as i64..=range.highest as i64).contains(&value) {
+            if !(i64::from(range.lowest)..=range.highest.into()).contains(&value) {
                 return Err(Fault(OUT_OF_RANGE, fluent));
             }
-            state[fluent] = value as i16;
+            self.history.set(fluent, value as i16);
         }
-        Ok(state)
+        Ok(())
     }
 }

@@ -2,8 +2,10 @@
 //! another, a judge, an editing session and two programs, in plain Rust. See
 //! README.md for what it is for.
 
+pub mod code;
 pub mod domain;
 pub mod generate;
+pub mod history;
 pub mod judge;
 pub mod law;
 pub mod line;

@@ -6,7 +6,7 @@ use crate::judge::{self, Judged, Verdict, LEVELS};
 use crate::refusal;
 use crate::sheet::{self, MAX_STEPS, SHEET_BYTES};
 use crate::store::{self, STORE_BYTES};
-use crate::supplement::{self, SUPPLEMENT_BYTES};
+use crate::supplement::{self, InForce, SUPPLEMENT_BYTES};
 use std::io::{self, Read, Write};
 
 pub const MAX_INPUT: usize = 60_000;
@@ -68,16 +68,16 @@ impl Program {
         let mut supplement = vec![0; SUPPLEMENT_BYTES];
         supplement::read_supplement(&store, supplement_text, &mut supplement)
             .map_err(|refused| after(domain_text, refused))?;
-        let mut domain = store::parse(&store).ok_or((refusal::STORE, 0))?;
-        supplement::replace(&mut domain, &supplement).ok_or((refusal::STORE, 0))?;
+        let mut domain = Domain::EMPTY;
+        let in_force = InForce::of(&mut domain, &store, &supplement).ok_or((refusal::STORE, 0))?;
+        let agents = in_force.domain.agents();
         let mut sheet = [0; SHEET_BYTES];
-        let steps = sheet::read_sheet(sheet_text, domain.agents(), &mut sheet)
+        let steps = sheet::read_sheet(sheet_text, agents, &mut sheet)
             .map_err(|refused| after(laws, refused))?;
 
         let mut levels = [0; LEVELS];
-        let names = &sheet[..steps * domain.agents()];
-        let judged = judge::run(&domain, names, &mut levels);
-        Ok(report(&levels, domain.fluents().len(), judged))
+        let judged = judge::run(&in_force, &sheet[..steps * agents], &mut levels);
+        Ok(report(&levels, in_force.domain.fluents().len(), judged))
     }
 }
 

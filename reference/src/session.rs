@@ -10,6 +10,7 @@ use crate::judge::{self, Judged, LEVELS};
 use crate::refusal;
 use crate::sheet::{MAX_STEPS, SHEET_BYTES};
 use crate::store::{self, all_zero};
+use crate::supplement::InForce;
 
 pub const MAX_EDITS: usize = 200;
 const NAMES: usize = Domain::MAX_AGENTS;
@@ -170,12 +171,13 @@ impl Session {
         if levels.len() < LEVELS {
             return Err(refusal::BUFFER);
         }
-        let domain = store::parse(store).ok_or(refusal::STORE)?;
-        if domain.agents() != sheet.agents {
+        let mut domain = Domain::EMPTY;
+        let laws = InForce::of(&mut domain, store, &[]).ok_or(refusal::STORE)?;
+        if laws.domain.agents() != sheet.agents {
             return Err(refusal::AGENTS_DIFFER);
         }
         let names = &self.sheet[..sheet.steps * sheet.agents];
-        Ok(judge::run(&domain, names, levels))
+        Ok(judge::run(&laws, names, levels))
     }
 
     /// Whether an accepted opening and calls after it could leave this session.

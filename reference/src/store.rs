@@ -1,7 +1,6 @@
 //! The store: a domain's frames end to end, then zeros.
 
 use crate::domain::{Counts, Domain};
-use crate::law::{Nowhere, Target};
 use crate::line::{line_length, write_line, Lines, MAX_PAYLOAD};
 use crate::refusal;
 
@@ -20,8 +19,9 @@ pub fn read_domain(text: &[u8], store: &mut [u8]) -> Result<usize, (u8, usize)> 
     if store.len() < STORE_BYTES {
         return Err((refusal::BUFFER, 0));
     }
-    let mut domain = Domain::checking();
-    let read = fill(text, store, |frame| domain.add(frame)).and_then(|(used, lines)| {
+    let mut domain = Domain::EMPTY;
+    let read = fill(text, store, |frame, place| domain.add(frame, place));
+    let read = read.and_then(|(used, lines)| {
         domain.finish().map_err(|number| (number, lines))?;
         Ok(used)
     });
@@ -36,7 +36,7 @@ pub fn read_domain(text: &[u8], store: &mut [u8]) -> Result<usize, (u8, usize)> 
 pub(crate) fn fill(
     text: &[u8],
     store: &mut [u8],
-    mut take: impl FnMut(&[u8]) -> Result<(), u8>,
+    mut take: impl FnMut(&[u8], usize) -> Result<(), u8>,
 ) -> Result<(usize, usize), (u8, usize)> {
     let mut lines = Lines::of(text);
     let mut used = 0;
@@ -46,7 +46,7 @@ pub(crate) fn fill(
             frame[0] = line.kind;
             frame[1] = line.count() as u8;
             line.read(&mut frame[2..])?;
-            take(frame)?;
+            take(frame, used)?;
             Ok(frame.len())
         });
         used += taken.map_err(|number| (number, lines.number()))?;
@@ -68,20 +68,18 @@ pub fn frame_at(store: &[u8], place: usize) -> Option<&[u8]> {
     rest.get(..2 + count as usize)
 }
 
-/// Adds the store's frames to an empty domain; `None` unless the store is an
-/// accepted domain followed by zeros.
-fn gather<T: Target>(store: &[u8], mut domain: Domain<T>) -> Option<Domain<T>> {
-    take_all(store, |frame| domain.add(frame))?;
-    domain.finish().ok()?;
-    Some(domain)
-}
-
-/// Has every frame of a store taken; `None` where one is not, or where other
-/// bytes than zeros follow the last.
-pub(crate) fn take_all(store: &[u8], take: impl FnMut(&[u8]) -> Result<(), u8>) -> Option<()> {
-    let mut frames = FrameReader::over(store);
-    frames.by_ref().try_for_each(take).ok()?;
-    all_zero(&store[frames.place..]).then_some(())
+/// Has every frame of a store taken, with its place; `None` where one is not, or
+/// where other bytes than zeros follow the last.
+pub(crate) fn take_all(
+    store: &[u8],
+    mut take: impl FnMut(&[u8], usize) -> Result<(), u8>,
+) -> Option<()> {
+    let mut place = 0;
+    while let Some(frame) = frame_at(store, place) {
+        take(frame, place).ok()?;
+        place += frame.len();
+    }
+    all_zero(&store[place..]).then_some(())
 }
 
 /// Whether all bytes are 0. Most of a store is, so this goes by blocks that begin
@@ -94,6 +92,13 @@ pub(crate) fn all_zero(bytes: &[u8]) -> bool {
     none_set(first) && blocks.all(none_set) && none_set(blocks.remainder())
 }
 
+/// Fills an empty domain from a store; `None` unless it is an accepted one
+/// followed by zeros.
+pub(crate) fn gather(domain: &mut Domain, store: &[u8]) -> Option<()> {
+    take_all(store, |frame, place| domain.add(frame, place))?;
+    domain.finish().ok()
+}
+
 /// Whether the store is an accepted domain followed by zeros.
 pub fn accepted(store: &[u8]) -> bool {
     counts(store).is_ok()
@@ -102,18 +107,9 @@ pub fn accepted(store: &[u8]) -> bool {
 /// How many agents, fluents, entries and laws an accepted domain has; refusal
 /// 15.
 pub fn counts(store: &[u8]) -> Result<Counts, u8> {
-    let domain = check(store).ok_or(refusal::STORE)?;
+    let mut domain = Domain::EMPTY;
+    gather(&mut domain, store).ok_or(refusal::STORE)?;
     Ok(domain.counts())
-}
-
-/// The domain of an accepted store, its laws only checked.
-pub(crate) fn check(store: &[u8]) -> Option<Domain<Nowhere>> {
-    gather(store, Domain::checking())
-}
-
-/// The domain of an accepted store, its laws compiled.
-pub fn parse(store: &[u8]) -> Option<Domain> {
-    gather(store, Domain::compiling(store.len()))
 }
 
 /// Writes the text of an accepted domain and returns the bytes written.

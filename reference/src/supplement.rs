@@ -2,7 +2,6 @@
 //! The payload is a law's number, then kind byte and payload of the new law.
 
 use crate::domain::{has_entry, Domain, EXECUTABILITY};
-use crate::law::Target;
 use crate::refusal;
 use crate::store::{self, FrameReader};
 
@@ -12,41 +11,25 @@ pub const REPLACEMENT: u8 = 0xAF;
 /// at most, so the frames always fit.
 pub const SUPPLEMENT_BYTES: usize = 16_000;
 
-/// A domain while laws of it are replaced.
-struct Replacing<'a, T> {
-    domain: &'a mut Domain<T>,
-    /// The numbers of the laws replaced so far.
-    replaced: u128,
-}
-
-impl<'a, T: Target> Replacing<'a, T> {
-    fn start(domain: &'a mut Domain<T>) -> Self {
-        Replacing {
-            domain,
-            replaced: 0,
-        }
+/// Replaces a law of a domain as a frame says, which stands at this place of its
+/// store. Refusals 3, 4 for a payload under 3 bytes, 20, and 4 for everything
+/// else, in this order.
+fn add(domain: &mut Domain, replaced: &mut u128, frame: &[u8], place: usize) -> Result<(), u8> {
+    if frame[0] != REPLACEMENT {
+        return Err(refusal::KIND);
     }
-
-    /// Replaces a law as a frame says. Refusals 3, 4 for a payload under 3
-    /// bytes, 20, and 4 for everything else, in this order.
-    fn add(&mut self, frame: &[u8]) -> Result<(), u8> {
-        if frame[0] != REPLACEMENT {
-            return Err(refusal::KIND);
-        }
-        let &[_, _, number, kind, first, ..] = frame else {
-            return Err(refusal::PAYLOAD);
-        };
-        let number = usize::from(number);
-        let stands_for = self.domain.kind_of(number) == Some(kind)
-            && (!has_entry(kind) || first == self.domain.law(number).entry)
-            && self.replaced >> number & 1 == 0;
-        if !stands_for {
-            return Err(refusal::OTHER_LAW);
-        }
-        self.replaced |= 1 << number;
-        let set = self.domain.set_law(number, kind, &frame[4..]);
-        set.ok_or(refusal::PAYLOAD)
+    let &[_, _, number, kind, first, ..] = frame else {
+        return Err(refusal::PAYLOAD);
+    };
+    let number = usize::from(number);
+    let stands_for = domain.kind_of(number) == Some(kind)
+        && (!has_entry(kind) || domain.laws()[number].entry == first);
+    if !stands_for || *replaced >> number & 1 == 1 {
+        return Err(refusal::OTHER_LAW);
     }
+    *replaced |= 1 << number;
+    let set = domain.set_law(number, kind, &frame[4..], place + 4);
+    set.ok_or(refusal::PAYLOAD)
 }
 
 /// Reads a supplement's text against the domain of a store and returns the
@@ -56,21 +39,60 @@ pub fn read_supplement(store: &[u8], text: &[u8], buffer: &mut [u8]) -> Result<u
     if buffer.len() < SUPPLEMENT_BYTES {
         return Err((refusal::BUFFER, 0));
     }
-    let domain = store::check(store).ok_or((refusal::STORE, 0));
-    let read = domain.and_then(|mut domain| {
-        let mut replacing = Replacing::start(&mut domain);
-        let (used, _) = store::fill(text, buffer, |frame| replacing.add(frame))?;
-        Ok(used)
-    });
+    let mut domain = Domain::EMPTY;
+    let read = match store::gather(&mut domain, store) {
+        Some(()) => {
+            let mut replaced = 0;
+            let take = |frame: &[u8], place| add(&mut domain, &mut replaced, frame, place);
+            store::fill(text, buffer, take)
+        }
+        None => Err((refusal::STORE, 0)),
+    };
+    let read = read.map(|(used, _)| used);
     buffer[read.unwrap_or(0)..].fill(0);
     read
 }
 
-/// Replaces the domain's laws; `None` unless the supplement is one that it
-/// accepts, followed by zeros.
-pub fn replace<T: Target>(domain: &mut Domain<T>, supplement: &[u8]) -> Option<()> {
-    let mut replacing = Replacing::start(domain);
-    store::take_all(supplement, |frame| replacing.add(frame))
+/// Replaces the domain's laws and returns the mask of those replaced; `None`
+/// unless the supplement is one that it accepts, followed by zeros.
+pub fn replace(domain: &mut Domain, supplement: &[u8]) -> Option<u128> {
+    let mut replaced = 0;
+    let take = |frame: &[u8], place| add(domain, &mut replaced, frame, place);
+    store::take_all(supplement, take)?;
+    Some(replaced)
+}
+
+/// A domain with some of its laws replaced, and the stores that they stand in.
+pub struct InForce<'a> {
+    pub domain: &'a Domain,
+    pub store: &'a [u8],
+    pub supplement: &'a [u8],
+    /// Mask of the laws that stand in the supplement.
+    pub replaced: u128,
+}
+
+impl<'a> InForce<'a> {
+    /// Fills an empty domain; `None` unless the store is an accepted one and the
+    /// supplement one that it accepts, both followed by zeros.
+    pub fn of(domain: &'a mut Domain, store: &'a [u8], supplement: &'a [u8]) -> Option<Self> {
+        store::gather(domain, store)?;
+        let replaced = replace(domain, supplement)?;
+        Some(InForce {
+            domain,
+            store,
+            supplement,
+            replaced,
+        })
+    }
+
+    /// The law of this number, from its constraint on.
+    pub fn bytes(&self, number: usize) -> &'a [u8] {
+        let store = match self.replaced >> number & 1 {
+            0 => self.store,
+            _ => self.supplement,
+        };
+        &store[self.domain.laws()[number].place.into()..]
+    }
 }
 
 /// Lays one supplement over another of the same domain: of each law number that
@@ -81,7 +103,8 @@ pub fn lay(store: &[u8], lower: &[u8], upper: &[u8], result: &mut [u8]) -> Resul
     if result.len() < SUPPLEMENT_BYTES {
         return Err(refusal::BUFFER);
     }
-    let mut domain = store::check(store).ok_or(refusal::STORE)?;
+    let mut domain = Domain::EMPTY;
+    store::gather(&mut domain, store).ok_or(refusal::STORE)?;
     let mut frames: [&[u8]; Domain::MAX_LAWS] = [&[]; Domain::MAX_LAWS];
     for supplement in [lower, upper] {
         // A law that was replaced keeps its kind and entry, so that the upper one
@@ -111,7 +134,8 @@ pub struct LawInForce {
 
 /// The law in force of this number. Refusals 15, for either store, and 20.
 pub fn law_in_force(store: &[u8], supplement: &[u8], number: usize) -> Result<LawInForce, u8> {
-    let mut domain = store::check(store).ok_or(refusal::STORE)?;
+    let mut domain = Domain::EMPTY;
+    store::gather(&mut domain, store).ok_or(refusal::STORE)?;
     replace(&mut domain, supplement).ok_or(refusal::STORE)?;
     let mut frames = FrameReader::over(store);
     let mut laws = frames.by_ref().filter(|frame| frame[0] >= EXECUTABILITY);

@@ -1,10 +1,11 @@
 //! The paper's own cases: the river of one pool, starred and unstarred.
 
-use waroth_reference::domain::Domain;
+use waroth_reference::code::{Compiler, Op};
 use waroth_reference::generate::draft::{mask_frame, Draft};
 use waroth_reference::generate::laws::{constant, node};
+use waroth_reference::history::History;
 use waroth_reference::judge::{judge, Judged, Verdict, LEVELS};
-use waroth_reference::law::{evaluate, Moment, Op, Parser, Scope};
+use waroth_reference::law::Checker;
 use waroth_reference::program::Program;
 use waroth_reference::store::STORE_BYTES;
 use waroth_reference::{number, read_domain, read_sheet};
@@ -69,32 +70,30 @@ fn starred_sheets() {
     assert_eq!(seven, (broken(2, 7, 0), states));
 }
 
-/// Value of an expression over one fluent with these states.
-fn value(bytes: &[u8], states: &[i16], position: usize) -> Option<i64> {
-    let scope = Scope {
-        fluents: 1,
-        entries: 0,
-        occurrences: false,
-    };
-    let mut code: Vec<Op> = Vec::new();
-    let mut parser = Parser::of(bytes, scope);
-    parser.expression(&mut code).expect("in order");
-    assert!(parser.at_end());
-    let mut rows = vec![[0; Domain::MAX_FLUENTS]; states.len()];
-    rows.iter_mut()
-        .zip(states)
-        .for_each(|(row, &level)| row[0] = level);
-    let moment = Moment {
-        states: &rows,
-        occurring: &[0; 65],
-        position,
-    };
-    evaluate(&code, &moment)
+/// Value of an expression over one fluent with these states, at the last of them.
+fn value(bytes: &[u8], states: &[i16]) -> Option<i64> {
+    let (fluents, entries) = (1, 0);
+    let checker = Checker { fluents, entries };
+    assert_eq!(checker.expression(bytes), Some(&[][..]));
+    let mut code = vec![Op::NONE; bytes.len()];
+    let mut compiler = Compiler::of(bytes, &mut code, 0);
+    compiler.expression();
+    let used = compiler.used();
+    let mut levels = [0; LEVELS];
+    let mut history = History::start(1, &mut levels);
+    for (number, &state) in states.iter().enumerate() {
+        if number > 0 {
+            history.reach();
+            history.advance();
+        }
+        history.set(0, state);
+    }
+    history.evaluate(&code[..used])
 }
 
 #[test]
 fn starred_arithmetic() {
-    let on = |code, a, b| value(&node(code, &[&constant(a), &constant(b)]), &[0], 0);
+    let on = |code, a, b| value(&node(code, &[&constant(a), &constant(b)]), &[0]);
     assert_eq!(on(0x15, -7, 2), Some(-3));
     assert_eq!(on(0x16, -7, 2), Some(-1));
     assert_eq!(on(0x15, 5, 0), None);
@@ -111,9 +110,10 @@ fn starred_arithmetic() {
 
 #[test]
 fn starred_lag() {
-    assert_eq!(value(&[0x11, 0, 3], &[42], 0), Some(42));
-    assert_eq!(value(&[0x11, 0, 3], &[42, 1, 2], 2), Some(42));
-    assert_eq!(value(&[0x11, 0, 1], &[42, 1, 2], 2), Some(1));
+    assert_eq!(value(&[0x11, 0, 3], &[42]), Some(42));
+    assert_eq!(value(&[0x11, 0, 3], &[42, 1, 2]), Some(42));
+    assert_eq!(value(&[0x11, 0, 1], &[42, 1, 2]), Some(1));
+    assert_eq!(value(&[0x11, 0, 0], &[42, 1, 2]), Some(2));
 }
 
 #[test]

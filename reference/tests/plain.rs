@@ -1,6 +1,7 @@
 //! The judge against one as one would write it first, on the same random sheets.
 
-use waroth_reference::generate::draft::Draft;
+use waroth_reference::generate::draft::{law, Draft};
+use waroth_reference::generate::laws::{constant, node};
 use waroth_reference::generate::random::Random;
 use waroth_reference::generate::{sheets, verdicts, Expect};
 use waroth_reference::judge::{judge, Judged, Verdict, LEVELS};
@@ -59,4 +60,71 @@ fn wanted_verdicts() {
             assert_eq!(met, expect, "{label}");
         }
     }
+}
+
+/// The value of an expression as both judges have it after three steps, over a
+/// fluent that rises from 6 by one a step; the fault, if it has none.
+fn both(expression: &[u8]) -> Result<i16, u8> {
+    let mut draft = Draft::new(1, &[[6, 9, 6], [i16::MIN, i16::MAX, 0]], &[(1, 1)]).free();
+    let next = node(0x12, &[&[0x11, 0, 0], &constant(1)]);
+    for (fluent, value) in [(0, &next[..]), (1, expression)] {
+        draft.insert(law(0xA6, &[&[0, 0x2A, fluent], value]));
+    }
+    let sheet = [1; 3];
+    match compare(&draft, &sheet).verdict {
+        Verdict::Accepted => {
+            let mut levels = [0; LEVELS];
+            judge(&draft.bytes(), &sheet, &mut levels).expect("a sheet of the domain");
+            Ok(levels[2 * sheet.len() + 1])
+        }
+        Verdict::Broken { kind, .. } => Err(kind),
+    }
+}
+
+#[test]
+fn operands_of_every_shape() {
+    let fluent = [0x11, 0, 0];
+    let sum = node(0x12, &[&fluent, &constant(-9)]);
+    let expressions = [
+        constant(0),
+        constant(-3),
+        fluent.to_vec(),
+        vec![0x11, 0, 2],
+        sum.clone(),
+        node(0x17, &[&fluent]),
+        node(0x14, &[&fluent, &fluent]),
+    ];
+    let constraints = [
+        vec![0x2A],
+        vec![0x28, 0x2A],
+        vec![0x29, 0, 1],
+        node(0x22, &[&fluent, &constant(7)]),
+        node(0x25, &[&constant(7), &sum]),
+    ];
+    let binary = |codes: std::ops::RangeInclusive<u8>, operands: &[Vec<u8>]| {
+        let mut parts = Vec::new();
+        for code in codes {
+            for left in operands {
+                parts.extend(operands.iter().map(|right| node(code, &[left, right])));
+            }
+        }
+        parts
+    };
+    let reified = |constraint: &Vec<u8>| node(0x19, &[constraint]);
+    let mut parts = binary(0x12..=0x16, &expressions);
+    parts.extend(binary(0x20..=0x25, &expressions).iter().map(reified));
+    parts.extend(binary(0x26..=0x27, &constraints).iter().map(reified));
+    let mut met = [false; 2];
+    for part in &parts {
+        for whole in [
+            part.clone(),
+            node(0x18, &[part]),
+            node(0x13, &[&fluent, part]),
+        ] {
+            met[usize::from(both(&whole).is_ok())] = true;
+        }
+    }
+    assert_eq!(met, [true; 2]);
+    assert_eq!(both(&node(0x13, &[&constant(2), &sum])), Ok(3));
+    assert_eq!(both(&node(0x15, &[&sum, &constant(0)])), Err(7));
 }

@@ -3,10 +3,11 @@
 use super::case::Call;
 use super::draft::Draft;
 use super::random::Random;
+use crate::domain::Domain;
 use crate::judge::{self, Verdict, GOAL_MISSED, LEVELS};
 use crate::session::{Session, EDIT_BYTES, MAX_EDITS};
 use crate::sheet::MAX_STEPS;
-use crate::store;
+use crate::supplement::InForce;
 
 /// A step in which some random entries occur, now and then with a slip.
 pub fn step(r: &mut Random, draft: &Draft) -> Vec<u8> {
@@ -37,7 +38,8 @@ pub fn sheet(r: &mut Random, draft: &Draft) -> Vec<u8> {
         14..=17 => r.from_to(7, 20),
         _ => MAX_STEPS,
     };
-    let Some(domain) = store::parse(&draft.bytes()) else {
+    let (mut domain, store) = (Domain::EMPTY, draft.bytes());
+    let Some(laws) = InForce::of(&mut domain, &store, &[]) else {
         return Vec::new();
     };
     let mut levels = [0; LEVELS];
@@ -47,7 +49,7 @@ pub fn sheet(r: &mut Random, draft: &Draft) -> Vec<u8> {
         for attempt in 0.. {
             sheet.truncate(length);
             sheet.extend(step(r, draft));
-            match judge::run(&domain, &sheet, &mut levels).verdict {
+            match judge::run(&laws, &sheet, &mut levels).verdict {
                 Verdict::Accepted => break,
                 Verdict::Broken { kind, .. } if kind == GOAL_MISSED => break,
                 // Give up: the fault is what this sheet is about.

@@ -130,6 +130,11 @@ impl<'a> Lines<'a> {
         self.number
     }
 
+    /// Whether the line to come starts so.
+    pub fn at(&self, start: &[u8]) -> bool {
+        self.rest.starts_with(start)
+    }
+
     /// The next line, refusal 1 or 2, or `None` at the end. Its first digits say
     /// where it has to end; only if it does not is its end looked for.
     #[inline]

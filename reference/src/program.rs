@@ -3,11 +3,16 @@
 
 use crate::domain::Domain;
 use crate::judge::{self, Judged, Verdict, LEVELS};
+use crate::line::Lines;
 use crate::refusal;
 use crate::sheet::{self, MAX_STEPS, SHEET_BYTES};
-use crate::store::{self, STORE_BYTES};
-use crate::supplement::{self, InForce, SUPPLEMENT_BYTES};
+use crate::store;
+use crate::supplement::{self, InForce};
 use std::io::{self, Read, Write};
+
+/// What the lines of a supplement and of a sheet start with.
+const SUPPLEMENT: &[u8] = b"AF";
+const SHEET: &[u8] = b"B1";
 
 pub const MAX_INPUT: usize = 60_000;
 
@@ -27,21 +32,25 @@ pub enum Program {
 
 impl Program {
     /// Prints to the front of the output and returns how many bytes that were;
-    /// an output that is too short is left as it is.
+    /// an output that is too short is left as it is. One byte more than
+    /// [`MAX_INPUT`] is enough to see that the input is too long.
     pub fn answer(self, input: &[u8], output: &mut [u8]) -> usize {
         if output.len() < OUTPUT_BYTES {
             return 0;
         }
-        let printed = self.run(input);
-        output[..printed.len()].copy_from_slice(&printed);
-        printed.len()
+        let mut page = Page { output, used: 0 };
+        if let Err((number, line)) = self.print(input, &mut page) {
+            page.line("REFUSED", [number.into(), line as i32]);
+        }
+        page.used
     }
 
-    /// What the program prints for its whole input. One byte more than
-    /// [`MAX_INPUT`] is enough to see that the input is too long.
+    /// What the program prints for its whole input.
     pub fn run(self, input: &[u8]) -> Vec<u8> {
-        self.print(input)
-            .unwrap_or_else(|(number, line)| format!("REFUSED {number} {line}\n").into_bytes())
+        let mut output = vec![0; OUTPUT_BYTES];
+        let printed = self.answer(input, &mut output);
+        output.truncate(printed);
+        output
     }
 
     /// From standard input to standard output.
@@ -54,65 +63,85 @@ impl Program {
         io::stdout().lock().write_all(&self.run(&input))
     }
 
-    fn print(self, input: &[u8]) -> Result<Vec<u8>, (u8, usize)> {
+    /// The sheet begins at the first line that starts with [`SHEET`], and the
+    /// supplement at the first before it that starts with [`SUPPLEMENT`]. A
+    /// refusal is given before anything is printed.
+    fn print(self, input: &[u8], page: &mut Page) -> Result<(), (u8, usize)> {
         if input.len() > MAX_INPUT {
             return Err((refusal::INPUT, 0));
         }
-        let (laws, sheet_text) = input.split_at(first_line(input, b"B1"));
-        let (domain_text, supplement_text) = laws.split_at(match self {
-            Program::Waroth => laws.len(),
-            Program::LowWater => first_line(laws, b"AF"),
-        });
-        let mut store = vec![0; STORE_BYTES];
-        store::read_domain(domain_text, &mut store)?;
-        let mut supplement = vec![0; SUPPLEMENT_BYTES];
-        supplement::read_supplement(&store, supplement_text, &mut supplement)
-            .map_err(|refused| after(domain_text, refused))?;
-        let mut domain = Domain::EMPTY;
-        let in_force = InForce::of(&mut domain, &store, &supplement).ok_or((refusal::STORE, 0))?;
-        let agents = in_force.domain.agents();
-        let mut sheet = [0; SHEET_BYTES];
-        let steps = sheet::read_sheet(sheet_text, agents, &mut sheet)
-            .map_err(|refused| after(laws, refused))?;
-
-        let mut levels = [0; LEVELS];
-        let judged = judge::run(&in_force, &sheet[..steps * agents], &mut levels);
-        Ok(report(&levels, in_force.domain.fluents().len(), judged))
+        let ends: &[&[u8]] = match self {
+            Program::Waroth => &[SHEET],
+            Program::LowWater => &[SUPPLEMENT, SHEET],
+        };
+        let mut lines = Lines::of(input);
+        let (mut domain, mut frames) = (Domain::EMPTY, [0; MAX_INPUT / 2]);
+        let used = store::read_frames(&mut domain, &mut lines, ends, &mut frames)?;
+        let (store, supplement) = frames.split_at_mut(used);
+        let (replaced, _) = supplement::read_frames(&mut domain, &mut lines, &[SHEET], supplement)?;
+        let laws = InForce {
+            domain: &domain,
+            store,
+            supplement,
+            replaced,
+        };
+        judged(&laws, &mut lines, page)
     }
 }
 
-/// A refusal as it counts in the whole input, of which this stands before.
-fn after(before: &[u8], (number, line): (u8, usize)) -> (u8, usize) {
-    let lines = before.iter().filter(|&&byte| byte == b'\n').count();
-    (number, lines + line)
-}
-
-/// Where the first line that starts so begins, or the end.
-fn first_line(text: &[u8], starting: &[u8]) -> usize {
-    let mut start = 0;
-    for line in text.split_inclusive(|&byte| byte == b'\n') {
-        if line.starts_with(starting) {
-            return start;
-        }
-        start += line.len();
-    }
-    start
-}
-
-fn report(levels: &[i16], width: usize, judged: Judged) -> Vec<u8> {
-    let Judged { verdict, states } = judged;
-    let mut out = Vec::with_capacity(64 + states * (8 + 7 * width));
-    // Writing to a vector cannot fail.
+/// Reads the sheet, judges it and prints states and verdict.
+fn judged(laws: &InForce, lines: &mut Lines, page: &mut Page) -> Result<(), (u8, usize)> {
+    let (agents, width) = (laws.domain.agents(), laws.domain.fluents().len());
+    let mut sheet = [0; SHEET_BYTES];
+    let steps = sheet::read_lines(lines, agents, &mut sheet)?;
+    let mut levels = [0; LEVELS];
+    let Judged { verdict, states } = judge::run(laws, &sheet[..steps * agents], &mut levels);
     for (number, state) in levels.chunks_exact(width).take(states).enumerate() {
-        let _ = write!(out, "S {number}");
-        for level in state {
-            let _ = write!(out, " {level}");
-        }
-        out.push(b'\n');
+        page.byte(b'S');
+        page.number(number as i32);
+        state.iter().for_each(|&level| page.number(level.into()));
+        page.byte(b'\n');
     }
-    let _ = match verdict {
-        Verdict::Accepted => writeln!(out, "ACCEPTED"),
-        Verdict::Broken { kind, step, number } => writeln!(out, "BROKEN {kind} {step} {number}"),
-    };
-    out
+    match verdict {
+        Verdict::Accepted => page.line("ACCEPTED", []),
+        Verdict::Broken { kind, step, number } => {
+            page.line("BROKEN", [kind, step, number].map(i32::from));
+        }
+    }
+    Ok(())
+}
+
+/// What is printed, put to the front of an output that has room for it.
+struct Page<'a> {
+    output: &'a mut [u8],
+    used: usize,
+}
+
+impl Page<'_> {
+    fn byte(&mut self, byte: u8) {
+        self.output[self.used] = byte;
+        self.used += 1;
+    }
+
+    /// A space and a number of up to five digits.
+    fn number(&mut self, number: i32) {
+        self.byte(b' ');
+        if number < 0 {
+            self.byte(b'-');
+        }
+        let mut rest = number.unsigned_abs();
+        let more = [10, 100, 1_000, 10_000].map(|least| usize::from(rest >= least));
+        let digits = 1 + more.iter().sum::<usize>();
+        for digit in self.output[self.used..][..digits].iter_mut().rev() {
+            *digit = b'0' + (rest % 10) as u8;
+            rest /= 10;
+        }
+        self.used += digits;
+    }
+
+    fn line<const N: usize>(&mut self, word: &str, numbers: [i32; N]) {
+        word.bytes().for_each(|byte| self.byte(byte));
+        numbers.iter().for_each(|&number| self.number(number));
+        self.byte(b'\n');
+    }
 }

@@ -33,7 +33,15 @@ pub fn steps_of(sheet: &[u8], agents: usize) -> Result<usize, u8> {
 /// Reads a sheet text into the buffer and returns the number of steps, or the
 /// refusal and its line.
 pub fn read_sheet(text: &[u8], agents: usize, buffer: &mut [u8]) -> Result<usize, (u8, usize)> {
-    let lines = &mut Lines::of(text);
+    read_lines(&mut Lines::of(text), agents, buffer)
+}
+
+/// Reads lines to their end, as [`read_sheet`] does.
+pub(crate) fn read_lines(
+    lines: &mut Lines,
+    agents: usize,
+    buffer: &mut [u8],
+) -> Result<usize, (u8, usize)> {
     if buffer.len() < SHEET_BYTES {
         return Err((refusal::BUFFER, 0));
     }

@@ -20,27 +20,38 @@ pub fn read_domain(text: &[u8], store: &mut [u8]) -> Result<usize, (u8, usize)> 
         return Err((refusal::BUFFER, 0));
     }
     let mut domain = Domain::EMPTY;
-    let read = fill(text, store, |frame, place| domain.add(frame, place));
-    let read = read.and_then(|(used, lines)| {
-        domain.finish().map_err(|number| (number, lines))?;
-        Ok(used)
-    });
+    let read = read_frames(&mut domain, &mut Lines::of(text), &[], store);
     store[read.unwrap_or(0)..].fill(0);
     read
 }
 
-/// Puts the frames of a text end to end as long as they are taken, and returns
-/// the bytes used and the number of lines.
+/// Fills an empty domain from lines, up to one that starts as given or to the
+/// end, and returns the bytes used.
+pub(crate) fn read_frames(
+    domain: &mut Domain,
+    lines: &mut Lines,
+    ends: &[&[u8]],
+    store: &mut [u8],
+) -> Result<usize, (u8, usize)> {
+    let used = fill(lines, ends, store, |frame, place| domain.add(frame, place))?;
+    let finished = domain.finish();
+    finished.map_err(|number| (number, lines.number()))?;
+    Ok(used)
+}
+
+/// Puts the frames of a text end to end as long as they are taken, up to a line
+/// that starts as given, and returns the bytes used.
 ///
 /// The limits keep what is taken so short that a further frame always fits.
 pub(crate) fn fill(
-    text: &[u8],
+    lines: &mut Lines,
+    ends: &[&[u8]],
     store: &mut [u8],
     mut take: impl FnMut(&[u8], usize) -> Result<(), u8>,
-) -> Result<(usize, usize), (u8, usize)> {
-    let mut lines = Lines::of(text);
+) -> Result<usize, (u8, usize)> {
     let mut used = 0;
-    while let Some(line) = lines.next_line() {
+    while !ends.iter().any(|end| lines.at(end)) {
+        let Some(line) = lines.next_line() else { break };
         let taken = line.and_then(|line| {
             let frame = &mut store[used..][..2 + line.count()];
             frame[0] = line.kind;
@@ -51,7 +62,7 @@ pub(crate) fn fill(
         });
         used += taken.map_err(|number| (number, lines.number()))?;
     }
-    Ok((used, lines.number()))
+    Ok(used)
 }
 
 /// The frame at a place of any store: a kind other than 00, a count up to 120

@@ -2,6 +2,7 @@
 //! The payload is a law's number, then kind byte and payload of the new law.
 
 use crate::domain::{has_entry, Domain, EXECUTABILITY};
+use crate::line::Lines;
 use crate::refusal;
 use crate::store::{self, FrameReader};
 
@@ -41,16 +42,26 @@ pub fn read_supplement(store: &[u8], text: &[u8], buffer: &mut [u8]) -> Result<u
     }
     let mut domain = Domain::EMPTY;
     let read = match store::gather(&mut domain, store) {
-        Some(()) => {
-            let mut replaced = 0;
-            let take = |frame: &[u8], place| add(&mut domain, &mut replaced, frame, place);
-            store::fill(text, buffer, take)
-        }
+        Some(()) => read_frames(&mut domain, &mut Lines::of(text), &[], buffer),
         None => Err((refusal::STORE, 0)),
     };
-    let read = read.map(|(used, _)| used);
+    let read = read.map(|(_, used)| used);
     buffer[read.unwrap_or(0)..].fill(0);
     read
+}
+
+/// Replaces a domain's laws as lines say, up to one that starts as given, and
+/// returns the mask of those replaced and the bytes used.
+pub(crate) fn read_frames(
+    domain: &mut Domain,
+    lines: &mut Lines,
+    ends: &[&[u8]],
+    buffer: &mut [u8],
+) -> Result<(u128, usize), (u8, usize)> {
+    let mut replaced = 0;
+    let take = |frame: &[u8], place| add(domain, &mut replaced, frame, place);
+    let used = store::fill(lines, ends, buffer, take)?;
+    Ok((replaced, used))
 }
 
 /// Replaces the domain's laws and returns the mask of those replaced; `None`

@@ -62,10 +62,10 @@ impl Sheet {
     #[inline]
     fn apply(&mut self, edit: &Edit) -> Option<()> {
         let &[kind, step, ref names @ ..] = edit;
-        let step = step as usize;
+        let step = usize::from(step);
         let all_names = u128::from_le_bytes(*names);
-        let beyond = all_names.checked_shr(8 * self.agents as u32);
-        if beyond.unwrap_or(0) != 0 {
+        let free = 8 * (NAMES - self.agents) as u32;
+        if all_names.leading_zeros() < free {
             return None;
         }
         match kind {
@@ -80,12 +80,13 @@ impl Sheet {
         Some(())
     }
 
-    /// Step after step, one byte per agent, zeros after.
+    /// Step after step, one byte per agent, zeros after. What a step has room for
+    /// besides its names is zero, and the next one's place.
     fn packed(&self) -> [u8; SHEET_BYTES] {
         let mut bytes = [0; SHEET_BYTES];
-        let places = bytes.chunks_exact_mut(self.agents);
+        let places = (0..).step_by(self.agents);
         for (place, names) in places.zip(&self.names[..self.steps]) {
-            place.copy_from_slice(&names[..self.agents]);
+            bytes[place..][..NAMES].copy_from_slice(names);
         }
         bytes
     }
@@ -139,35 +140,27 @@ impl Session {
     }
 
     pub fn undo(&mut self) -> Result<(), u8> {
-        self.check()?;
-        let Some(left) = self.standing.checked_sub(1) else {
-            return Err(refusal::NO_UNDO);
-        };
-        let mut sheet = Sheet::empty(self.agents as usize);
-        for edit in self.edits().take(left as usize) {
-            sheet.apply(edit);
-        }
-        self.standing = left;
+        let left = self.standing.checked_sub(1);
+        let sheet = self.after(left.unwrap_or(0))?;
+        self.standing = left.ok_or(refusal::NO_UNDO)?;
         self.show(&sheet);
         Ok(())
     }
 
     pub fn redo(&mut self) -> Result<(), u8> {
-        let mut sheet = self.check()?;
-        if self.standing == self.total {
+        let more = self.standing.saturating_add(1);
+        let sheet = self.after(more.min(self.total))?;
+        if more > self.total {
             return Err(refusal::NO_REDO);
         }
-        if let Some(edit) = self.edits().nth(self.standing as usize) {
-            sheet.apply(edit);
-        }
-        self.standing += 1;
+        self.standing = more;
         self.show(&sheet);
         Ok(())
     }
 
     /// The judge's verdict on the sheet. Refusals 17, 10, 15 and 16.
     pub fn verdict(&self, store: &[u8], levels: &mut [i16]) -> Result<Judged, u8> {
-        let sheet = self.check()?;
+        let sheet = self.after(self.standing)?;
         if levels.len() < LEVELS {
             return Err(refusal::BUFFER);
         }
@@ -182,46 +175,46 @@ impl Session {
 
     /// Whether an accepted opening and calls after it could leave this session.
     pub fn is_sound(&self) -> bool {
-        self.check().is_ok()
+        self.after(self.standing).is_ok()
     }
 
-    /// The sheet of a sound session, or refusal 17.
+    /// The sheet after so many of its edits, if the session is sound, or refusal
+    /// 17.
     ///
     /// Each edit of the log, undone ones included, was once made on the sheet
     /// that the edits before it made; and undoing can stop at each of them.
-    fn check(&self) -> Result<Sheet, u8> {
-        self.replayed().ok_or(refusal::SESSION)
+    fn after(&self, edits: u64) -> Result<Sheet, u8> {
+        self.replayed(edits).ok_or(refusal::SESSION)
     }
 
-    fn replayed(&self) -> Option<Sheet> {
+    fn replayed(&self, edits: u64) -> Option<Sheet> {
         let known = (1..=NAMES as u64).contains(&self.agents);
         if !known || self.standing > self.total || self.total > MAX_EDITS as u64 {
             return None;
         }
-        let (standing, total) = (self.standing as usize, self.total as usize);
-        let mut sheet = Sheet::empty(self.agents as usize);
-        for edit in self.edits().take(standing) {
-            sheet.apply(edit)?;
-        }
-        if self.steps != sheet.steps as u64 || self.sheet != sheet.packed() {
-            return None;
-        }
-        let mut later = sheet;
-        for edit in self.edits().take(total).skip(standing) {
-            later.apply(edit)?;
-        }
-        all_zero(&self.log[total * EDIT_BYTES..]).then_some(sheet)
-    }
-
-    fn edits(&self) -> impl Iterator<Item = &Edit> {
-        self.log
+        let (log, rest) = self.log.split_at(self.total as usize * EDIT_BYTES);
+        let mut log = log
             .chunks_exact(EDIT_BYTES)
-            .filter_map(|edit| edit.first_chunk())
+            .filter_map(|edit| edit.first_chunk());
+        let mut sheet = Sheet::empty(self.agents as usize);
+        let mut wanted = sheet;
+        for made in 0..=self.total {
+            if made == edits {
+                wanted = sheet;
+            }
+            if made == self.standing && !self.shows(&sheet) {
+                return None;
+            }
+            if let Some(edit) = log.next() {
+                sheet.apply(edit)?;
+            }
+        }
+        all_zero(rest).then_some(wanted)
     }
 
     /// Refusals 17 and 14, which every edit begins with.
     fn sheet_for_edit(&self) -> Result<Sheet, u8> {
-        let sheet = self.check()?;
+        let sheet = self.after(self.standing)?;
         if self.standing == MAX_EDITS as u64 {
             return Err(refusal::LOG_FULL);
         }
@@ -238,6 +231,10 @@ impl Session {
         self.total = self.standing;
         self.show(&sheet);
         Ok(())
+    }
+
+    fn shows(&self, sheet: &Sheet) -> bool {
+        self.steps == sheet.steps as u64 && self.sheet == sheet.packed()
     }
 
     fn show(&mut self, sheet: &Sheet) {

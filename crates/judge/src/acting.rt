@@ -19,6 +19,13 @@ pub struct Acting {
     pub agents: u16,
 }
 
+// A step: who acts in it, and the state that it starts from.
+pub struct Step {
+    pub entries: u64,
+    pub agents: u16,
+    pub j: usize,
+}
+
 // A byte of a lent array as a number. A call, so that a proof has its range by the call's answer.
 pub(crate) fn wide(x: u8) -> usize
     ensures { λ r. ⌜ r ≡ x ⌝ }

@@ -13,9 +13,11 @@ ghost use Rattle.law.specs.Evaluate.{heldSize};
 ghost use Rattle.number.specs.Answer.{truthOf};
 ghost use Rattle.judge.specs.Answer.{passOf, kindOf};
 ghost use Rattle.judge.specs.Told.{Belonging, Occurring, Says, Lawful, Owned, Within, Own, Owns, Seen};
+use crate::acting::Step;
 use crate::acting::has_agent;
 use crate::acting::has_entry;
 use crate::acting::wide;
+use crate::reading::Run;
 use crate::reading::constraint_of;
 use crate::verdict::Check;
 use crate::verdict::Fault;
@@ -66,17 +68,17 @@ fn try_law(
 fn check_entry(
     held: &[u8; HELD],
     owners: &[u8; Counts::LAWS],
-    from: usize,
-    to: usize,
+    run: Run,
     history: &[i16; HISTORY],
     j: usize,
     i: usize,
 ) -> Check
-    requires { ⌜ (i < mostEntries) × (to ≤ mostLaws) ⌝ }
-    ensures { λ r. ⌜ ((d : Domain) (h : History) (n : ℕ) → Lawful d (now (held .entry)) n → Own (now (owners .entry)) n i from to → Owned d (now (owners .entry))
+    requires { ⌜ (i < mostEntries) × (run .to ≤ mostLaws) ⌝ }
+    ensures { λ r. ⌜ ((d : Domain) (h : History) (n : ℕ) → Lawful d (now (held .entry)) n → Own (now (owners .entry)) n i (run .from) (run .to) → Owned d (now (owners .entry))
         → Seen true d h (now (history .entry)) j → passOf r ≡ permitted d h j i 0 (d .laws)) ⌝ }
 {
-    let mut l = from;
+    let to = run.to;
+    let mut l = run.from;
     while l < to {
         match try_law(held, owners, history, j, i, l) {
             Truth::NoTruth => {
@@ -99,27 +101,21 @@ pub(crate) fn check_entries(
     owners: &[u8; Counts::LAWS],
     first: &[u8; Counts::ENTRIES],
     last: &[u8; Counts::ENTRIES],
-    entries: u64,
     count: usize,
+    step: Step,
     history: &[i16; HISTORY],
-    j: usize,
 ) -> Check
     requires { ⌜ (count ≤ mostEntries) × ((i : ℕ) → i < mostEntries → getD (now last) i 0 ≤ mostLaws) ⌝ }
     ensures { λ r. ⌜ ((d : Domain) (h : History) (n : ℕ) (names : Names) → Lawful d (now (held .entry)) n → Owns (now (owners .entry)) n (now (first .entry)) (now (last .entry)) → Owned d (now (owners .entry))
-        → Occurring d names entries → length (d .entries) ≡ count → Seen true d h (now (history .entry)) j → passOf r ≡ each (mayOccur d h j names) (d .entries)) ⌝ }
+        → Occurring d names (step .entries) → length (d .entries) ≡ count → Seen true d h (now (history .entry)) (step .j) → passOf r ≡ each (mayOccur d h (step .j) names) (d .entries)) ⌝ }
 {
     let mut i = 0;
     while i < count {
-        if has_entry(entries, i) {
-            if let Check::Failed(fault, n) = check_entry(
-                held,
-                owners,
-                wide(first[i]),
-                wide(last[i]),
-                history,
-                j,
-                i,
-            ) {
+        if has_entry(step.entries, i) {
+            let from = wide(first[i]);
+            let to = wide(last[i]);
+            let run = Run { from, to };
+            if let Check::Failed(fault, n) = check_entry(held, owners, run, history, step.j, i) {
                 return Check::Failed(fault, n);
             }
         }
@@ -159,18 +155,18 @@ fn check_law(
 // 3, 6 and the goals: each law of a kind in order.
 pub(crate) fn check_laws(
     held: &[u8; HELD],
-    from: usize,
-    to: usize,
+    run: Run,
     kind: u8,
     fault: Fault,
     history: &[i16; HISTORY],
     j: usize,
 ) -> Check
-    requires { ⌜ to ≤ mostLaws ⌝ }
-    ensures { λ r. ⌜ ((d : Domain) (h : History) (s : Scope) (n : ℕ) → kind ≡ scopeKind s → Lawful d (now (held .entry)) n → Within (now (held .entry)) n kind from to
+    requires { ⌜ run .to ≤ mostLaws ⌝ }
+    ensures { λ r. ⌜ ((d : Domain) (h : History) (s : Scope) (n : ℕ) → kind ≡ scopeKind s → Lawful d (now (held .entry)) n → Within (now (held .entry)) n kind (run .from) (run .to)
         → Seen (asks s) d h (now (history .entry)) j → passOf r ≡ allHold s (kindOf fault) d h j) ⌝ }
 {
-    let mut l = from;
+    let to = run.to;
+    let mut l = run.from;
     while l < to {
         if let Check::Failed(found, n) = check_law(held, FRAME * l, kind, fault, history, j, l) {
             return Check::Failed(found, n);

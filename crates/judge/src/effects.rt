@@ -45,21 +45,21 @@ fn same_level(a: i32, b: i32) -> bool
 // kind 4, the later law": the exit with a label carries that law.
 fn settle(
     held: &[u8; HELD],
-    from: usize,
-    to: usize,
+    run: Run,
     entries: u64,
     history: &[i16; HISTORY],
     j: usize,
     fluents: &mut [u8; Counts::LAWS],
     values: &mut [i32; Counts::LAWS],
 ) -> Settled
-    requires { ⌜ (to ≤ mostLaws) × ((length (now fluents) ≡ mostLaws) × (length (now values) ≡ mostLaws)) ⌝ }
-    ensures { λ r. ⌜ (countOf r ≤ mostLaws) × ((d : Domain) (h : History) (n : ℕ) (names : Names) → Lawful d (now (held .entry)) n → Within (now (held .entry)) n effectKind from to
+    requires { ⌜ (run .to ≤ mostLaws) × ((length (now fluents) ≡ mostLaws) × (length (now values) ≡ mostLaws)) ⌝ }
+    ensures { λ r. ⌜ (countOf r ≤ mostLaws) × ((d : Domain) (h : History) (n : ℕ) (names : Names) → Lawful d (now (held .entry)) n → Within (now (held .entry)) n effectKind (run .from) (run .to)
         → Occurring d names entries → Seen true d h (now (history .entry)) j → settledOf r (now (fluents .exit)) (now (values .exit)) ≡ settled d h j names 0 [] (d .laws)) ⌝ }
 {
+    let to = run.to;
     let mut bad = to;
     let mut m = 0;
-    let mut l = from;
+    let mut l = run.from;
     'laws: while l < to {
         match wanted(held, FRAME * l, entries, history, j) {
             Wants::Blank => {
@@ -110,8 +110,7 @@ pub(crate) fn lay_effects(
     let mut values = [0i32; Counts::LAWS];
     match settle(
         held,
-        effect.from,
-        effect.to,
+        effect,
         entries,
         history,
         j,

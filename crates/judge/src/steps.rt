@@ -6,12 +6,13 @@ ghost use lib.ListN.{length, take};
 ghost use Rattle.bmap.specs.Limits.{mostAgents, mostEntries, mostSteps};
 ghost use Rattle.bmap.specs.Domain.{Domain, Names};
 ghost use Rattle.bmap.specs.Sheet.{rows};
-ghost use Rattle.bmap.specs.Judge.{step, carried, judge, startOf, landed};
+ghost use Rattle.bmap.specs.Judge.{carried, judge, startOf, landed};
+ghost use Rattle.bmap.specs.Judge as paper;
 ghost use Rattle.law.specs.Evaluate.{historySize};
 ghost use Rattle.judge.specs.States.{stateAt, statesOf, leaving, Kept, marksFrom};
 ghost use Rattle.judge.specs.Told.{Belonging, Occurring, Acted};
 ghost use Rattle.judge.specs.Prepared.{Prepared, Landable, Runnable, RanThrough, Planned, judgedOf};
-use crate::acting::Acting;
+use crate::acting::Step;
 use crate::acting::acting_in;
 use crate::acting::idle_acting;
 use crate::checks::check_agents;
@@ -38,38 +39,28 @@ fn land(
     lowest: &[i16; Counts::FLUENTS],
     highest: &[i16; Counts::FLUENTS],
     w: usize,
-    entries: u64,
+    step: Step,
     history: &mut [i16; HISTORY],
-    j: usize,
 ) -> Check
-    requires { ⌜ Landable runs (now lowest) (now highest) w (now history) j ⌝ }
-    ensures { λ r. ⌜ Kept j (now (history .entry)) (now (history .exit)) × ((d : Domain) (owners : List ℕ) (n count : ℕ) (sheet : List Names) (names : Names)
-        → Prepared d (now (held .entry)) owners n runs (now (lowest .entry)) (now (highest .entry)) w count → Occurring d names entries → Acted d sheet (now (history .entry)) (j + 1)
-        → leaving r (stateAt w (now (history .exit)) (j + 1)) ≡ landed d sheet (statesOf w (j + 1) (now (history .entry))) j names) ⌝ }
+    requires { ⌜ Landable runs (now lowest) (now highest) w (now history) (step .j) ⌝ }
+    ensures { λ r. ⌜ Kept (step .j) (now (history .entry)) (now (history .exit)) × ((d : Domain) (owners : List ℕ) (n count : ℕ) (sheet : List Names) (names : Names)
+        → Prepared d (now (held .entry)) owners n runs (now (lowest .entry)) (now (highest .entry)) w count → Occurring d names (step .entries) → Acted d sheet (now (history .entry)) (step .j + 1)
+        → leaving r (stateAt w (now (history .exit)) (step .j + 1)) ≡ landed d sheet (statesOf w (step .j + 1) (now (history .entry))) (step .j) names) ⌝ }
 {
     let mut new = [0i32; Counts::FLUENTS];
-    old_levels(history, j, w, &mut new);
+    old_levels(history, step.j, w, &mut new);
     // "Effects are settled by values before the step": the present is state j, and the static laws are read on the next.
-    let present = j;
-    let next = j + 1;
+    let present = step.j;
+    let next = present + 1;
     if let Check::Failed(fault, n) =
-        lay_effects(held, runs.effect, entries, history, present, &mut new)
+        lay_effects(held, runs.effect, step.entries, history, present, &mut new)
     {
         return Check::Failed(fault, n);
     }
-    if let Check::Failed(fault, n) = put_state(lowest, highest, w, &new, history, j) {
+    if let Check::Failed(fault, n) = put_state(lowest, highest, w, &new, history, step.j) {
         return Check::Failed(fault, n);
     }
-    let fixed = runs.fixed;
-    check_laws(
-        held,
-        fixed.from,
-        fixed.to,
-        Kind::STATIC,
-        Fault::Static,
-        history,
-        next,
-    )
+    check_laws(held, runs.fixed, Kind::STATIC, Fault::Static, history, next)
 }
 
 // The step from state j: "First fault wins."
@@ -79,49 +70,39 @@ fn take_step(
     runs: Runs,
     lowest: &[i16; Counts::FLUENTS],
     highest: &[i16; Counts::FLUENTS],
-    w: usize,
-    count: usize,
+    counts: Counts,
     names: &[u8],
-    acting: Acting,
+    step: Step,
     history: &mut [i16; HISTORY],
-    j: usize,
 ) -> Check
-    requires { ⌜ ((length (now names) ≤ mostAgents) × (count ≤ mostEntries)) × Landable runs (now lowest) (now highest) w (now history) j ⌝ }
-    ensures { λ r. ⌜ Kept j (now (history .entry)) (now (history .exit)) × ((d : Domain) (n : ℕ) (sheet : List Names)
-        → Prepared d (now (held .entry)) (now (owners .entry)) n runs (now (lowest .entry)) (now (highest .entry)) w count
-        → Occurring d (now (names .entry)) (acting .entries) → Belonging d (now (names .entry)) (acting .agents) → Acted d sheet (now (history .entry)) (j + 1)
-        → leaving r (stateAt w (now (history .exit)) (j + 1)) ≡ step d sheet (statesOf w (j + 1) (now (history .entry))) j (now (names .entry))) ⌝ }
+    requires { ⌜ ((length (now names) ≤ mostAgents) × (counts .entries ≤ mostEntries)) × Landable runs (now lowest) (now highest) (counts .fluents) (now history) (step .j) ⌝ }
+    ensures { λ r. ⌜ Kept (step .j) (now (history .entry)) (now (history .exit)) × ((d : Domain) (n : ℕ) (sheet : List Names)
+        → Prepared d (now (held .entry)) (now (owners .entry)) n runs (now (lowest .entry)) (now (highest .entry)) (counts .fluents) (counts .entries)
+        → Occurring d (now (names .entry)) (step .entries) → Belonging d (now (names .entry)) (step .agents) → Acted d sheet (now (history .entry)) (step .j + 1)
+        → leaving r (stateAt (counts .fluents) (now (history .exit)) (step .j + 1)) ≡ paper.step d sheet (statesOf (counts .fluents) (step .j + 1) (now (history .entry))) (step .j) (now (names .entry))) ⌝ }
 {
-    if let Check::Failed(fault, n) = check_agents(names, acting.agents) {
+    if let Check::Failed(fault, n) = check_agents(names, step.agents) {
         return Check::Failed(fault, n);
     }
     let first = runs.first;
     let last = runs.last;
-    if let Check::Failed(fault, n) = check_entries(
-        held,
-        owners,
-        &first,
-        &last,
-        acting.entries,
-        count,
-        history,
-        j,
-    ) {
+    if let Check::Failed(fault, n) =
+        check_entries(held, owners, &first, &last, counts.entries, step, history)
+    {
         return Check::Failed(fault, n);
     }
     let together = runs.concurrency;
     if let Check::Failed(fault, n) = check_laws(
         held,
-        together.from,
-        together.to,
+        together,
         Kind::CONCURRENCY,
         Fault::Concurrency,
         history,
-        j,
+        step.j,
     ) {
         return Check::Failed(fault, n);
     }
-    land(held, runs, lowest, highest, w, acting.entries, history, j)
+    land(held, runs, lowest, highest, counts.fluents, step, history)
 }
 
 // A verdict, and how many states were reached.
@@ -169,18 +150,13 @@ fn run_steps(
         let names = &rest[..agents];
         let acting = acting_in(names, idle, &actions, &crews, counts.entries);
         mark_step(history, j, acting.entries, counts.entries);
-        if let Check::Failed(fault, number) = take_step(
-            held,
-            &owners,
-            runs,
-            &lowest,
-            &highest,
-            counts.fluents,
-            counts.entries,
-            names,
-            acting,
-            history,
+        let step = Step {
+            entries: acting.entries,
+            agents: acting.agents,
             j,
+        };
+        if let Check::Failed(fault, number) = take_step(
+            held, &owners, runs, &lowest, &highest, counts, names, step, history,
         ) {
             return Ran {
                 verdict: Verdict::Broken {
@@ -219,8 +195,7 @@ pub(crate) fn run_sheet(
     let fixed = runs.fixed;
     if let Check::Failed(fault, number) = check_laws(
         held,
-        fixed.from,
-        fixed.to,
+        fixed,
         Kind::STATIC,
         Fault::Static,
         history,
@@ -244,8 +219,7 @@ pub(crate) fn run_sheet(
     let goal = runs.goal;
     if let Check::Failed(fault, number) = check_laws(
         held,
-        goal.from,
-        goal.to,
+        goal,
         Kind::GOAL,
         Fault::Goal,
         history,

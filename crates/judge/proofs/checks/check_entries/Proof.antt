@@ -16,11 +16,11 @@ use Rattle.judge.proofs.checks.check_entries.Statement.{statement}
 use Rattle.judge.proofs.checks.check_entries.Tie as tie
 
 abbrev Inv-loop : tie.InvT-loop
-Inv-loop held owners first last entries count history j i₀ i = (d : Domain) (h : History) (n : ℕ) (names : Names) → Lawful d held n → Owns owners n first last → Owned d owners → Occurring d names entries → length (d .entries) ≡ count → Seen true d h history j
-    → eachFrom 0 (mayOccur d h j names) (d .entries) ≡ eachFrom i (mayOccur d h j names) (drop i (d .entries))
+Inv-loop held owners first last count step history i₀ i = (d : Domain) (h : History) (n : ℕ) (names : Names) → Lawful d held n → Owns owners n first last → Owned d owners → Occurring d names (step .entries) → length (d .entries) ≡ count → Seen true d h history (step .j)
+    → eachFrom 0 (mayOccur d h (step .j) names) (d .entries) ≡ eachFrom i (mayOccur d h (step .j) names) (drop i (d .entries))
 
 abbrev μ-loop : tie.MeasureT-loop
-μ-loop held owners first last entries count history j i₀ i = count - i
+μ-loop held owners first last count step history i₀ i = count - i
 
 loop-holds : tie.Need-loop-holds Inv-loop μ-loop
 loop-holds c = λ d h n names lawful owns owned occurring count seen. refl
@@ -47,10 +47,10 @@ enum-known-fault : tie.Need-enum-known-fault Inv-loop μ-loop
 enum-known-fault c = search needs
 
 returns : tie.Need-returns Inv-loop μ-loop
-returns c = λ d h n names lawful owns owned occurring count seen. let a = c .before .before .before .before .before .before .before .before .before .before .before .before .args in let f = mayOccur d h (a .j) names in let i = c .before .before .before .before .before .before .before .before .before .before .before .loop .i in
+returns c = λ d h n names lawful owns owned occurring count seen. let a = c .before .before .before .before .before .before .before .before .before .before .before .before .args in let f = mayOccur d h (a .step .j) names in let i = c .before .before .before .before .before .before .before .before .before .before .before .loop .i in
     let p : i < length (d .entries) = omega (arith, c .before .before .before .before .before .before .before .before .before .before .loop-test .taken) in
     sym (c .before .before .before .before .before .before .before .before .before .before .before .loop .inv d h n names lawful owns owned occurring count seen ∙ stops (λ k r. eachFrom k f r) (d .entries) noEntry i p (each-stop f i _ _
-    (occurs-may d h (a .j) names i _ (sym (occurring i p ∙ (sym (c .before .before .before .before .before .before .before .before .before .has-entry .ensures) ∙ c .before .before .before .before .before .before .before .before .if1 .taken))) ∙ (sym (c .before .before .before .check-entry .ensures d h n lawful (own-moved (c .before .before .before .before .before .before .wide .ensures) (c .before .before .before .before .wide2 .ensures) (owns i (omega arith))) owned seen) ∙ ap passOf (c .before .fault .given .1)))))
+    (occurs-may d h (a .step .j) names i _ (sym (occurring i p ∙ (sym (c .before .before .before .before .before .before .before .before .before .has-entry .ensures) ∙ c .before .before .before .before .before .before .before .before .if1 .taken))) ∙ (sym (c .before .before .before .check-entry .ensures d h n lawful (own-moved (c .before .before .before .before .before .before .wide .ensures) (c .before .before .before .before .wide2 .ensures) (owns i (omega arith))) owned seen) ∙ ap passOf (c .before .fault .given .1)))))
 
 enum-told : tie.Need-enum-told Inv-loop μ-loop
 enum-told c = search needs
@@ -62,15 +62,15 @@ loop-less : tie.Need-loop-less Inv-loop μ-loop
 loop-less c = search needs
 
 loop-again : tie.Need-loop-again Inv-loop μ-loop
-loop-again c = λ d h n names lawful owns owned occurring count seen. let a = c .before .before .before .before .args in let f = mayOccur d h (a .j) names in let i = c .before .before .before .loop .i in
+loop-again c = λ d h n names lawful owns owned occurring count seen. let a = c .before .before .before .before .args in let f = mayOccur d h (a .step .j) names in let i = c .before .before .before .loop .i in
     let p : i < length (d .entries) = omega (arith, c .before .before .loop-test .taken) in
     c .before .before .before .loop .inv d h n names lawful owns owned occurring count seen ∙ on (λ k r. eachFrom k f r) (d .entries) noEntry i p (each-on f i _ _ (⊎-elim
-    (λ w. occurs-may d h (a .j) names i _ (sym (occurring i p ∙ (sym (c .before .has-entry .ensures) ∙ w .0 .taken))) ∙ (sym (w .5 .ensures d h n lawful (own-moved (w .2 .ensures) (w .4 .ensures) (owns i (omega arith))) owned seen) ∙ ap passOf (w .7 .given .1)))
-    (λ w. occurs-not d h (a .j) names i _ (sym (occurring i p ∙ (sym (c .before .has-entry .ensures) ∙ w .left))))
+    (λ w. occurs-may d h (a .step .j) names i _ (sym (occurring i p ∙ (sym (c .before .has-entry .ensures) ∙ w .0 .taken))) ∙ (sym (w .5 .ensures d h n lawful (own-moved (w .2 .ensures) (w .4 .ensures) (owns i (omega arith))) owned seen) ∙ ap passOf (w .7 .given .1)))
+    (λ w. occurs-not d h (a .step .j) names i _ (sym (occurring i p ∙ (sym (c .before .has-entry .ensures) ∙ w .left))))
     (c .if1 .came)))
 
 returns-2 : tie.Need-returns-2 Inv-loop μ-loop
-returns-2 c = λ d h n names lawful owns owned occurring count seen. let a = c .before .before .args in let f = mayOccur d h (a .j) names in
+returns-2 c = λ d h n names lawful owns owned occurring count seen. let a = c .before .before .args in let f = mayOccur d h (a .step .j) names in
     sym (c .before .loop .inv d h n names lawful owns owned occurring count seen ∙ (ends (λ k r. eachFrom k f r) (d .entries) noEntry (c .before .loop .i) (omega (arith, c .loop-test .left)) ∙ each-none f (c .before .loop .i)))
 
 pub check-entries-spec : {M : Type 1} → statement M

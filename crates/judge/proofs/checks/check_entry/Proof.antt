@@ -17,14 +17,14 @@ use Rattle.judge.proofs.checks.check_entry.Statement.{statement}
 use Rattle.judge.proofs.checks.check_entry.Tie as tie
 
 abbrev Inv-loop : tie.InvT-loop
-Inv-loop held owners from to history j i l₀ l = (d : Domain) (h : History) (n : ℕ) → Lawful d held n → Own owners n i from to → Owned d owners → Seen true d h history j → permitted d h j i 0 (d .laws) ≡ permitted d h j i l (drop l (d .laws))
+Inv-loop held owners history j i to l₀ l = (d : Domain) (h : History) (n : ℕ) → Lawful d held n → Own owners n i l₀ to → Owned d owners → Seen true d h history j → permitted d h j i 0 (d .laws) ≡ permitted d h j i l (drop l (d .laws))
 
 abbrev μ-loop : tie.MeasureT-loop
-μ-loop held owners from to history j i l₀ l = to - l
+μ-loop held owners history j i to l₀ l = to - l
 
 loop-holds : tie.Need-loop-holds Inv-loop μ-loop
 loop-holds c = λ d h n lawful own owned seen. let s = c .args in
-    own-starts d h (s .j) (s .i) (s .held .now) (s .owners .now) n (s .from) (s .to) lawful owned own
+    own-starts d h (s .j) (s .i) (s .held .now) (s .owners .now) n (s .run .from) (s .run .to) lawful owned own
 
 try-law-requires : tie.Need-try-law-requires Inv-loop μ-loop
 try-law-requires c κs = search needs
@@ -34,7 +34,7 @@ enum-told c = search needs
 
 returns : tie.Need-returns Inv-loop μ-loop
 returns c = λ d h n lawful own owned seen. let s = c .before .before .before .before .before .args in let l = c .before .before .before .before .loop .l in
-    sym (c .before .before .before .before .loop .inv d h n lawful own owned seen ∙ stops (λ k r. permitted d h (s .j) (s .i) k r) (d .laws) noLaw l (own-law d h (s .j) (s .i) (s .held .now) (s .owners .now) n (s .from) (s .to) lawful owned own l (c .before .before .before .loop-test .taken))
+    sym (c .before .before .before .before .loop .inv d h n lawful own owned seen ∙ stops (λ k r. permitted d h (s .j) (s .i) k r) (d .laws) noLaw l (own-law d h (s .j) (s .i) (s .held .now) (s .owners .now) n (s .run .from) (s .run .to) lawful owned own l (c .before .before .before .loop-test .taken))
     (permitted-blank d h (s .j) (s .i) l _ _ (sym (c .before .before .try-law .ensures d h n lawful (omega (arith, own .ends)) owned seen) ∙ ap truthOf (c .enum-told .given .1))))
 
 enum-known-allowed : tie.Need-enum-known-allowed Inv-loop μ-loop
@@ -42,7 +42,7 @@ enum-known-allowed c = search needs
 
 returns-2 : tie.Need-returns-2 Inv-loop μ-loop
 returns-2 c = λ d h n lawful own owned seen. let s = c .before .before .before .before .before .before .before .args in let l = c .before .before .before .before .before .before .loop .l in
-    sym (c .before .before .before .before .before .before .loop .inv d h n lawful own owned seen ∙ stops (λ k r. permitted d h (s .j) (s .i) k r) (d .laws) noLaw l (own-law d h (s .j) (s .i) (s .held .now) (s .owners .now) n (s .from) (s .to) lawful owned own l (c .before .before .before .before .before .loop-test .taken))
+    sym (c .before .before .before .before .before .before .loop .inv d h n lawful own owned seen ∙ stops (λ k r. permitted d h (s .j) (s .i) k r) (d .laws) noLaw l (own-law d h (s .j) (s .i) (s .held .now) (s .owners .now) n (s .run .from) (s .run .to) lawful owned own l (c .before .before .before .before .before .loop-test .taken))
     (permitted-true d h (s .j) (s .i) l _ _ (sym (c .before .before .before .before .try-law .ensures d h n lawful (omega (arith, own .ends)) owned seen) ∙ (ap truthOf (c .before .before .allowed .given .1) ∙ ap value (c .if1 .taken)))))
 
 add-l : tie.Need-add-l Inv-loop μ-loop
@@ -53,12 +53,12 @@ loop-less c = search needs
 
 loop-again : tie.Need-loop-again Inv-loop μ-loop
 loop-again c = λ d h n lawful own owned seen. let s = c .before .before .before .before .before .before .before .args in let l = c .before .before .before .before .before .before .loop .l in
-    c .before .before .before .before .before .before .loop .inv d h n lawful own owned seen ∙ on (λ k r. permitted d h (s .j) (s .i) k r) (d .laws) noLaw l (own-law d h (s .j) (s .i) (s .held .now) (s .owners .now) n (s .from) (s .to) lawful owned own l (c .before .before .before .before .before .loop-test .taken))
+    c .before .before .before .before .before .before .loop .inv d h n lawful own owned seen ∙ on (λ k r. permitted d h (s .j) (s .i) k r) (d .laws) noLaw l (own-law d h (s .j) (s .i) (s .held .now) (s .owners .now) n (s .run .from) (s .run .to) lawful owned own l (c .before .before .before .before .before .loop-test .taken))
     (permitted-on d h (s .j) (s .i) l _ _ (sym (c .before .before .before .before .try-law .ensures d h n lawful (omega (arith, own .ends)) owned seen) ∙ (ap truthOf (c .before .before .allowed .given .1) ∙ ap value (c .if1 .left))))
 
 returns-3 : tie.Need-returns-3 Inv-loop μ-loop
 returns-3 c = λ d h n lawful own owned seen. let s = c .before .before .args in let l = c .before .loop .l in
-    sym (c .before .loop .inv d h n lawful own owned seen ∙ own-ends d h (s .j) (s .i) (s .held .now) (s .owners .now) n (s .from) (s .to) lawful owned own l (c .loop-test .left))
+    sym (c .before .loop .inv d h n lawful own owned seen ∙ own-ends d h (s .j) (s .i) (s .held .now) (s .owners .now) n (s .run .from) (s .run .to) lawful owned own l (c .loop-test .left))
 
 pub check-entry-spec : {M : Type 1} → statement M
 check-entry-spec =

@@ -15,15 +15,15 @@ use Rattle.judge.proofs.checks.check_laws.Statement.{statement}
 use Rattle.judge.proofs.checks.check_laws.Tie as tie
 
 abbrev Inv-loop : tie.InvT-loop
-Inv-loop held from to kind fault history j l₀ l = (d : Domain) (h : History) (s : Scope) (n : ℕ) → kind ≡ scopeKind s → Lawful d held n → Within held n kind from to → Seen (asks s) d h history j
+Inv-loop held kind fault history j to l₀ l = (d : Domain) (h : History) (s : Scope) (n : ℕ) → kind ≡ scopeKind s → Lawful d held n → Within held n kind l₀ to → Seen (asks s) d h history j
     → eachFrom 0 (holds s (kindOf fault) h j) (d .laws) ≡ eachFrom l (holds s (kindOf fault) h j) (drop l (d .laws))
 
 abbrev μ-loop : tie.MeasureT-loop
-μ-loop held from to kind fault history j l₀ l = to - l
+μ-loop held kind fault history j to l₀ l = to - l
 
 loop-holds : tie.Need-loop-holds Inv-loop μ-loop
 loop-holds c = λ d h s n kind lawful within seen. let a = c .args in let f = holds s (kindOf (a .fault)) h (a .j) in
-    run-starts (λ k r. eachFrom k f r) d (a .held .now) n (a .kind) (a .from) (a .to) lawful within
+    run-starts (λ k r. eachFrom k f r) d (a .held .now) n (a .kind) (a .run .from) (a .run .to) lawful within
     (λ k l r w q. each-on f k l r (holds-other d _ s (kindOf (a .fault)) h (a .j) k l w (λ e. q (e ∙ sym kind))))
 
 mul-check-law : tie.Need-mul-check-law Inv-loop μ-loop
@@ -37,9 +37,9 @@ enum-known-found c = search needs
 
 returns : tie.Need-returns Inv-loop μ-loop
 returns c = λ d h s n kind lawful within seen. let a = c .before .before .before .before .before .before .args in let f = holds s (kindOf (a .fault)) h (a .j) in let l = c .before .before .before .before .before .loop .l in
-    let i = run-law d _ n (a .kind) (a .from) (a .to) l lawful within (c .before .before .before .before .loop-test .taken) in
+    let i = run-law d _ n (a .kind) (a .run .from) (a .run .to) l lawful within (c .before .before .before .before .loop-test .taken) in
     sym (c .before .before .before .before .before .loop .inv d h s n kind lawful within seen ∙ stops (λ k r. eachFrom k f r) (d .laws) noLaw l i (each-stop f l _ _
-    (sym (c .before .before .before .check-law .ensures d h s (lawNumber d l) kind ((run-says d _ n (a .kind) (a .from) (a .to) l lawful within (c .before .before .before .before .loop-test .taken))) seen) ∙ ap passOf (c .before .found .given .1))))
+    (sym (c .before .before .before .check-law .ensures d h s (lawNumber d l) kind ((run-says d _ n (a .kind) (a .run .from) (a .run .to) l lawful within (c .before .before .before .before .loop-test .taken))) seen) ∙ ap passOf (c .before .found .given .1))))
 
 enum-told : tie.Need-enum-told Inv-loop μ-loop
 enum-told c = search needs
@@ -52,13 +52,13 @@ loop-less c = search needs
 
 loop-again : tie.Need-loop-again Inv-loop μ-loop
 loop-again c = λ d h s n kind lawful within seen. let a = c .before .before .before .before .before .args in let f = holds s (kindOf (a .fault)) h (a .j) in let l = c .before .before .before .before .loop .l in
-    let i = run-law d _ n (a .kind) (a .from) (a .to) l lawful within (c .before .before .before .loop-test .taken) in
+    let i = run-law d _ n (a .kind) (a .run .from) (a .run .to) l lawful within (c .before .before .before .loop-test .taken) in
     c .before .before .before .before .loop .inv d h s n kind lawful within seen ∙ on (λ k r. eachFrom k f r) (d .laws) noLaw l i (each-on f l _ _
-    (sym (c .before .before .check-law .ensures d h s (lawNumber d l) kind ((run-says d _ n (a .kind) (a .from) (a .to) l lawful within (c .before .before .before .loop-test .taken))) seen) ∙ ap passOf (c .enum-told .given .1)))
+    (sym (c .before .before .check-law .ensures d h s (lawNumber d l) kind ((run-says d _ n (a .kind) (a .run .from) (a .run .to) l lawful within (c .before .before .before .loop-test .taken))) seen) ∙ ap passOf (c .enum-told .given .1)))
 
 returns-2 : tie.Need-returns-2 Inv-loop μ-loop
 returns-2 c = λ d h s n kind lawful within seen. let a = c .before .before .args in let f = holds s (kindOf (a .fault)) h (a .j) in
-    sym (c .before .loop .inv d h s n kind lawful within seen ∙ run-ends (λ k r. eachFrom k f r) d (a .held .now) n (a .kind) (a .from) (a .to) lawful within
+    sym (c .before .loop .inv d h s n kind lawful within seen ∙ run-ends (λ k r. eachFrom k f r) d (a .held .now) n (a .kind) (a .run .from) (a .run .to) lawful within
     (λ k l r w q. each-on f k l r (holds-other d _ s (kindOf (a .fault)) h (a .j) k l w (λ e. q (e ∙ sym kind)))) (c .before .loop .l) (c .loop-test .left) (each-none f))
 
 pub check-laws-spec : {M : Type 1} → statement M

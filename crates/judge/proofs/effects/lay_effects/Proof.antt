@@ -31,7 +31,7 @@ lay-requires c κs = (subst (λ (t : Settled). countOf t ≤ mostLaws) (c .befor
 returns-2 : tie.Need-returns-2
 returns-2 c = let settling = c .before .before .before .settle in (
   c .before .before .before .before .before .before .before .pre .1,
-  λ d h n names w old lawful within occurring seen few laid. sym (ap (λ (t : Settled). settledOf t (settling .last .1 .1 .1 .1 .1 .1 .0) (settling .last .1 .1 .1 .1 .1 .1 .1 .0)) (c .before .fault .given .1)) ∙ settling .ensures .1 d h n names lawful within occurring seen,
+  λ d h n names w old lawful within occurring seen few laid. sym (ap (λ (t : Settled). settledOf t (settling .last .1 .1 .1 .1 .1 .0) (settling .last .1 .1 .1 .1 .1 .1 .0)) (c .before .fault .given .1)) ∙ settling .ensures .1 d h n names lawful within occurring seen,
 )
 
 returns-3 : tie.Need-returns-3
@@ -39,7 +39,7 @@ returns-3 c = let settling = c .before .before .before .before .before .before .
   c .lay .ensures .0,
   λ d h n names w old lawful within occurring seen few laid. record {
     settings = _;
-    are = sym (ap (λ (t : Settled). settledOf t (settling .last .1 .1 .1 .1 .1 .1 .0) (settling .last .1 .1 .1 .1 .1 .1 .1 .0)) (c .before .before .before .before .before .m .given .1)) ∙ settling .ensures .1 d h n names lawful within occurring seen;
+    are = sym (ap (λ (t : Settled). settledOf t (settling .last .1 .1 .1 .1 .1 .0) (settling .last .1 .1 .1 .1 .1 .1 .0)) (c .before .before .before .before .before .m .given .1)) ∙ settling .ensures .1 d h n names lawful within occurring seen;
     laid = c .lay .ensures .1 w old few laid;
   },
 )

@@ -35,18 +35,18 @@ Gives held from to entries history j y =
     → settled d h j names 0 [] (d .laws) ≡ y d h names
 
 abbrev Inv-loop : tie.InvT-loop
-Inv-loop held from to entries history j fluents values bad₀ m l f v i₀ bad i = (bad ≡ bad₀) × ((i ≤ m) × (all (agrees (setting f (toZ w32 v))) (settingsOf m fluents values) ≡ all (agrees (setting f (toZ w32 v))) (settingsOf i fluents values)))
+Inv-loop held entries history j fluents values to bad₀ m l f v i₀ bad i = (bad ≡ bad₀) × ((i ≤ m) × (all (agrees (setting f (toZ w32 v))) (settingsOf m fluents values) ≡ all (agrees (setting f (toZ w32 v))) (settingsOf i fluents values)))
 
 abbrev μ-loop : tie.MeasureT-loop
-μ-loop held from to entries history j fluents values bad₀ m l f v i₀ bad i = i
+μ-loop held entries history j fluents values to bad₀ m l f v i₀ bad i = i
 
 abbrev Inv-laws : tie.InvT-laws
-Inv-laws held from to entries history j fluents₀ values₀ bad₀ m₀ l₀ fluents values bad m l =
+Inv-laws held entries history j fluents₀ values₀ to bad₀ m₀ l₀ fluents values bad m l =
     ((bad ≡ to) × ((list.length fluents ≡ mostLaws) × (list.length values ≡ mostLaws))) × (((m ≤ l) × (m ≤ to))
-    × Gives held from to entries history j (λ d h names. settled d h j names l (settingsOf m fluents values) (drop l (d .laws))))
+    × Gives held l₀ to entries history j (λ d h names. settled d h j names l (settingsOf m fluents values) (drop l (d .laws))))
 
 abbrev μ-laws : tie.MeasureT-laws
-μ-laws held from to entries history j fluents₀ values₀ bad₀ m₀ l₀ fluents values bad m l =
+μ-laws held entries history j fluents₀ values₀ to bad₀ m₀ l₀ fluents values bad m l =
     to - l
 
 laws-holds : tie.Need-laws-holds Inv-loop μ-loop Inv-laws μ-laws
@@ -56,7 +56,7 @@ laws-holds c = let s = c .args in (
   (
     (search needs, search needs),
     λ d h n names lawful within occurring seen.
-        run-starts (λ k r. settled d h (s .j) names k [] r) d (s .held .now) n 0xA6 (s .from) (s .to) lawful within
+        run-starts (λ k r. settled d h (s .j) names k [] r) d (s .held .now) n 0xA6 (s .run .from) (s .run .to) lawful within
         (λ k l r w q. settled-idle d h (s .j) names k [] l r (sets-none d h (s .j) names _ l w q)),
   ),
 )
@@ -75,8 +75,8 @@ returns c = let s = c .before .before .before .before .before .args in (
   omega arith,
   λ d h n names lawful within occurring seen.
       sym (c .before .before .before .before .laws .inv .1 .1 d h n names lawful within occurring seen
-      ∙ settled-blank d h (s .j) names (d .laws) (c .before .before .before .before .laws .l) _ (run-law d _ n 0xA6 (s .from) (s .to) (c .before .before .before .before .laws .l) lawful within (c .before .before .before .laws-test .taken))
-      (sym (c .before .before .wanted .ensures d h (lawNumber d (c .before .before .before .before .laws .l)) names (lawful .long) ((run-says d _ n 0xA6 (s .from) (s .to) (c .before .before .before .before .laws .l) lawful within (c .before .before .before .laws-test .taken))) occurring seen) ∙ ap wantsOf (c .enum-told .given .1))),
+      ∙ settled-blank d h (s .j) names (d .laws) (c .before .before .before .before .laws .l) _ (run-law d _ n 0xA6 (s .run .from) (s .run .to) (c .before .before .before .before .laws .l) lawful within (c .before .before .before .laws-test .taken))
+      (sym (c .before .before .wanted .ensures d h (lawNumber d (c .before .before .before .before .laws .l)) names (lawful .long) ((run-says d _ n 0xA6 (s .run .from) (s .run .to) (c .before .before .before .before .laws .l) lawful within (c .before .before .before .laws-test .taken))) occurring seen) ∙ ap wantsOf (c .enum-told .given .1))),
 )
 
 enum-known-f : tie.Need-enum-known-f Inv-loop μ-loop Inv-laws μ-laws
@@ -148,8 +148,8 @@ laws-again c = let s = c .before .before .before .before .args in let l = c .bef
       (
         (omega arith, omega arith),
         λ d h n names lawful within occurring seen. c .before .before .before .laws .inv .1 .1 d h n names lawful within occurring seen
-            ∙ settled-puts d h (s .j) names (d .laws) l (settingsOf m fs vs) (run-law d _ n 0xA6 (s .from) (s .to) l lawful within (c .before .before .laws-test .taken))
-            (sym (c .before .wanted .ensures d h (lawNumber d l) names (lawful .long) ((run-says d _ n 0xA6 (s .from) (s .to) l lawful within (c .before .before .laws-test .taken))) occurring seen)
+            ∙ settled-puts d h (s .j) names (d .laws) l (settingsOf m fs vs) (run-law d _ n 0xA6 (s .run .from) (s .run .to) l lawful within (c .before .before .laws-test .taken))
+            (sym (c .before .wanted .ensures d h (lawNumber d l) names (lawful .long) ((run-says d _ n 0xA6 (s .run .from) (s .run .to) l lawful within (c .before .before .laws-test .taken))) occurring seen)
             ∙ (ap wantsOf (w .1 .given .1) ∙ ap (λ (y : ℤ). value (some (setting f y))) (sym (back32 (w .1 .given .0 .1 .0) (w .2 .given .1 .0 .1)))))
             (w .3 .inv .1 .1 ∙ settings-none _ _ _ (w .4 .left)) put,
       ),
@@ -159,33 +159,33 @@ laws-again c = let s = c .before .before .before .before .args in let l = c .bef
       (
         (omega arith, omega arith),
         λ d h n names lawful within occurring seen. c .before .before .before .laws .inv .1 .1 d h n names lawful within occurring seen
-            ∙ settled-leaves d h (s .j) names (d .laws) l (settingsOf m fs vs) (run-law d _ n 0xA6 (s .from) (s .to) l lawful within (c .before .before .laws-test .taken))
-            (sym (c .before .wanted .ensures d h (lawNumber d l) names (lawful .long) ((run-says d _ n 0xA6 (s .from) (s .to) l lawful within (c .before .before .laws-test .taken))) occurring seen) ∙ ap wantsOf (w .1 .given .1)) kept,
+            ∙ settled-leaves d h (s .j) names (d .laws) l (settingsOf m fs vs) (run-law d _ n 0xA6 (s .run .from) (s .run .to) l lawful within (c .before .before .laws-test .taken))
+            (sym (c .before .wanted .ensures d h (lawNumber d l) names (lawful .long) ((run-says d _ n 0xA6 (s .run .from) (s .run .to) l lawful within (c .before .before .laws-test .taken))) occurring seen) ∙ ap wantsOf (w .1 .given .1)) kept,
       ),
     ))
     (c .match .came)
 
 -- where the ways out of the loop over the laws meet: by its test, with all settled, or by the break, with the law at fault
 abbrev Whole : tie.Left-laws Inv-loop μ-loop Inv-laws μ-laws → (Domain → History → Names → Checked (List Setting)) → Type 0
-Whole c y = let s = c .before .before .args in Gives (s .held .now) (s .from) (s .to) (s .entries) (s .history .now) (s .j) y
+Whole c y = let s = c .before .before .args in Gives (s .held .now) (s .run .from) (s .run .to) (s .entries) (s .history .now) (s .j) y
 
 answer : (c : tie.Left-laws Inv-loop μ-loop Inv-laws μ-laws)
-    → ((c .before .before .args .to ≤ c .laws-test .bad) × Whole c (λ d h names. fine (settingsOf (c .before .laws .m) (c .before .laws .fluents) (c .before .laws .values))))
-    ⊎ ((c .laws-test .bad < c .before .before .args .to) × Whole c (λ d h names. fault 4 (c .laws-test .bad)))
+    → ((c .before .before .args .run .to ≤ c .laws-test .bad) × Whole c (λ d h names. fine (settingsOf (c .before .laws .m) (c .before .laws .fluents) (c .before .laws .values))))
+    ⊎ ((c .laws-test .bad < c .before .before .args .run .to) × Whole c (λ d h names. fault 4 (c .laws-test .bad)))
 answer c = let s = c .before .before .args in let l = c .before .laws .l in ⊎-elim
     (λ w. inl (
       omega arith,
       λ d h n names lawful within occurring seen.
           c .before .laws .inv .1 .1 d h n names lawful within occurring seen
-          ∙ run-ends (λ k r. settled d h (s .j) names k (settingsOf (c .before .laws .m) (c .before .laws .fluents) (c .before .laws .values)) r) d (s .held .now) n 0xA6 (s .from) (s .to) lawful within
+          ∙ run-ends (λ k r. settled d h (s .j) names k (settingsOf (c .before .laws .m) (c .before .laws .fluents) (c .before .laws .values)) r) d (s .held .now) n 0xA6 (s .run .from) (s .run .to) lawful within
           (λ k l r w q. settled-idle d h (s .j) names k _ l r (sets-none d h (s .j) names _ l w q)) l (w .0 .left) (λ k. settled-none d h (s .j) names k _),
     ))
     (λ w. inr (
       omega arith,
       λ d h n names lawful within occurring seen.
           c .before .laws .inv .1 .1 d h n names lawful within occurring seen
-          ∙ (settled-clash d h (s .j) names (d .laws) l _ (run-law d _ n 0xA6 (s .from) (s .to) l lawful within (w .0 .taken))
-          (sym (w .1 .ensures d h (lawNumber d l) names (lawful .long) ((run-says d _ n 0xA6 (s .from) (s .to) l lawful within (w .0 .taken))) occurring seen)
+          ∙ (settled-clash d h (s .j) names (d .laws) l _ (run-law d _ n 0xA6 (s .run .from) (s .run .to) l lawful within (w .0 .taken))
+          (sym (w .1 .ensures d h (lawNumber d l) names (lawful .long) ((run-says d _ n 0xA6 (s .run .from) (s .run .to) l lawful within (w .0 .taken))) occurring seen)
           ∙ (ap wantsOf (w .3 .given .1) ∙ ap (λ (y : ℤ). value (some (setting (w .3 .given .0 .0) y))) (sym (back32 (w .3 .given .0 .1 .0) (w .4 .given .1 .0 .1)))))
           (w .5 .inv .1 .1 ∙ settings-clash _ _ _ _ (w .5 .i) (w .6 .taken) (w .8 .taken) (same-back (getD (c .before .laws .values) (w .5 .i - 1) (pos 0)) _ (w .9 .given) (w .10 .ensures) (not-true _ (w .11 .taken))))
           ∙ ap (fault 4) (sym (w .12))),

@@ -65,7 +65,7 @@ turn : (c : tie.After-take-step Inv-loop μ-loop) (d : Domain) (l : ℕ) → let
     let at = c .before .before .before .before .before .before .before .before .before .before .before .before .loop in let marked = c .before .before .before .before .before .mark-step .last .0 in
     Prepared d (s .held .now) (s .plan .owners) l (s .plan .runs) (s .plan .lowest) (s .plan .highest) w (s .plan .counts .entries) → Entered d (s .plan .names) (s .plan .crews) (s .plan .counts .entries) → d .agents ≡ s .plan .counts .agents
     → Acted d sheet marked (at .j + 1)
-    × ((leaving (c .take-step .result) (stateAt w (c .take-step .last .1 .1 .1 .1 .1 .1 .1 .1 .1 .0) (at .j + 1)) ≡ step d sheet (statesOf w (at .j + 1) marked) (at .j) (take (s .plan .counts .agents) (at .rest .now)))
+    × ((leaving (c .take-step .result) (stateAt w (c .take-step .last .1 .1 .1 .1 .1 .1 .1 .1 .0) (at .j + 1)) ≡ step d sheet (statesOf w (at .j + 1) marked) (at .j) (take (s .plan .counts .agents) (at .rest .now)))
     × (carried d sheet 0 (statesOf w 1 (s .history .now)) sheet ≡ carried d sheet (at .j) (statesOf w (at .j + 1) marked) (rows (s .plan .counts .agents) (s .n - at .j) (at .rest .now))))
 turn c d l p entered agents =
     let start = c .before .before .before .before .before .before .before .before .before .before .before .before .before .before .before .before .before .before .before .before .before .before .before .before in let s = start .args in let sheet = rows (s .plan .counts .agents) (s .n) (s .sheet .now) in let w = s .plan .counts .fluents in
@@ -86,14 +86,14 @@ turn c d l p entered agents =
 enum-known-fault : tie.Need-enum-known-fault Inv-loop μ-loop
 enum-known-fault c = search needs
 
-add-t34 : tie.Need-add-t34 Inv-loop μ-loop
-add-t34 c = omega (arith, c .before .before .before .before .before .before .before .before .before .before .before .before .before .before .loop-test .taken, c .before .before .before .before .before .before .before .before .before .before .before .before .before .before .before .before .before .before .before .before .before .before .before .before .before .before .before .pre .steps)
+add-t35 : tie.Need-add-t35 Inv-loop μ-loop
+add-t35 c = omega (arith, c .before .before .before .before .before .before .before .before .before .before .before .before .before .before .loop-test .taken, c .before .before .before .before .before .before .before .before .before .before .before .before .before .before .before .before .before .before .before .before .before .before .before .before .before .before .before .pre .steps)
 
-add-t36 : tie.Need-add-t36 Inv-loop μ-loop
-add-t36 c = omega (arith, c .before .before .before .before .before .before .before .before .before .before .before .before .before .before .loop-test .taken, c .before .before .before .before .before .before .before .before .before .before .before .before .before .before .before .before .before .before .before .before .before .before .before .before .before .before .before .pre .steps)
+add-t37 : tie.Need-add-t37 Inv-loop μ-loop
+add-t37 c = omega (arith, c .before .before .before .before .before .before .before .before .before .before .before .before .before .before .loop-test .taken, c .before .before .before .before .before .before .before .before .before .before .before .before .before .before .before .before .before .before .before .before .before .before .before .before .before .before .before .pre .steps)
 
 returns : tie.Need-returns Inv-loop μ-loop
-returns c = let start = c .before .before .before .before .before .before .before .before .before .before .before .before .before .before .before .before .before .before .before .before .before .before .before .before .before .before .before in let s = start .args in let w = s .plan .counts .fluents in let j = c .before .before .before .before .before .before .before .before .before .before .before .before .before .before .before .loop .j in let marked = c .before .before .before .before .before .before .before .before .mark-step .last .0 in let after = c .before .before .before .take-step .last .1 .1 .1 .1 .1 .1 .1 .1 .1 .0 in (
+returns c = let start = c .before .before .before .before .before .before .before .before .before .before .before .before .before .before .before .before .before .before .before .before .before .before .before .before .before .before .before in let s = start .args in let w = s .plan .counts .fluents in let j = c .before .before .before .before .before .before .before .before .before .before .before .before .before .before .before .loop .j in let marked = c .before .before .before .before .before .before .before .before .mark-step .last .0 in let after = c .before .before .before .take-step .last .1 .1 .1 .1 .1 .1 .1 .1 .0 in (
   record { most = omega (arith, c .before .before .before .before .before .before .before .before .before .before .before .before .before .before .loop-test .taken); all = λ e. absurd (let z : _≡_ {A = ℕ} 0 1 = cc in omega arith); room = c .before .before .before .take-step .ensures .0 .long },
   λ d l planned.
       let told = turn (c .before .before .before) d l (planned .prepared) (planned .entered) (planned .agents) in
@@ -120,7 +120,7 @@ loop-less : tie.Need-loop-less Inv-loop μ-loop
 loop-less c = search needs
 
 loop-again : tie.Need-loop-again Inv-loop μ-loop
-loop-again c = let start = c .before .before .before .before .before .before .before .before .before .before .before .before .before .before .before .before .before .before .before .before .before .before .before .before .before .before .before in let s = start .args in let w = s .plan .counts .fluents in let j = c .before .before .before .before .before .before .before .before .before .before .before .before .before .before .before .loop .j in let rest = c .before .before .before .before .before .before .before .before .before .before .before .before .before .before .before .loop .rest .now in let marked = c .before .before .before .before .before .before .before .before .mark-step .last .0 in let after = c .before .before .before .take-step .last .1 .1 .1 .1 .1 .1 .1 .1 .1 .0 in
+loop-again c = let start = c .before .before .before .before .before .before .before .before .before .before .before .before .before .before .before .before .before .before .before .before .before .before .before .before .before .before .before in let s = start .args in let w = s .plan .counts .fluents in let j = c .before .before .before .before .before .before .before .before .before .before .before .before .before .before .before .loop .j in let rest = c .before .before .before .before .before .before .before .before .before .before .before .before .before .before .before .loop .rest .now in let marked = c .before .before .before .before .before .before .before .before .mark-step .last .0 in let after = c .before .before .before .take-step .last .1 .1 .1 .1 .1 .1 .1 .1 .0 in
     let sheet = rows (s .plan .counts .agents) (s .n) (s .sheet .now) in
     let part : take (length rest - s .plan .counts .agents) (drop (s .plan .counts .agents) rest) ≡ drop (s .plan .counts .agents) rest = rest-is (s .plan .counts .agents) rest in (
       (omega (arith, c .before .before .before .before .before .before .before .before .before .before .before .before .before .before .loop-test .taken), ap length part ∙ row-left (s .plan .counts .agents) (s .n) j rest (c .before .before .before .before .before .before .before .before .before .before .before .before .before .before .loop-test .taken) (c .before .before .before .before .before .before .before .before .before .before .before .before .before .before .before .loop .inv .0 .1)),
@@ -142,8 +142,8 @@ loop-again c = let start = c .before .before .before .before .before .before .be
       ),
     )
 
-add-t41 : tie.Need-add-t41 Inv-loop μ-loop
-add-t41 c = search needs
+add-t42 : tie.Need-add-t42 Inv-loop μ-loop
+add-t42 c = search needs
 
 returns-2 : tie.Need-returns-2 Inv-loop μ-loop
 returns-2 c = let s = c .before .before .before .before .before .before .before .before .before .before .before .before .before .args in let z : c .before .loop .j ≡ s .n = omega arith in (
@@ -167,8 +167,8 @@ run-steps-spec =
     mark-step-requires
     take-step-requires
     enum-known-fault
-    add-t34
-    add-t36
+    add-t35
+    add-t37
     returns
     enum-told
     sub-rest
@@ -177,5 +177,5 @@ run-steps-spec =
     add-j
     loop-less
     loop-again
-    add-t41
+    add-t42
     returns-2)

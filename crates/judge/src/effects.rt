@@ -108,15 +108,7 @@ pub(crate) fn lay_effects(
     }
     let mut fluents = [0u8; Counts::LAWS];
     let mut values = [0i32; Counts::LAWS];
-    match settle(
-        held,
-        effect,
-        entries,
-        history,
-        j,
-        &mut fluents,
-        &mut values,
-    ) {
+    match settle(held, effect, entries, history, j, &mut fluents, &mut values) {
         Settled::Clash(fault, n) => Check::Failed(fault, n),
         Settled::Count(m) => {
             lay(&fluents, &values, m, new);

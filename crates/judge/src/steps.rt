@@ -52,9 +52,14 @@ fn land(
     // "Effects are settled by values before the step": the present is state j, and the static laws are read on the next.
     let present = step.j;
     let next = present + 1;
-    if let Check::Failed(fault, n) =
-        lay_effects(held, runs.effect, step.entries, history, present, &mut new)
-    {
+    if let Check::Failed(fault, n) = lay_effects(
+        held,
+        runs.effect,
+        step.entries,
+        history,
+        present,
+        &mut new,
+    ) {
         return Check::Failed(fault, n);
     }
     if let Check::Failed(fault, n) = put_state(lowest, highest, w, &new, history, step.j) {
@@ -86,9 +91,15 @@ fn take_step(
     }
     let first = runs.first;
     let last = runs.last;
-    if let Check::Failed(fault, n) =
-        check_entries(held, owners, &first, &last, counts.entries, step, history)
-    {
+    if let Check::Failed(fault, n) = check_entries(
+        held,
+        owners,
+        &first,
+        &last,
+        counts.entries,
+        step,
+        history,
+    ) {
         return Check::Failed(fault, n);
     }
     let together = runs.concurrency;
@@ -156,7 +167,15 @@ fn run_steps(
             j,
         };
         if let Check::Failed(fault, number) = take_step(
-            held, &owners, runs, &lowest, &highest, counts, names, step, history,
+            held,
+            &owners,
+            runs,
+            &lowest,
+            &highest,
+            counts,
+            names,
+            step,
+            history,
         ) {
             return Ran {
                 verdict: Verdict::Broken {

@@ -100,11 +100,11 @@ returns c =
     let lawful : Lawful (domainHere w) (kept .hold-laws .last .0) (x .counts .laws) = index-lawful w (kept .hold-laws .last .0) (kept .hold-laws .ensures) in
     let judged = c .run-sheet .ensures .1 (domainHere w) (x .counts .laws) (record {
       prepared = record {
-      lawful = lawful;
-      owned = owned ran .all-owners .ensures .1 (domainHere w) lawful (index-knowing w (known (owned ran) .all-knowers .result) (known (owned ran) .all-knowers .ensures .1));
-      ordered = ran .all-runs .ensures;
-      ranged = index-ranged w;
-      entries = index-entries w;
+        lawful = lawful;
+        owned = owned ran .all-owners .ensures .1 (domainHere w) lawful (index-knowing w (known (owned ran) .all-knowers .result) (known (owned ran) .all-knowers .ensures .1));
+        ordered = ran .all-runs .ensures;
+        ranged = index-ranged w;
+        entries = index-entries w;
       };
       entered = index-entered w;
       agents = index-agents w;

@@ -29,7 +29,7 @@ unfolding statesOf
 returns c = let s = c .before .before .before .before .before .before .before .before .before .before .before .before .args in let l₁ = c .before .before .before .before .before .before .copy-levels .last .1 .1 .1 .0 in (
   (omega arith, c .before .before .before .before .before .before .copy-levels .kept .1 .1 .1 .0 ∙ c .before .before .before .before .before .before .before .before .before .before .before .before .pre .0 .room),
   λ d l planned start.
-          let p = planned .prepared in
+      let p = planned .prepared in
       let sheet = rows (s .plan .counts .agents) (s .n) (s .sheet .now) in
       let first = states-one (s .plan .counts .fluents) l₁ (start-copied (s .plan .counts .fluents) (s .history .now) (s .start .now) l₁ (c .before .before .before .before .before .before .before .before .before .before .before .before .pre .1) (c .before .before .before .before .before .before .copy-levels .ensures) start) in
       judge-start d sheet (sym (c .before .before .before .check-laws .ensures d (history d sheet (startOf d ∷ [])) static l refl (p .lawful) (p .ordered .fixed) (seen-at d sheet (s .plan .counts .fluents) l₁ 0 (p .ranged .count) first)) ∙ ap passOf (c .before .fault .given .1)),
@@ -64,7 +64,7 @@ returns-2 : tie.Need-returns-2
 returns-2 c = let s = c .before .before .before .before .before .before .before .before .before .before .before .before .before .before .before .args in let l₁ = c .before .before .before .before .before .before .before .before .before .copy-levels .last .1 .1 .1 .0 in let l₂ = c .before .before .run-steps .last .1 .1 .1 .1 .0 in (
   (omega (arith, c .before .before .run-steps .ensures .0 .most, c .before .before .before .before .before .before .before .before .before .before .before .before .before .before .before .pre .0 .steps), c .before .before .run-steps .ensures .0 .room),
   λ d l planned start.
-          let p = planned .prepared in
+      let p = planned .prepared in
       let sheet = rows (s .plan .counts .agents) (s .n) (s .sheet .now) in
       let first = states-one (s .plan .counts .fluents) l₁ (start-copied (s .plan .counts .fluents) (s .history .now) (s .start .now) l₁ (c .before .before .before .before .before .before .before .before .before .before .before .before .before .before .before .pre .1) (c .before .before .before .before .before .before .before .before .before .copy-levels .ensures) start) in
       judge-broken d sheet (sym (c .before .before .before .before .before .before .check-laws .ensures d (history d sheet (startOf d ∷ [])) static l refl (p .lawful) (p .ordered .fixed) (seen-at d sheet (s .plan .counts .fluents) l₁ 0 (p .ranged .count) first)) ∙ ap passOf (c .before .before .before .before .enum-told .given .1))

@@ -48,7 +48,7 @@ passesC (in-mask m) t = all (has m) (namedC t)
 
 -- What a tree may name, in one word: so many fluents, and of them those of a mask; so many entries; and the largest lag.
 abbrev pub wordOf : ℕ → ℕ → ℕ → ℕ → ℕ
-wordOf fluents entries lag mask = fluents + 512 * (entries + 512 * lag) + 4_294_967_296 * mask
+wordOf fluents entries lag mask = fluents + 512 * entries + 262_144 * lag + 4_294_967_296 * mask
 
 -- a limit of what a byte may be; no byte reaches 256
 abbrev pub limitOf : ℕ → ℕ
@@ -66,7 +66,7 @@ lagIn may = may / 262_144 % 256
 abbrev pub maskIn : ℕ → ℕ
 maskIn may = may / 4_294_967_296
 
--- no "unknown … fluent", "lag (0 to 63)"
+-- no "unknown … fluent", "lag (0 to 63)". The mask has 32 bits and counts again from the first: where all are set, the limit decides
 unfoldable pub fluentMay : ℕ → ℕ → ℕ → Bool
 fluentMay may f lag = both (ltb f (fluentsIn may)) (both (leb lag (lagIn may)) (has (maskIn may) (f % 32)))
 

@@ -17,31 +17,36 @@ const ANY_LAG: u64 = 255;
 // Every bit of a mask.
 const ALL: u32 = 4_294_967_295;
 
+// Where each part of the word begins, after the number of fluents.
+const ENTRIES: u64 = 512;
+
+const LAG: u64 = 512 * ENTRIES;
+
 const MASK: u64 = 4_294_967_296;
 
 fn word(fluents: u64, entries: u64, lag: u64, mask: u32) -> u64
     requires { ⌜ (fluents ≤ 256) × ((entries ≤ 256) × (lag < 256)) ⌝ }
     ensures { λ r. ⌜ r ≡ wordOf fluents entries lag mask ⌝ }
 {
-    fluents + 512 * (entries + 512 * lag) + MASK * mask as u64
+    fluents + ENTRIES * entries + LAG * lag + MASK * mask as u64
 }
 
 fn fluents_of(may: u64) -> u64
     ensures { λ r. ⌜ r ≡ fluentsIn may ⌝ }
 {
-    may % 512
+    may % ENTRIES
 }
 
 fn entries_of(may: u64) -> u64
     ensures { λ r. ⌜ r ≡ entriesIn may ⌝ }
 {
-    may / 512 % 512
+    may / ENTRIES % 512
 }
 
 fn lag_of(may: u64) -> u64
     ensures { λ r. ⌜ r ≡ lagIn may ⌝ }
 {
-    may / 262_144 % 256
+    may / LAG % 256
 }
 
 fn mask_of(may: u64) -> u64

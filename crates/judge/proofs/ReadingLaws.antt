@@ -3,13 +3,15 @@ use Prim.Native.Nat.{ℕ, suc, _+_, _≤_, _<_}
 use mathlib.Core.Path.{_≡_, refl, sym, ap, _∙_, subst}
 use mathlib.Core.List.{List, []}
 use mathlib.Core.Option.{none, some}
-use mathlib.Core.Bool.{Bool, true}
+use mathlib.Core.Bool.{Bool, true, false}
 use native.Mathlib.Omega.{arith}
 use lib.IntN.{ℤ}
 use lib.ListN.{length, getD, drop, drop-of-length-le}
 use lib.Seq.{drop-drop, getD-drop}
 use Rattle.bmap.specs.Plain.{if-else}
-use Rattle.bmap.specs.Limits.{mostDepth}
+use borrow.Author.Tests.{le-leb}
+use lib.Dec.{leb}
+use Rattle.bmap.specs.Limits.{mostDepth, mostSteps}
 use Rattle.bmap.specs.Number.{Valued, value, no-value, with1}
 use Rattle.bmap.specs.Tree.{Expr, Con, allowedE, allowedC}
 use Rattle.bmap.specs.Code.{parseE, parseC}
@@ -18,7 +20,7 @@ use Rattle.bmap.specs.Domain.{Domain, Names, Law, executable, effect, must, has
 use Rattle.bmap.specs.Payload.{context}
 use Rattle.bmap.specs.Accept.{countsOf}
 use Rattle.bmap.specs.Judge.{fine, setsIf, sets, settled}
-use Rattle.law.specs.Evaluate.{historyOf, Meant, malformed, gives, valueAt, truthAt, evaluated, judged}
+use Rattle.law.specs.Evaluate.{historyOf, Meant, malformed, gives, atPosition, valueAt, truthAt, evaluated, judged}
 use Rattle.law.specs.declared.eval.Evaluated.{Evaluated}
 use Rattle.law.specs.declared.eval.Evaluated.the-variants as value-as
 use Rattle.law.specs.declared.eval.Judged.{Judged}
@@ -59,11 +61,11 @@ module _ (d : Domain) (asked : Bool) (h : History) (history : List ℤ) (j : ℕ
 
 -- what the evaluator answers of a law's constraint, where the law stands at place p
 pub truth-told : (d : Domain) (held : List ℕ) (p : ℕ) (l : Law) (h : History) (history : List ℤ) (j : ℕ) {at : ℕ} (w : Says d (drop p held) l) → at ≡ p + placeOf l → Seen (asksOf l) d h history j
-    → truthAt mostDepth held at history j ≡ gives (evalC (conOf l) h j) (at + stands d (drop p held) l w .used)
+    → atPosition j (truthAt mostDepth held at history j) ≡ gives (evalC (conOf l) h j) (at + stands d (drop p held) l w .used)
 truth-told d held p l h history j {at} w e seen =
     let s = stands d (drop p held) l w in
     let read : parseC mostDepth (drop at held) ≡ some (record { tree = conOf l; used = s .used }) = ap (λ (k : ℕ). parseC mostDepth (drop k held)) e ∙ (ap (parseC mostDepth) (sym (drop-drop (placeOf l) p held)) ∙ s .read) in
-    rw read (ap (λ (v : Valued Bool). gives v (at + s .used)) (con-seen d (asksOf l) h history j seen (conOf l) (s .fit)))
+    rw (le-leb j mostSteps (seen .within), read) (ap (λ (v : Valued Bool). gives v (at + s .used)) (con-seen d (asksOf l) h history j seen (conOf l) (s .fit)))
 
 -- the same, of an answer that gives something, and of one that does not
 pub judged-given : {r : Judged} {t : Truth} {k : ℕ} {m : Meant (Valued Bool)} {v : Valued Bool} {n : ℕ} → judged r ≡ m → r ≡ truth-as.Gives t k → m ≡ gives v n → (truthOf t ≡ v) × (k ≡ n)
@@ -135,21 +137,25 @@ module _ (d : Domain) (held : List ℕ) (p : ℕ) (l : Law) (h : History) (j : �
       ∙ ap (λ (b : Bool). if-else b (setsIf (e .fluent) (evalE (e .expr) h j) (evalC (e .con) h j)) (value none)) (occurring (e .entry) (e .known) ∙ (ap (has mask) (e .owner ∙ getD-drop p held 2 0) ∙ q))
 
   module _ (history : List ℤ) (seen : Seen true d h history j) where
-    pub effect-truth : truthAt mostDepth held (p + 3) history j ≡ gives (evalC (e .con) h j) (p + 3 + e .used)
-    effect-truth = rw (ap (parseC mostDepth) (sym (drop-drop 3 p held)) ∙ e .con-read) (ap (λ (v : Valued Bool). gives v (p + 3 + e .used)) (con-seen d true h history j seen (e .con) (e .con-fit)))
+    pub effect-truth : atPosition j (truthAt mostDepth held (p + 3) history j) ≡ gives (evalC (e .con) h j) (p + 3 + e .used)
+    effect-truth = rw (le-leb j mostSteps (seen .within), ap (parseC mostDepth) (sym (drop-drop 3 p held)) ∙ e .con-read) (ap (λ (v : Valued Bool). gives v (p + 3 + e .used)) (con-seen d true h history j seen (e .con) (e .con-fit)))
 
-    pub effect-value : settingFrom (getD held (p + 3 + e .used) 0) (valueAt mostDepth held (p + 3 + e .used + 1) history j) ≡ setsIf (e .fluent) (evalE (e .expr) h j) (value true)
+    pub effect-value : settingFrom (getD held (p + 3 + e .used) 0) (atPosition j (valueAt mostDepth held (p + 3 + e .used + 1) history j)) ≡ setsIf (e .fluent) (evalE (e .expr) h j) (value true)
     effect-value =
         let after : p + 3 + e .used + 1 ≡ p + (3 + e .used + 1) = omega arith in
         let place : p + (3 + e .used) ≡ p + 3 + e .used = omega arith in
         let read : parseE mostDepth (drop (p + 3 + e .used + 1) held) ≡ some (record { tree = e .expr; used = e .expr-used }) = ap (λ (k : ℕ). parseE mostDepth (drop k held)) after ∙ (ap (parseE mostDepth) (sym (drop-drop (3 + e .used + 1) p held)) ∙ e .expr-read) in
         let target : e .fluent ≡ getD held (p + 3 + e .used) 0 = e .target ∙ (getD-drop p held (3 + e .used) 0 ∙ ap (λ (k : ℕ). getD held k 0) place) in
-        rw (read, ← target) (ap (λ (v : Valued ℤ). with1 (λ z. value (some (setting (e .fluent) z))) v) (expr-seen d true h history j seen (e .expr) (e .expr-fit)))
+        rw (le-leb j mostSteps (seen .within), read, ← target) (ap (λ (v : Valued ℤ). with1 (λ z. value (some (setting (e .fluent) z))) v) (expr-seen d true h history j seen (e .expr) (e .expr-fit)))
 
 -- nothing stands past the end
-pub no-value-past : (frame : List ℕ) (at f : ℕ) (history : List ℤ) (j : ℕ) → length frame ≤ at → no-value ≡ settingFrom f (valueAt mostDepth frame (at + 1) history j)
+pub no-value-past : (frame : List ℕ) (at f : ℕ) (history : List ℤ) (j : ℕ) → length frame ≤ at → no-value ≡ settingFrom f (atPosition j (valueAt mostDepth frame (at + 1) history j))
 unfolding parseE
-no-value-past frame at f history j h = rw (drop-of-length-le frame {i = at + 1} (omega arith))
+no-value-past frame at f history j h = rw (drop-of-length-le frame {i = at + 1} (omega arith)) (go (leb j mostSteps))
+  where
+    go : (b : Bool) → no-value ≡ settingFrom f (if-else b malformed malformed)
+    go true = refl
+    go false = refl
 
 -- ---- no entry occurs
 

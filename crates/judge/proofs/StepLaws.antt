@@ -7,6 +7,7 @@ use native.Mathlib.Numerals.{add-one}
 use native.Mathlib.Omega.{arith}
 use lib.IntN.{ℤ}
 use lib.ListN.{length, getD}
+use Rattle.bmap.specs.Limits.{mostSteps}
 use Rattle.bmap.specs.Domain.{Domain, Names, State, static, concurrency}
 use Rattle.bmap.specs.Judge.{Checked, fine, fault, Pass, pass, next, each, inRange, Setting, settled, stateAfter, history, allHold, placed, mayOccur, step, landed}
 use Rattle.law.specs.Evaluate.{cellAt}
@@ -21,20 +22,20 @@ use Rattle.judge.proofs.StateLaws.{level-in}
 
 -- ---- the history that the laws read
 
-module _ (d : Domain) (sheet : List Names) (w : ℕ) (cells : List ℤ) (j : ℕ) (count : length (d .fluents) ≡ w) where
+module _ (d : Domain) (sheet : List Names) (w : ℕ) (cells : List ℤ) (j : ℕ) (within : j ≤ mostSteps) (count : length (d .fluents) ≡ w) where
   seen-level : (k f : ℕ) → k ≤ j → f < length (d .fluents) → history d sheet (statesOf w (j + 1) cells) .level k f ≡ cellAt cells k f
   unfolding history
   seen-level k f p q = level-in w (j + 1) k f cells (omega arith) (omega arith)
 
   pub seen-states : Seen false d (history d sheet (statesOf w (j + 1) cells)) cells j
-  seen-states = record { level = seen-level; acted = λ e. absurd (let z : _≡_ {A = ℕ} 0 1 = cc in omega arith) }
+  seen-states = record { within = within; level = seen-level; acted = λ e. absurd (let z : _≡_ {A = ℕ} 0 1 = cc in omega arith) }
 
   pub seen-at : {states : List State} → statesOf w (j + 1) cells ≡ states → Seen false d (history d sheet states) cells j
   seen-at e = subst (λ (s : List State). Seen false d (history d sheet s) cells j) e seen-states
 
   pub seen-all : Acted d sheet cells (j + 1) → Seen true d (history d sheet (statesOf w (j + 1) cells)) cells j
   unfolding history
-  seen-all acted = record { level = seen-level; acted = λ e. acted }
+  seen-all acted = record { within = within; level = seen-level; acted = λ e. acted }
 
 -- ---- checks 4 to 6
 

@@ -7,7 +7,7 @@ use mathlib.Core.Option.{some}
 use lib.IntN.{ℤ}
 use lib.ListN.{length, getD, take, drop}
 use Rattle.bmap.specs.Plain.{any, if-else}
-use Rattle.bmap.specs.Limits.{mostEntries, mostLaws, mostPayload, frameSize}
+use Rattle.bmap.specs.Limits.{mostSteps, mostEntries, mostLaws, mostPayload, frameSize}
 use Rattle.bmap.specs.Line.{effectKind, staticKind, concurrencyKind, goalKind}
 use Rattle.bmap.specs.Tree.{Con, always}
 use Rattle.bmap.specs.Meaning.{History}
@@ -136,6 +136,7 @@ Few runs = (((i : ℕ) → i < mostEntries → getD (runs .last) i 0 ≤ mostLaw
 
 -- the levels of the states 0 to j are those of a history, and the marks of the steps 1 to j + 1 its occurrences, if they are asked
 pub record Seen (asked : Bool) (d : Domain) (h : History) (history : List ℤ) (j : ℕ) : Type 0 where
+  pub within : j ≤ mostSteps
   pub level : (k f : ℕ) → k ≤ j → f < length (d .fluents) → h .level k f ≡ cellAt history k f
   pub acted : asked ≡ true → (k e : ℕ) → 1 ≤ k → k ≤ j + 1 → e < length (d .entries) → h .occurred e k ≡ inStep history e k
 

@@ -7,7 +7,7 @@ ghost use Rattle.bmap.specs.Domain.{Domain, Names, Law};
 ghost use Rattle.bmap.specs.Meaning.{History, evalC};
 ghost use Rattle.bmap.specs.Judge.{sets};
 ghost use Rattle.bmap.specs.Limits.{mostDepth, mostLaws};
-ghost use Rattle.law.specs.Evaluate.{heldSize, valueAt};
+ghost use Rattle.law.specs.Evaluate.{heldSize, atPosition, valueAt};
 ghost use Rattle.number.specs.Answer.{truthOf};
 ghost use Rattle.judge.specs.Settings.{settingFrom};
 ghost use Rattle.judge.specs.Told.{Says, Seen, Occurring, Within, Ordered, frameOf, conOf, placeOf, asksOf};
@@ -50,7 +50,7 @@ pub enum Wants {
 
 // A fluent and the expression after it.
 fn setting_at(held: &[u8; HELD], at: usize, history: &[i16; HISTORY], j: usize) -> Wants
-    ensures { λ r. ⌜ (length (now (held .entry)) ≡ heldSize → wantsOf r ≡ settingFrom (getD (now (held .entry)) at 0) (valueAt mostDepth (now (held .entry)) (at + 1) (now (history .entry)) j)) ⌝ }
+    ensures { λ r. ⌜ (length (now (held .entry)) ≡ heldSize → wantsOf r ≡ settingFrom (getD (now (held .entry)) at 0) (atPosition j (valueAt mostDepth (now (held .entry)) (at + 1) (now (history .entry)) j))) ⌝ }
 {
     if HELD <= at {
         return Wants::Blank;

@@ -11,7 +11,7 @@ use Rattle.bmap.specs.Plain.{if-else}
 use Rattle.bmap.specs.Number.{Valued, value, signedWord}
 use Rattle.bmap.specs.Meaning.{History, evalE, evalC}
 use Rattle.bmap.specs.Code.{Parsed, codeOf, parseE, parseC}
-use lib.Dec.{eqb}
+use lib.Dec.{eqb, leb}
 use lib.Signed.{leZ}
 use Rattle.law.specs.declared.table.Node.the-variants.{Expression}
 use Rattle.law.specs.Table.{opened, sortIn, operatorIn}
@@ -48,10 +48,11 @@ historyOf history = record {
 abbrev pub heldSize : ℕ
 heldSize = mostLaws * frameSize
 
--- the lengths of what is lent
-pub record Lent (s : List ℕ) (history : List ℤ) : Type 0 where
+-- the lengths of what is lent, and a position within it
+pub record Lent (s : List ℕ) (history : List ℤ) (j : ℕ) : Type 0 where
   pub held : length s ≡ heldSize
   pub rows : length history ≡ historySize
+  pub position : j ≤ mostSteps
 
 -- what a tree at a place means, with the place just after the tree; or no tree stands there
 pub data Meant (A : Type 0) : Type 0 where
@@ -66,6 +67,10 @@ meant f at (some p) = gives (f (p .tree)) (at + p .used)
 abbrev pub onward : {A B : Type 0} → (A → B) → Meant A → Meant B
 onward op malformed = malformed
 onward op (gives a n) = gives (op a) n
+
+-- a position past the last that a sheet may have is none
+abbrev pub atPosition : {A : Type 0} → ℕ → Meant A → Meant A
+atPosition j m = if-else (leb j mostSteps) m malformed
 
 -- the code's two types
 abbrev pub evaluated : Evaluated → Meant (Valued ℤ)

@@ -6,11 +6,11 @@ ghost use Prim.Native.Nat.{_+_, _-_, _*_, _≤_, _<_};
 ghost use lib.Dec.{leb};
 ghost use lib.ListN.{length, drop, getD};
 ghost use Rattle.bmap.specs.Plain.{both};
-ghost use Rattle.bmap.specs.Limits.{mostDepth};
+ghost use Rattle.bmap.specs.Limits.{mostDepth, mostSteps};
 ghost use Rattle.bmap.specs.Number.{value, with1, with2, operate, change, compare, join, flag, signedWord};
 ghost use Rattle.bmap.specs.Code.{twoBytes};
 ghost use Rattle.law.specs.Table.{rows};
-ghost use Rattle.law.specs.Evaluate.{heldSize, rowSize, historySize, Lent, gives, evaluated, judged, meant, onward, cellAt, marked, inStep, leafOf, NoLeaf, valueAt, truthAt};
+ghost use Rattle.law.specs.Evaluate.{heldSize, rowSize, historySize, Lent, gives, evaluated, judged, meant, onward, cellAt, marked, inStep, leafOf, NoLeaf, atPosition, valueAt, truthAt};
 ghost use Rattle.law.specs.Packed.{valueIn, truthIn, evaluatedIn, judgedIn};
 use crate::packed::MALFORMED;
 use crate::packed::end_of;
@@ -72,19 +72,16 @@ fn state_of(j: usize, lag: u8) -> usize
 
 // What stands in a column of a row; what was never written is 0.
 fn cell(history: &[i16; HISTORY], row: usize, column: usize) -> i16
-    requires { ⌜ (length (now history) ≡ historySize) × (column < rowSize + 256) ⌝ }
+    requires { ⌜ (length (now history) ≡ historySize) × ((row ≤ mostSteps) × (column < rowSize + 256)) ⌝ }
     ensures { λ r. ⌜ r ≡ cellAt (now (history .entry)) row column ⌝ }
 {
-    if Sheet::STEPS < row {
-        return 0;
-    }
     let at = ROW * row + column;
     if at < HISTORY { history[at] } else { 0 }
 }
 
 // "Lag t reads state j−t, or state 0 where j−t is negative."
 fn level(history: &[i16; HISTORY], j: usize, f: u8, lag: u8) -> i16
-    requires { ⌜ length (now history) ≡ historySize ⌝ }
+    requires { ⌜ (length (now history) ≡ historySize) × (j ≤ mostSteps) ⌝ }
     ensures { λ r. ⌜ r ≡ cellAt (now (history .entry)) (j - lag) f ⌝ }
 {
     cell(history, state_of(j, lag), f as usize)
@@ -99,7 +96,7 @@ fn is_marked(z: i16) -> bool
 
 // "Code 29 with lag t (0 to 63) looks at step j+1−t and is false before step 1."
 fn occurs(history: &[i16; HISTORY], j: usize, e: u8, lag: u8) -> bool
-    requires { ⌜ length (now history) ≡ historySize ⌝ }
+    requires { ⌜ (length (now history) ≡ historySize) × (j ≤ mostSteps) ⌝ }
     ensures { λ r. ⌜ r ≡ both (leb lag j) (inStep (now (history .entry)) e (j + 1 - lag)) ⌝ }
 {
     let t = lag as usize;
@@ -119,7 +116,7 @@ fn number_at(z: i16, end: usize) -> u64
 
 // The leaves, whose code stands at a place: a constant, or a fluent and its lag.
 fn leaf_in(s: &[u8; HELD], at: usize, history: &[i16; HISTORY], j: usize, row: u8) -> u64
-    requires { ⌜ (length (now s) ≡ heldSize) × (length (now history) ≡ historySize) ⌝ }
+    requires { ⌜ Lent (now s) (now history) j ⌝ }
     ensures { λ r. ⌜ evaluatedIn r ≡ meant (λ v. v) at (twoBytes (leafOf row (now (history .entry)) j) (drop (at + 1) (now (s .entry)))) ⌝ }
 {
     if HELD - 2 <= at {
@@ -132,7 +129,7 @@ fn leaf_in(s: &[u8; HELD], at: usize, history: &[i16; HISTORY], j: usize, row: u
 }
 
 fn occurrence_in(s: &[u8; HELD], at: usize, history: &[i16; HISTORY], j: usize) -> u64
-    requires { ⌜ (length (now s) ≡ heldSize) × (length (now history) ≡ historySize) ⌝ }
+    requires { ⌜ Lent (now s) (now history) j ⌝ }
     ensures { λ r. ⌜ judgedIn r ≡ meant (λ v. v) at (twoBytes (λ e t. value (both (leb t j) (inStep (now (history .entry)) e (j + 1 - t)))) (drop (at + 1) (now (s .entry)))) ⌝ }
 {
     if HELD - 2 <= at {
@@ -223,7 +220,7 @@ fn value_in(
     j: usize,
     table: &[u8; ROWS],
 ) -> u64
-    requires { ⌜ Lent (now s) (now history) × (now table ≡ rows) ⌝ }
+    requires { ⌜ Lent (now s) (now history) j × (now table ≡ rows) ⌝ }
     ensures { λ r. ⌜ evaluatedIn r ≡ valueAt depth (now (s .entry)) at (now (history .entry)) j ⌝ }
 {
     if depth == 0 {
@@ -251,7 +248,7 @@ fn inner_value(
     table: &[u8; ROWS],
     row: u8,
 ) -> u64
-    requires { ⌜ (Lent (now s) (now history) × (now table ≡ rows)) × NoLeaf (now s) at depth row ⌝ }
+    requires { ⌜ (Lent (now s) (now history) j × (now table ≡ rows)) × NoLeaf (now s) at depth row ⌝ }
     ensures { λ r. ⌜ evaluatedIn r ≡ valueAt depth (now (s .entry)) at (now (history .entry)) j ⌝ }
 {
     if sort(row) == CONSTRAINT {
@@ -281,7 +278,7 @@ fn truth_in(
     j: usize,
     table: &[u8; ROWS],
 ) -> u64
-    requires { ⌜ Lent (now s) (now history) × (now table ≡ rows) ⌝ }
+    requires { ⌜ Lent (now s) (now history) j × (now table ≡ rows) ⌝ }
     ensures { λ r. ⌜ judgedIn r ≡ truthAt depth (now (s .entry)) at (now (history .entry)) j ⌝ }
 {
     if depth == 0 {
@@ -329,15 +326,18 @@ fn truth_in(
 // The lengths that the types say are told to a proof where an array is lent as a slice. Nothing is done.
 fn lent(_s: &[u8], _history: &[i16]) {}
 
-// The expression at a place.
+// The expression at a place, read at a position of the history: after the last there is none.
 pub fn expression_at(
     s: &[u8; HELD],
     at: usize,
     history: &[i16; HISTORY],
     j: usize,
 ) -> Evaluated
-    ensures { λ r. ⌜ evaluated r ≡ valueAt mostDepth (now (s .entry)) at (now (history .entry)) j ⌝ }
+    ensures { λ r. ⌜ evaluated r ≡ atPosition j (valueAt mostDepth (now (s .entry)) at (now (history .entry)) j) ⌝ }
 {
+    if Sheet::STEPS < j {
+        return Evaluated::Malformed;
+    }
     lent(s, history);
     let rows = table();
     let word = value_in(s, at, bmap::DEPTH, history, j, &rows);
@@ -348,15 +348,18 @@ pub fn expression_at(
     Evaluated::Gives(value_of(word), end)
 }
 
-// The constraint at a place.
+// The constraint at a place, read at such a position.
 pub fn constraint_at(
     s: &[u8; HELD],
     at: usize,
     history: &[i16; HISTORY],
     j: usize,
 ) -> Judged
-    ensures { λ r. ⌜ judged r ≡ truthAt mostDepth (now (s .entry)) at (now (history .entry)) j ⌝ }
+    ensures { λ r. ⌜ judged r ≡ atPosition j (truthAt mostDepth (now (s .entry)) at (now (history .entry)) j) ⌝ }
 {
+    if Sheet::STEPS < j {
+        return Judged::Malformed;
+    }
     lent(s, history);
     let rows = table();
     let word = truth_in(s, at, bmap::DEPTH, history, j, &rows);

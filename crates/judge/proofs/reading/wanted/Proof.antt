@@ -8,7 +8,7 @@ use Rattle.bmap.specs.Number.{Valued, value}
 use Rattle.bmap.specs.Judge.{setsIf}
 use Rattle.number.specs.Answer.{truthOf}
 use Rattle.judge.specs.Settings.{settingFrom}
-use Rattle.law.specs.Evaluate.{valueAt}
+use Rattle.law.specs.Evaluate.{atPosition, valueAt}
 use Rattle.bmap.specs.Limits.{mostDepth}
 use Rattle.bmap.specs.Meaning.{evalE}
 use Rattle.judge.proofs.CheckLaws.{front}
@@ -78,7 +78,7 @@ returns-5 : tie.Need-returns-5
 returns-5 c = λ d h l names long says occurring seen. let s = c .before .before .before .before .before .before .before .before .before .before .before .before .before .before .before .args in
     let e = effect-told d (drop (s .at) (s .held .now)) l says (front (s .held .now) (s .at) ∙ c .before .before .before .before .before .before .before .before .before .before .before .before .before .if1 .left) in
     let t = judged-given (c .before .before .before .before .before .before .before .before .constraint-at .ensures) (c .before .before .before .before .before .before .truth .given .1) (effect-truth d (s .held .now) (s .at) l h (s .j) names (s .entries) e occurring (s .history .now) seen) in
-    c .setting-at .ensures long ∙ (ap (λ (k : ℕ). settingFrom (getD (s .held .now) k 0) (valueAt mostDepth (s .held .now) (k + 1) (s .history .now) (s .j))) (t .1)
+    c .setting-at .ensures long ∙ (ap (λ (k : ℕ). settingFrom (getD (s .held .now) k 0) (atPosition (s .j) (valueAt mostDepth (s .held .now) (k + 1) (s .history .now) (s .j)))) (t .1)
     ∙ (effect-value d (s .held .now) (s .at) l h (s .j) names (s .entries) e occurring (s .history .now) seen
     ∙ sym (sets-if d (s .held .now) (s .at) l h (s .j) names (s .entries) e occurring (ap (has (s .entries)) (sym (c .before .before .before .before .before .before .before .before .before .before .before .wide .ensures)) ∙ (sym (c .before .before .before .before .before .before .before .before .before .before .has-entry .ensures) ∙ not-false (c .before .before .before .before .before .before .before .before .before .before .has-entry .result) (c .before .before .before .before .before .before .before .before .before .if2 .left)))
     ∙ ap (λ (v : Valued Bool). setsIf (e .fluent) (evalE (e .expr) h (s .j)) v) (sym (t .0) ∙ (ap truthOf (c .before .before .before .truth2 .given .1) ∙ ap value (c .before .if3 .taken))))))

@@ -30,7 +30,7 @@ laying : (c : tie.After-lay-effects) (d : Domain) (owners : List ℕ) (n count :
     → Lays (c .lay-effects .result) (s .w) (c .lay-effects .last .1 .1 .1 .1 .1 .0) (settled d (history d sheet (statesOf (s .w) (s .step .j + 1) (s .history .now))) (s .step .j) names 0 [] (d .laws)) (stateAt (s .w) (s .history .now) (s .step .j))
 laying c d owners n count sheet names p occurring acted = let s = c .before .before .before .before .before .before .args in
     c .lay-effects .ensures .1 d (history d sheet (statesOf (s .w) (s .step .j + 1) (s .history .now))) n names (s .w) (stateAt (s .w) (s .history .now) (s .step .j)) (p .lawful) (p .ordered .effect) occurring
-    (seen-all d sheet (s .w) (s .history .now) (s .step .j) (p .ranged .count) acted) (c .before .before .before .before .before .before .pre .fluents) (c .before .before .before .old-levels .ensures .1)
+    (seen-all d sheet (s .w) (s .history .now) (s .step .j) (omega (arith, c .before .before .before .before .before .before .pre .step)) (p .ranged .count) acted) (c .before .before .before .before .before .before .pre .fluents) (c .before .before .before .old-levels .ensures .1)
 
 enum-known-fault : tie.Need-enum-known-fault
 enum-known-fault c = search needs
@@ -76,7 +76,7 @@ returns-3 c = let s = c .before .before .before .before .before .before .before 
       landed-fine d sheet states (s .step .j) names (l .settings) old (l .are) (states-at (s .w) (s .step .j + 1) (s .step .j) (s .history .now) (omega arith)) (c .before .before .before .before .put-state .result) (c .check-laws .result) (stateAt (s .w) after (s .step .j + 1)) (statesOf (s .w) (s .step .j + 1 + 1) after)
       (c .before .before .before .before .put-state .ensures .1 d (l .settings) old (p .ranged) (l .laid)) (c .before .before .enum-told2 .given .1)
       (states-more (s .w) (s .step .j) (s .history .now) after (c .before .before .before .before .put-state .ensures .0 .before) (c .before .before .before .before .before .before .before .before .before .before .before .before .before .before .before .pre .fluents))
-      (c .check-laws .ensures d (history d sheet (statesOf (s .w) (s .step .j + 1 + 1) after)) static n refl (p .lawful) (p .ordered .fixed) (seen-states d sheet (s .w) after (s .step .j + 1) (p .ranged .count))),
+      (c .check-laws .ensures d (history d sheet (statesOf (s .w) (s .step .j + 1 + 1) after)) static n refl (p .lawful) (p .ordered .fixed) (seen-states d sheet (s .w) after (s .step .j + 1) (omega (arith, c .before .before .before .before .before .before .before .before .before .before .before .before .before .before .before .pre .step)) (p .ranged .count))),
 )
 
 pub land-spec : {M : Type 1} → statement M

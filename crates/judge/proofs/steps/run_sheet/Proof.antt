@@ -32,7 +32,7 @@ returns c = let s = c .before .before .before .before .before .before .before .b
       let p = planned .prepared in
       let sheet = rows (s .plan .counts .agents) (s .n) (s .sheet .now) in
       let first = states-one (s .plan .counts .fluents) l₁ (start-copied (s .plan .counts .fluents) (s .history .now) (s .start .now) l₁ (c .before .before .before .before .before .before .before .before .before .before .before .before .pre .1) (c .before .before .before .before .before .before .copy-levels .ensures) start) in
-      judge-start d sheet (sym (c .before .before .before .check-laws .ensures d (history d sheet (startOf d ∷ [])) static l refl (p .lawful) (p .ordered .fixed) (seen-at d sheet (s .plan .counts .fluents) l₁ 0 (p .ranged .count) first)) ∙ ap passOf (c .before .fault .given .1)),
+      judge-start d sheet (sym (c .before .before .before .check-laws .ensures d (history d sheet (startOf d ∷ [])) static l refl (p .lawful) (p .ordered .fixed) (seen-at d sheet (s .plan .counts .fluents) l₁ 0 (omega arith) (p .ranged .count) first)) ∙ ap passOf (c .before .fault .given .1)),
 )
 
 enum-told : tie.Need-enum-told
@@ -67,7 +67,7 @@ returns-2 c = let s = c .before .before .before .before .before .before .before 
       let p = planned .prepared in
       let sheet = rows (s .plan .counts .agents) (s .n) (s .sheet .now) in
       let first = states-one (s .plan .counts .fluents) l₁ (start-copied (s .plan .counts .fluents) (s .history .now) (s .start .now) l₁ (c .before .before .before .before .before .before .before .before .before .before .before .before .before .before .before .pre .1) (c .before .before .before .before .before .before .before .before .before .copy-levels .ensures) start) in
-      judge-broken d sheet (sym (c .before .before .before .before .before .before .check-laws .ensures d (history d sheet (startOf d ∷ [])) static l refl (p .lawful) (p .ordered .fixed) (seen-at d sheet (s .plan .counts .fluents) l₁ 0 (p .ranged .count) first)) ∙ ap passOf (c .before .before .before .before .enum-told .given .1))
+      judge-broken d sheet (sym (c .before .before .before .before .before .before .check-laws .ensures d (history d sheet (startOf d ∷ [])) static l refl (p .lawful) (p .ordered .fixed) (seen-at d sheet (s .plan .counts .fluents) l₁ 0 (omega arith) (p .ranged .count) first)) ∙ ap passOf (c .before .before .before .before .enum-told .given .1))
       (c .before .before .run-steps .ensures .1 d l planned ∙ ap (λ (h : List State). carried d sheet 0 h sheet) first) (ap verdictOf (c .enum-told3 .given .1)),
 )
 
@@ -89,10 +89,10 @@ returns-3 c = let s = c .before .before .before .before .before .before .before 
           let sheet = rows (s .plan .counts .agents) (s .n) (s .sheet .now) in
           let first = states-one (s .plan .counts .fluents) l₁ (start-copied (s .plan .counts .fluents) (s .history .now) (s .start .now) l₁ (c .before .before .before .before .before .before .before .before .before .before .before .before .before .before .before .before .before .before .before .before .before .pre .1) (c .before .before .before .before .before .before .before .before .before .before .before .before .before .before .before .copy-levels .ensures) start) in
           let reached = ap (λ (k : ℕ). statesOf (s .plan .counts .fluents) k l₂) all in
-          judge-goal d sheet (sym (c .before .before .before .before .before .before .before .before .before .before .before .before .check-laws .ensures d (history d sheet (startOf d ∷ [])) static l refl (p .lawful) (p .ordered .fixed) (seen-at d sheet (s .plan .counts .fluents) l₁ 0 (p .ranged .count) first)) ∙ ap passOf (c .before .before .before .before .before .before .before .before .before .before .enum-told .given .1))
+          judge-goal d sheet (sym (c .before .before .before .before .before .before .before .before .before .before .before .before .check-laws .ensures d (history d sheet (startOf d ∷ [])) static l refl (p .lawful) (p .ordered .fixed) (seen-at d sheet (s .plan .counts .fluents) l₁ 0 (omega arith) (p .ranged .count) first)) ∙ ap passOf (c .before .before .before .before .before .before .before .before .before .before .enum-told .given .1))
           (sym (ap (λ (h : List State). record { states = h; verdict = verdictOf (c .before .before .before .before .before .before .before .before .run-steps .result .verdict) }) reached) ∙ (c .before .before .before .before .before .before .before .before .run-steps .ensures .1 d l planned ∙ ap (λ (h : List State). carried d sheet 0 h sheet) first)) (ap verdictOf (c .before .before .before .before .before .before .enum-told2 .given .1))
           (sym (rows-length (s .plan .counts .agents) (s .n) (s .sheet .now)))
-          (sym (c .before .before .before .check-laws2 .ensures d (history d sheet (statesOf (s .plan .counts .fluents) (s .n + 1) l₂)) goal l refl (p .lawful) (p .ordered .goal) (seen-at d sheet (s .plan .counts .fluents) l₂ (s .n) (p .ranged .count) refl)) ∙ ap passOf (c .before .fault2 .given .1)),
+          (sym (c .before .before .before .check-laws2 .ensures d (history d sheet (statesOf (s .plan .counts .fluents) (s .n + 1) l₂)) goal l refl (p .lawful) (p .ordered .goal) (seen-at d sheet (s .plan .counts .fluents) l₂ (s .n) (omega (arith, c .before .before .before .before .before .before .before .before .before .before .before .before .before .before .before .before .before .before .before .before .before .pre .0 .steps)) (p .ranged .count) refl)) ∙ ap passOf (c .before .fault2 .given .1)),
     )
 
 enum-told-4 : tie.Need-enum-told-4
@@ -106,10 +106,10 @@ returns-4 c = let s = c .before .before .before .before .before .before .before 
           let p = planned .prepared in
           let sheet = rows (s .plan .counts .agents) (s .n) (s .sheet .now) in
           let first = states-one (s .plan .counts .fluents) l₁ (start-copied (s .plan .counts .fluents) (s .history .now) (s .start .now) l₁ (c .before .before .before .before .before .before .before .before .before .before .before .before .before .before .before .before .before .before .before .before .pre .1) (c .before .before .before .before .before .before .before .before .before .before .before .before .before .before .copy-levels .ensures) start) in
-          judge-accepted d sheet (sym (c .before .before .before .before .before .before .before .before .before .before .before .check-laws .ensures d (history d sheet (startOf d ∷ [])) static l refl (p .lawful) (p .ordered .fixed) (seen-at d sheet (s .plan .counts .fluents) l₁ 0 (p .ranged .count) first)) ∙ ap passOf (c .before .before .before .before .before .before .before .before .before .enum-told .given .1))
+          judge-accepted d sheet (sym (c .before .before .before .before .before .before .before .before .before .before .before .check-laws .ensures d (history d sheet (startOf d ∷ [])) static l refl (p .lawful) (p .ordered .fixed) (seen-at d sheet (s .plan .counts .fluents) l₁ 0 (omega arith) (p .ranged .count) first)) ∙ ap passOf (c .before .before .before .before .before .before .before .before .before .enum-told .given .1))
           (c .before .before .before .before .before .before .before .run-steps .ensures .1 d l planned ∙ ap (λ (h : List State). carried d sheet 0 h sheet) first) (ap verdictOf (c .before .before .before .before .before .enum-told2 .given .1))
           (sym (rows-length (s .plan .counts .agents) (s .n) (s .sheet .now)))
-          (sym (c .before .before .check-laws2 .ensures d (history d sheet (statesOf (s .plan .counts .fluents) (c .before .before .before .before .before .before .before .run-steps .result .reached) l₂)) goal l refl (p .lawful) (p .ordered .goal) (seen-at d sheet (s .plan .counts .fluents) l₂ (s .n) (p .ranged .count) (sym (ap (λ (k : ℕ). statesOf (s .plan .counts .fluents) k l₂) all)))) ∙ ap passOf (c .enum-told4 .given .1)),
+          (sym (c .before .before .check-laws2 .ensures d (history d sheet (statesOf (s .plan .counts .fluents) (c .before .before .before .before .before .before .before .run-steps .result .reached) l₂)) goal l refl (p .lawful) (p .ordered .goal) (seen-at d sheet (s .plan .counts .fluents) l₂ (s .n) (omega (arith, c .before .before .before .before .before .before .before .before .before .before .before .before .before .before .before .before .before .before .before .before .pre .0 .steps)) (p .ranged .count) (sym (ap (λ (k : ℕ). statesOf (s .plan .counts .fluents) k l₂) all)))) ∙ ap passOf (c .enum-told4 .given .1)),
     )
 
 pub run-sheet-spec : {M : Type 1} → statement M

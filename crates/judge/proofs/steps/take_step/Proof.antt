@@ -1,5 +1,6 @@
 use Prim.Native.Nat.{_+_}
 use mathlib.Core.Path.{refl, sym, ap, _∙_}
+use native.Mathlib.Omega.{arith}
 use borrow.Author.Needs.{needs}
 use Rattle.bmap.specs.Domain.{concurrency}
 use Rattle.bmap.specs.Judge.{history}
@@ -35,7 +36,7 @@ returns-2 : tie.Need-returns-2
 returns-2 c = let s = c .before .before .before .before .before .before .before .before .before .before .before .before .before .args in (
   record { before = refl; after = refl; long = c .before .before .before .before .before .before .before .before .before .before .before .before .before .pre .1 .room },
   λ d n sheet p occurring belonging acted.
-      let h = history d sheet (statesOf (s .counts .fluents) (s .step .j + 1) (s .history .now)) in let seen = seen-all d sheet (s .counts .fluents) (s .history .now) (s .step .j) (p .ranged .count) acted in
+      let h = history d sheet (statesOf (s .counts .fluents) (s .step .j + 1) (s .history .now)) in let seen = seen-all d sheet (s .counts .fluents) (s .history .now) (s .step .j) (omega (arith, c .before .before .before .before .before .before .before .before .before .before .before .before .before .pre .1 .step)) (p .ranged .count) acted in
       step-entries d sheet (statesOf (s .counts .fluents) (s .step .j + 1) (s .history .now)) (s .step .j) (s .names .now) (sym (c .before .before .before .before .before .before .before .before .before .before .before .check-agents .ensures d belonging) ∙ ap passOf (c .before .before .before .before .before .before .before .before .before .enum-told .given .1))
       (sym (c .before .before .before .check-entries .ensures d h n (s .names .now) (p .lawful) (p .ordered .executable) (p .owned) occurring (p .entries) seen) ∙ ap passOf (c .before .fault2 .given .1)),
 )
@@ -53,7 +54,7 @@ returns-3 : tie.Need-returns-3
 returns-3 c = let s = c .before .before .before .before .before .before .before .before .before .before .before .before .before .before .before .before .before .before .args in (
   record { before = refl; after = refl; long = c .before .before .before .before .before .before .before .before .before .before .before .before .before .before .before .before .before .before .pre .1 .room },
   λ d n sheet p occurring belonging acted.
-      let h = history d sheet (statesOf (s .counts .fluents) (s .step .j + 1) (s .history .now)) in let seen = seen-all d sheet (s .counts .fluents) (s .history .now) (s .step .j) (p .ranged .count) acted in
+      let h = history d sheet (statesOf (s .counts .fluents) (s .step .j + 1) (s .history .now)) in let seen = seen-all d sheet (s .counts .fluents) (s .history .now) (s .step .j) (omega (arith, c .before .before .before .before .before .before .before .before .before .before .before .before .before .before .before .before .before .before .pre .1 .step)) (p .ranged .count) acted in
       step-laws d sheet (statesOf (s .counts .fluents) (s .step .j + 1) (s .history .now)) (s .step .j) (s .names .now) (sym (c .before .before .before .before .before .before .before .before .before .before .before .before .before .before .before .before .check-agents .ensures d belonging) ∙ ap passOf (c .before .before .before .before .before .before .before .before .before .before .before .before .before .before .enum-told .given .1))
       (sym (c .before .before .before .before .before .before .before .before .check-entries .ensures d h n (s .names .now) (p .lawful) (p .ordered .executable) (p .owned) occurring (p .entries) seen) ∙ ap passOf (c .before .before .before .before .before .before .enum-told2 .given .1))
       (sym (c .before .before .before .check-laws .ensures d h concurrency n refl (p .lawful) (p .ordered .concurrency) seen) ∙ ap passOf (c .before .fault3 .given .1)),
@@ -69,7 +70,7 @@ returns-4 : tie.Need-returns-4
 returns-4 c = let s = c .before .before .before .before .before .before .before .before .before .before .before .before .before .before .before .before .before .before .before .args in (
   c .land .ensures .0,
   λ d n sheet p occurring belonging acted.
-      let h = history d sheet (statesOf (s .counts .fluents) (s .step .j + 1) (s .history .now)) in let seen = seen-all d sheet (s .counts .fluents) (s .history .now) (s .step .j) (p .ranged .count) acted in
+      let h = history d sheet (statesOf (s .counts .fluents) (s .step .j + 1) (s .history .now)) in let seen = seen-all d sheet (s .counts .fluents) (s .history .now) (s .step .j) (omega (arith, c .before .before .before .before .before .before .before .before .before .before .before .before .before .before .before .before .before .before .before .pre .1 .step)) (p .ranged .count) acted in
       c .land .ensures .1 d (s .owners .now) n (s .counts .entries) sheet (s .names .now) p occurring acted
       ∙ step-on d sheet (statesOf (s .counts .fluents) (s .step .j + 1) (s .history .now)) (s .step .j) (s .names .now) (sym (c .before .before .before .before .before .before .before .before .before .before .before .before .before .before .before .before .before .check-agents .ensures d belonging) ∙ ap passOf (c .before .before .before .before .before .before .before .before .before .before .before .before .before .before .before .enum-told .given .1))
       (sym (c .before .before .before .before .before .before .before .before .before .check-entries .ensures d h n (s .names .now) (p .lawful) (p .ordered .executable) (p .owned) occurring (p .entries) seen) ∙ ap passOf (c .before .before .before .before .before .before .before .enum-told2 .given .1))

@@ -4,20 +4,16 @@ use Rattle.law.proofs.Evals.{no-cell}
 use Rattle.law.proofs.eval.cell.Statement.{statement}
 use Rattle.law.proofs.eval.cell.Tie as tie
 
-returns : tie.Need-returns
-returns c = let a = c .before .args in no-cell (a .history .now) (a .row) (a .column) (omega arith)
-
-returns-3 : tie.Need-returns-3
-returns-3 c = let a = c .before .before .args in no-cell (a .history .now) (a .row) (a .column) (omega arith)
+returns-2 : tie.Need-returns-2
+returns-2 c = let a = c .before .args in no-cell (a .history .now) (a .row) (a .column) (omega arith)
 
 pub cell-spec : {M : Type 1} → statement M
 cell-spec =
     tie.close
     (tie.spec
-    returns
     (λ c. search needs)
     (λ c. search needs)
     (λ c. search needs)
     (λ c. search needs)
     (λ c. search needs)
-    returns-3)
+    returns-2)

@@ -15,7 +15,6 @@ ghost use Rattle.judge.specs.Answer.{passOf, kindOf};
 ghost use Rattle.judge.specs.Told.{Belonging, Occurring, Says, Lawful, Owned, Within, Own, Owns, Seen};
 use crate::acting::Step;
 use crate::acting::has_agent;
-use crate::acting::has_entry;
 use crate::acting::wide;
 use crate::reading::Run;
 use crate::reading::constraint_of;
@@ -95,7 +94,7 @@ fn check_entry(
     Check::Failed(Fault::Barred, i)
 }
 
-// 2: "each occurring entry by number".
+// 2: "each occurring entry by number": the mask, bit by bit, until none is left.
 pub(crate) fn check_entries(
     held: &[u8; HELD],
     owners: &[u8; Counts::LAWS],
@@ -109,9 +108,13 @@ pub(crate) fn check_entries(
     ensures { λ r. ⌜ ((d : Domain) (h : History) (n : ℕ) (names : Names) → Lawful d (now (held .entry)) n → Owns (now (owners .entry)) n (now (first .entry)) (now (last .entry)) → Owned d (now (owners .entry))
         → Occurring d names (step .entries) → length (d .entries) ≡ count → Seen true d h (now (history .entry)) (step .j) → passOf r ≡ each (mayOccur d h (step .j) names) (d .entries)) ⌝ }
 {
+    let mut rest = step.entries;
     let mut i = 0;
     while i < count {
-        if has_entry(step.entries, i) {
+        if rest == 0 {
+            return Check::Passed;
+        }
+        if rest % 2 == 1 {
             let from = wide(first[i]);
             let to = wide(last[i]);
             let run = Run { from, to };
@@ -119,6 +122,7 @@ pub(crate) fn check_entries(
                 return Check::Failed(fault, n);
             }
         }
+        rest /= 2;
         i += 1;
     }
     Check::Passed

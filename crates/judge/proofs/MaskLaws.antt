@@ -10,7 +10,7 @@ use lib.Dec.{eqb}
 use lib.ListN.{getD}
 use lib.Pow.{pow-add, pow-mono, shr-shr, field, mod-mod-pow, shl-exact, pow-pos}
 use native.Mathlib.Nat.{mod-le}
-use borrow.Author.Tests.{ne-eqb}
+use borrow.Author.Tests.{eq-eqb, ne-eqb}
 use Rattle.bmap.specs.Plain.{either, both, if-else, any, numbers}
 use Rattle.bmap.specs.Domain.{has}
 use Rattle.law.proofs.Bits.{no-bit}
@@ -183,3 +183,24 @@ limit-some n h = rw (limit-is n h) (pow-pos n)
 
 pub none-cut : (n : ℕ) → 0 ≡ 0 % 2 ^ n
 none-cut n = let z : 0 % 2 ^ n ≤ 0 = mod-le 0 (2 ^ n) in omega arith
+
+-- ---- a mask, halved until none is left
+
+pub first-rest : (mask : ℕ) → mask ≡ mask / 2 ^ 0
+first-rest mask = omega arith
+
+pub next-rest : (mask i : ℕ) {rest : ℕ} → rest ≡ mask / 2 ^ i → rest / 2 ≡ mask / 2 ^ (i + 1)
+next-rest mask i e = ap (λ (k : ℕ). k / 2) e ∙ shr-shr mask i 1
+
+pub bit-set : (mask i : ℕ) {rest : ℕ} → rest ≡ mask / 2 ^ i → rest % 2 ≡ 1 → has mask i ≡ true
+bit-set mask i {rest} e h = ap (λ (k : ℕ). eqb (k % 2) 1) (sym e) ∙ eq-eqb (rest % 2) 1 h
+
+pub bit-clear : (mask i : ℕ) {rest : ℕ} → rest ≡ mask / 2 ^ i → (rest % 2 ≡ 1 → ⊥) → has mask i ≡ false
+bit-clear mask i {rest} e h = ap (λ (k : ℕ). eqb (k % 2) 1) (sym e) ∙ ne-eqb (rest % 2) 1 h
+
+-- none is left
+pub bits-none : (mask i k : ℕ) → mask / 2 ^ i ≡ 0 → i ≤ k → false ≡ has mask k
+bits-none mask i k e h =
+    let y : k ≡ i + (k - i) = omega arith in
+    no-bit 0 0 (k - i) (omega arith) (omega arith)
+    ∙ ap (λ (n : ℕ). eqb (n % 2) 1) (sym (ap (λ (n : ℕ). mask / 2 ^ n) y ∙ (sym (shr-shr mask i (k - i)) ∙ ap (λ (n : ℕ). n / 2 ^ (k - i)) e)))

@@ -1,16 +1,13 @@
 -- The states of a history, kept, filled and copied out. Assumes nothing.
-use Prim.Native.Nat.{ℕ, zero, suc, _+_, _-_, _*_, _/_, _%_, _^_, _≤_, _<_}
+use Prim.Native.Nat.{ℕ, zero, suc, _+_, _-_, _*_, _≤_, _<_}
 use mathlib.Core.Path.{_≡_, refl, sym, ap, _∙_}
 use mathlib.Core.Bool.{Bool, true, false}
 use mathlib.Core.List.{List, [], _∷_, _++_, map, append-assoc, append-nil}
 use native.Mathlib.Numerals.{add-one}
 use native.Mathlib.Omega.{arith}
 use native.Mathlib.Decide.{decLt}
-use lib.Dec.{eqb}
-use borrow.Author.Tests.{eq-eqb, ne-eqb}
 use lib.IntN.{ℤ, pos}
 use lib.ListN.{length, getD, take, drop, set, length-drop, length-append, length-set, List·getD-append}
-use lib.Pow.{shr-shr}
 use lib.Seq.{getD-set-same, getD-set-other, getD-append-seam, getD-take, getD-drop, take-take, take-suc-set, take-set-le, drop-set-lt, drop-set-add, length-take-le, paste, paste-suc, take-append-seam, drop-append-add, drop-drop}
 use Rattle.bmap.specs.Plain.{flat, numbers}
 use Rattle.bmap.specs.Limits.{mostFluents, mostEntries}
@@ -102,26 +99,6 @@ in-step h j e = ap (λ (k : ℕ). marked (getD h k (pos 0))) (let z : rowSize * 
 -- none where nothing was written
 pub marks-none : (h : List ℤ) (j e : ℕ) → Blank (marksFrom j) h → inStep h e (j + 1) ≡ has 0 e
 marks-none h j e blank = in-step h j e ∙ (ap marked (blank (marksFrom j + e) (omega arith)) ∙ no-bit 0 0 e (omega arith) (omega arith))
-
--- a mask, bit by bit
-pub first-rest : (mask : ℕ) → mask ≡ mask / 2 ^ 0
-first-rest mask = omega arith
-
-pub next-rest : (mask i : ℕ) {rest : ℕ} → rest ≡ mask / 2 ^ i → rest / 2 ≡ mask / 2 ^ (i + 1)
-next-rest mask i e = ap (λ (k : ℕ). k / 2) e ∙ shr-shr mask i 1
-
-pub bit-set : (mask i : ℕ) {rest : ℕ} → rest ≡ mask / 2 ^ i → rest % 2 ≡ 1 → has mask i ≡ true
-bit-set mask i {rest} e h = ap (λ (k : ℕ). eqb (k % 2) 1) (sym e) ∙ eq-eqb (rest % 2) 1 h
-
-pub bit-clear : (mask i : ℕ) {rest : ℕ} → rest ≡ mask / 2 ^ i → (rest % 2 ≡ 1 → ⊥) → has mask i ≡ false
-bit-clear mask i {rest} e h = ap (λ (k : ℕ). eqb (k % 2) 1) (sym e) ∙ ne-eqb (rest % 2) 1 h
-
--- none is left
-pub bits-none : (mask i k : ℕ) → mask / 2 ^ i ≡ 0 → i ≤ k → false ≡ has mask k
-bits-none mask i k e h =
-    let y : k ≡ i + (k - i) = omega arith in
-    no-bit 0 0 (k - i) (omega arith) (omega arith)
-    ∙ ap (λ (n : ℕ). eqb (n % 2) 1) (sym (ap (λ (n : ℕ). mask / 2 ^ n) y ∙ (sym (shr-shr mask i (k - i)) ∙ ap (λ (n : ℕ). n / 2 ^ (k - i)) e)))
 
 marked-is : (b : Bool) → marked (markOf b) ≡ b
 marked-is true = refl

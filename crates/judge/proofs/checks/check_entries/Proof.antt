@@ -12,7 +12,7 @@ use Rattle.judge.specs.Answer.{passOf}
 use Rattle.judge.specs.Told.{Lawful, Owns, Owned, Occurring, Seen}
 use Rattle.judge.proofs.LoopLaws.{ends, stops, on, each-on, each-stop, each-none, rests}
 use Rattle.judge.proofs.CheckLaws.{noEntry, own-moved, occurs-may, occurs-not}
-use Rattle.judge.proofs.StateLaws.{first-rest, next-rest, bit-set, bit-clear, bits-none}
+use Rattle.judge.proofs.MaskLaws.{first-rest, next-rest, bit-set, bit-clear, bits-none}
 use Rattle.judge.proofs.checks.check_entries.Statement.{statement}
 use Rattle.judge.proofs.checks.check_entries.Tie as tie
 

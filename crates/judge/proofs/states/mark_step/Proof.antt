@@ -10,7 +10,8 @@ use Rattle.bmap.specs.Domain.{has}
 use Rattle.law.specs.Evaluate.{rowSize, marked}
 use Rattle.number.proofs.BackLaws.{back16}
 use Rattle.judge.specs.States.{Marking, marksFrom, markOf}
-use Rattle.judge.proofs.StateLaws.{between-set, marks-more, marks-none, in-step, first-rest, next-rest}
+use Rattle.judge.proofs.StateLaws.{between-set, marks-more, marks-none, in-step}
+use Rattle.judge.proofs.MaskLaws.{first-rest, next-rest}
 use Rattle.judge.proofs.states.mark_step.Statement.{statement}
 use Rattle.judge.proofs.states.mark_step.Tie as tie
 

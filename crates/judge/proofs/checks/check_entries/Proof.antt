@@ -65,12 +65,15 @@ loop-less : tie.Need-loop-less Inv-loop μ-loop
 loop-less c = search needs
 
 loop-again : tie.Need-loop-again Inv-loop μ-loop
-loop-again c = (next-rest (c .before .before .before .before .args .step .entries) (c .before .before .before .loop .i) (c .before .before .before .loop .inv .0), λ d h n names lawful owns owned occurring count seen. let a = c .before .before .before .before .args in let f = mayOccur d h (a .step .j) names in let i = c .before .before .before .loop .i in
-    let p : i < length (d .entries) = omega (arith, c .before .before .loop-test .taken) in
-    c .before .before .before .loop .inv .1 d h n names lawful owns owned occurring count seen ∙ on (λ k r. eachFrom k f r) (d .entries) noEntry i p (each-on f i _ _ (⊎-elim
-    (λ w. occurs-may d h (a .step .j) names i _ (sym (occurring i p ∙ bit-set (a .step .entries) i (c .before .before .before .loop .inv .0) (w .0 .taken))) ∙ (sym (w .5 .ensures d h n lawful (own-moved (w .2 .ensures) (w .4 .ensures) (owns i (omega arith))) owned seen) ∙ ap passOf (w .7 .given .1)))
-    (λ w. occurs-not d h (a .step .j) names i _ (sym (occurring i p ∙ bit-clear (a .step .entries) i (c .before .before .before .loop .inv .0) (w .left))))
-    (c .if2 .came))))
+loop-again c = (
+  next-rest (c .before .before .before .before .args .step .entries) (c .before .before .before .loop .i) (c .before .before .before .loop .inv .0),
+  λ d h n names lawful owns owned occurring count seen. let a = c .before .before .before .before .args in let f = mayOccur d h (a .step .j) names in let i = c .before .before .before .loop .i in
+      let p : i < length (d .entries) = omega (arith, c .before .before .loop-test .taken) in
+      c .before .before .before .loop .inv .1 d h n names lawful owns owned occurring count seen ∙ on (λ k r. eachFrom k f r) (d .entries) noEntry i p (each-on f i _ _ (⊎-elim
+      (λ w. occurs-may d h (a .step .j) names i _ (sym (occurring i p ∙ bit-set (a .step .entries) i (c .before .before .before .loop .inv .0) (w .0 .taken))) ∙ (sym (w .5 .ensures d h n lawful (own-moved (w .2 .ensures) (w .4 .ensures) (owns i (omega arith))) owned seen) ∙ ap passOf (w .7 .given .1)))
+      (λ w. occurs-not d h (a .step .j) names i _ (sym (occurring i p ∙ bit-clear (a .step .entries) i (c .before .before .before .loop .inv .0) (w .left))))
+      (c .if2 .came))),
+)
 
 returns-3 : tie.Need-returns-3 Inv-loop μ-loop
 returns-3 c = λ d h n names lawful owns owned occurring count seen. let a = c .before .before .args in let f = mayOccur d h (a .step .j) names in

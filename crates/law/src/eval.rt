@@ -178,10 +178,7 @@ fn operated_of(op: Operation, a: u64, b: u64) -> u64
     if end == 0 {
         return MALFORMED;
     }
-    with_value(
-        number::operate(op, value_of(a), value_of(b)),
-        end,
-    )
+    with_value(number::operate(op, value_of(a), value_of(b)), end)
 }
 
 fn compared_of(op: Comparison, a: u64, b: u64) -> u64
@@ -191,10 +188,7 @@ fn compared_of(op: Comparison, a: u64, b: u64) -> u64
     if end == 0 {
         return MALFORMED;
     }
-    with_truth(
-        number::compare(op, value_of(a), value_of(b)),
-        end,
-    )
+    with_truth(number::compare(op, value_of(a), value_of(b)), end)
 }
 
 fn joined_of(op: Junction, a: u64, b: u64) -> u64
@@ -204,10 +198,7 @@ fn joined_of(op: Junction, a: u64, b: u64) -> u64
     if end == 0 {
         return MALFORMED;
     }
-    with_truth(
-        number::join(op, truth_of(a), truth_of(b)),
-        end,
-    )
+    with_truth(number::join(op, truth_of(a), truth_of(b)), end)
 }
 
 // An expression with so much depth left. Most of a tree are leaves: this function is small enough to be put in place of its
@@ -327,12 +318,7 @@ fn truth_in(
 fn lent(_s: &[u8], _history: &[i16]) {}
 
 // The expression at a place, read at a position of the history: after the last there is none.
-pub fn expression_at(
-    s: &[u8; HELD],
-    at: usize,
-    history: &[i16; HISTORY],
-    j: usize,
-) -> Evaluated
+pub fn expression_at(s: &[u8; HELD], at: usize, history: &[i16; HISTORY], j: usize) -> Evaluated
     ensures { λ r. ⌜ evaluated r ≡ atPosition j (valueAt mostDepth (now (s .entry)) at (now (history .entry)) j) ⌝ }
 {
     if Sheet::STEPS < j {
@@ -349,12 +335,7 @@ pub fn expression_at(
 }
 
 // The constraint at a place, read at such a position.
-pub fn constraint_at(
-    s: &[u8; HELD],
-    at: usize,
-    history: &[i16; HISTORY],
-    j: usize,
-) -> Judged
+pub fn constraint_at(s: &[u8; HELD], at: usize, history: &[i16; HISTORY], j: usize) -> Judged
     ensures { λ r. ⌜ judged r ≡ atPosition j (truthAt mostDepth (now (s .entry)) at (now (history .entry)) j) ⌝ }
 {
     if Sheet::STEPS < j {

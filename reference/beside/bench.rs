@@ -251,11 +251,13 @@ fn main() {
     );
     let (pool, two_steps, deep) = (inputs::pool(), inputs::two_steps(), inputs::deep());
     let (full, filled, idle) = (inputs::full(), inputs::filled(true), inputs::filled(false));
-    let crews = inputs::large_crews();
-    for input in [&pool, &two_steps, &deep, &full, &filled, &idle, &crews] {
+    let (mixed, crews) = (inputs::mixed(), inputs::large_crews());
+    for input in [
+        &pool, &two_steps, &deep, &full, &filled, &idle, &mixed, &crews,
+    ] {
         verdicts(input);
     }
-    for input in [&inputs::long_text(), &filled] {
+    for input in [&inputs::long_text(), &filled, &mixed] {
         domain_texts(input);
     }
     for input in [&pool, &full] {

@@ -7,6 +7,7 @@ use waroth_reference::generate::laws::{constant, node, wrapped};
 use waroth_reference::generate::random::Random;
 use waroth_reference::generate::shapes::longest;
 use waroth_reference::generate::supplements::{longest_lines, LONGEST_LAW};
+use waroth_reference::law::MAX_DEPTH;
 use waroth_reference::line::MAX_PAYLOAD;
 
 const STEPS: usize = 64;
@@ -163,6 +164,74 @@ pub fn filled(acting: bool) -> Input {
         },
         draft,
         sheet: vec![acting.into(); 16 * STEPS],
+    }
+}
+
+/// An expression of at most so many levels and bytes that always has a value: every code, by chance.
+fn mixed_value(r: &mut Random, depth: usize, room: usize) -> Vec<u8> {
+    let some = |r: &mut Random| vec![0x11, r.below(32) as u8, r.below(4) as u8];
+    let small = |r: &mut Random| constant(r.below(9) as i16 + 1);
+    if depth <= 2 || room < 12 || r.one_in(5) {
+        return if r.one_in(3) { small(r) } else { some(r) };
+    }
+    match r.below(9) {
+        code @ 0..=1 => node(0x17 + code as u8, &[&mixed_value(r, depth - 1, room - 1)]),
+        2 => node(0x19, &[&mixed_truth(r, depth - 1, room - 1)]),
+        code @ 3..=4 => {
+            let divided = mixed_value(r, depth - 1, room - 4);
+            node(0x12 + code as u8, &[&divided, &small(r)])
+        }
+        5 => {
+            let rest = node(0x16, &[&mixed_value(r, depth - 2, room - 8), &constant(7)]);
+            node(0x14, &[&rest, &some(r)])
+        }
+        code => {
+            let first = mixed_value(r, depth - 1, room / 2);
+            let second = mixed_value(r, depth - 1, room - 1 - first.len());
+            node(0x12 + code as u8 % 2, &[&first, &second])
+        }
+    }
+}
+
+/// A constraint that always has a truth.
+fn mixed_truth(r: &mut Random, depth: usize, room: usize) -> Vec<u8> {
+    if depth <= 2 || room < 16 {
+        return match room {
+            0..7 => vec![0x2A],
+            _ => vec![0x29, 0, r.below(3) as u8],
+        };
+    }
+    match r.below(6) {
+        0 => node(0x28, &[&mixed_truth(r, depth - 1, room - 1)]),
+        1..=2 => {
+            let first = mixed_truth(r, depth - 1, room / 2);
+            let second = mixed_truth(r, depth - 1, room - 1 - first.len());
+            node(0x26 + r.below(2) as u8, &[&first, &second])
+        }
+        _ => {
+            let first = mixed_value(r, depth - 1, room / 2);
+            let second = mixed_value(r, depth - 1, room - 1 - first.len());
+            node(0x20 + r.below(6) as u8, &[&first, &second])
+        }
+    }
+}
+
+/// As many laws as is allowed, no two alike, which fill their lines or nearly do, and all are read in each step: no habit of
+/// one law helps a processor to guess what the next does.
+pub fn mixed() -> Input {
+    let mut r = Random::seeded(11);
+    let fluents: Vec<_> = (0..32).map(|number| [0, 1000, 3 * number + 1]).collect();
+    let mut draft = Draft::new(16, &fluents, &[(1, 1)]).free();
+    while draft.laws() < 128 {
+        let condition = mixed_truth(&mut r, MAX_DEPTH - 2, MAX_PAYLOAD - 2);
+        if condition.len() >= 90 {
+            draft.insert(law(0xA8, &[&node(0x27, &[&condition, &[0x2A]])]));
+        }
+    }
+    Input {
+        name: "128 laws that differ, all read, 64 steps",
+        draft,
+        sheet: vec![0; 16 * STEPS],
     }
 }
 

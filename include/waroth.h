@@ -58,11 +58,11 @@ enum { WAROTH_INPUT = 60000 };
 
 /* The most stack of a call, in bytes: what was measured, with room to spare. Measured by reference/beside/stack.c:
  *
- *   waroth_read_domain   2,320   waroth_read_supplement  5,984   waroth_judge        28,992   waroth_open    5,504
- *   waroth_write_domain  5,552   waroth_law              8,288   waroth_judge_under  29,008   waroth_enter  20,976
- *   waroth_counts        5,488   waroth_lay             10,400   waroth_answer       71,376   waroth_strike 25,632
- *   waroth_frame             8   waroth_read_sheet         312   waroth_low_water    87,424   waroth_amend  20,992
- *                                waroth_write_sheet         69   waroth_verdict      41,248   waroth_undo   17,360
+ *   waroth_read_domain   2,544   waroth_read_supplement  6,128   waroth_judge        35,952   waroth_open    5,648
+ *   waroth_write_domain  5,696   waroth_law              8,432   waroth_judge_under  35,968   waroth_enter  20,976
+ *   waroth_counts        5,632   waroth_lay             10,544   waroth_answer       76,448   waroth_strike 25,632
+ *   waroth_frame             8   waroth_read_sheet         296   waroth_low_water    92,512   waroth_amend  20,992
+ *                                waroth_write_sheet         69   waroth_verdict      44,352   waroth_undo   17,360
  *                                                                                             waroth_redo   20,992 */
 enum {
     WAROTH_STACK_TEXTS = 8192,        /* domains and sheets */

@@ -11,7 +11,7 @@ use lib.ListN.{length, take, drop, length-append, length-take, length-drop}
 use lib.Seq.{sets-eq, take-all}
 use borrow.Author.Tests.{le-leb, lt-leb}
 use Rattle.bmap.specs.Plain.{if-else, flat, text}
-use Rattle.bmap.specs.Limits.{mostAgents, mostFluents, levelsSize, storeSize, sheetSize, mostInput}
+use Rattle.bmap.specs.Limits.{mostAgents, levelsSize, storeSize, sheetSize, mostInput}
 use Rattle.bmap.specs.Refusal.{got, numberOf, Reading, read, refusedAt, afterwards}
 use Rattle.bmap.specs.declared.refusal.Refusal.{Refusal}
 use Rattle.bmap.specs.declared.limits.Counts.{Counts}

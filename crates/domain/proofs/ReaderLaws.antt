@@ -13,7 +13,7 @@ use Rattle.bmap.specs.Plain.{if-else}
 use Rattle.bmap.specs.Refusal.{numberOf, got, refused, need, read, refusedAt, atLine, afterwards}
 use Rattle.bmap.specs.Line.{Frame}
 use Rattle.bmap.specs.Payload.{byte, wordAt}
-use Rattle.bmap.specs.Accept.{Partial, nothing, countsOf, room, accept, complete, finished, takenFrom, checked}
+use Rattle.bmap.specs.Accept.{Partial, nothing, countsOf, room, accept, finished, takenFrom, checked}
 use Rattle.bmap.specs.Buffer.{padded}
 use Rattle.bmap.specs.Store.{framesOf, reading, readDomain}
 use Rattle.bmap.specs.declared.limits.Counts.{Counts}

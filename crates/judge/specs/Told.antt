@@ -9,9 +9,9 @@ use lib.ListN.{length, getD, take, drop}
 use Rattle.bmap.specs.Plain.{any, if-else}
 use Rattle.bmap.specs.Limits.{mostSteps, mostEntries, mostLaws, mostPayload, frameSize}
 use Rattle.bmap.specs.Line.{effectKind, staticKind, concurrencyKind, goalKind}
-use Rattle.bmap.specs.Tree.{Con, always}
+use Rattle.bmap.specs.Tree.{Con}
 use Rattle.bmap.specs.Meaning.{History}
-use Rattle.bmap.specs.Domain.{Domain, Names, Law, executable, effect, must, static, concurrency, goal, entryAt, has, occursIn, knows, readable}
+use Rattle.bmap.specs.Domain.{Domain, Names, Law, executable, effect, must, concurrency, goal, entryAt, has, occursIn, knows, readable}
 use Rattle.bmap.specs.Judge.{carries}
 use Rattle.bmap.specs.Payload.{lawIn, asks}
 use Rattle.bmap.specs.Accept.{countsOf}

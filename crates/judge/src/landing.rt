@@ -2,12 +2,11 @@
 ghost use mathlib.Core.Path.{_≡_};
 ghost use mathlib.Core.List.{List, []};
 ghost use Prim.Native.Nat.{ℕ, _+_, _*_, _≤_, _<_};
-ghost use lib.IntN.{pos};
-ghost use lib.ListN.{length, getD, set};
+ghost use lib.ListN.{length, set};
 ghost use Rattle.bmap.specs.Limits.{mostFluents, mostSteps, mostLaws};
 ghost use Rattle.bmap.specs.Domain.{Domain, State};
 ghost use Rattle.bmap.specs.Judge.{Setting, stateAfter};
-ghost use Rattle.law.specs.Evaluate.{historySize, cellAt};
+ghost use Rattle.law.specs.Evaluate.{historySize};
 ghost use Rattle.judge.specs.States.{stateAt, leaving, Kept};
 ghost use Rattle.judge.specs.Settings.{settingsOf};
 ghost use Rattle.judge.specs.Landing.{Ranged, Laid, ranged, fitOf};

@@ -17,42 +17,46 @@ const ANY_LAG: u64 = 255;
 // Every bit of a mask.
 const ALL: u32 = 4_294_967_295;
 
-// Where each part of the word begins, after the number of fluents.
-const ENTRIES: u64 = 512;
+// How many values a limit and a lag have, and where each part of the word begins, after the number of fluents.
+const LIMITS: u64 = 512;
 
-const LAG: u64 = 512 * ENTRIES;
+const LAGS: u64 = 256;
 
-const MASK: u64 = 4_294_967_296;
+const ENTRIES_AT: u64 = LIMITS;
+
+const LAG_AT: u64 = LIMITS * ENTRIES_AT;
+
+const MASK_AT: u64 = 4_294_967_296;
 
 fn word(fluents: u64, entries: u64, lag: u64, mask: u32) -> u64
     requires { ⌜ (fluents ≤ 256) × ((entries ≤ 256) × (lag < 256)) ⌝ }
     ensures { λ r. ⌜ r ≡ wordOf fluents entries lag mask ⌝ }
 {
-    fluents + ENTRIES * entries + LAG * lag + MASK * mask as u64
+    fluents + ENTRIES_AT * entries + LAG_AT * lag + MASK_AT * mask as u64
 }
 
 fn fluents_of(may: u64) -> u64
     ensures { λ r. ⌜ r ≡ fluentsIn may ⌝ }
 {
-    may % ENTRIES
+    may % LIMITS
 }
 
 fn entries_of(may: u64) -> u64
     ensures { λ r. ⌜ r ≡ entriesIn may ⌝ }
 {
-    may / ENTRIES % 512
+    may / ENTRIES_AT % LIMITS
 }
 
 fn lag_of(may: u64) -> u64
     ensures { λ r. ⌜ r ≡ lagIn may ⌝ }
 {
-    may / LAG % 256
+    may / LAG_AT % LAGS
 }
 
 fn mask_of(may: u64) -> u64
     ensures { λ r. ⌜ r ≡ maskIn may ⌝ }
 {
-    may / MASK
+    may / MASK_AT
 }
 
 // No byte reaches 256.

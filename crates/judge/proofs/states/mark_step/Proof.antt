@@ -5,7 +5,6 @@ use native.Mathlib.Omega.{arith}
 use borrow.Author.Needs.{needs}
 use lib.IntN.{pos}
 use lib.ListN.{getD}
-use Rattle.bmap.specs.Limits.{mostFluents}
 use Rattle.bmap.specs.Domain.{has}
 use Rattle.law.specs.Evaluate.{rowSize, marked}
 use Rattle.number.proofs.BackLaws.{back16}

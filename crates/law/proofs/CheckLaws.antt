@@ -142,17 +142,17 @@ module _ (s : List ℕ) (n : ℕ) (le : n ≤ length s) where
   pub code-at : {A : Type 0} {x : A} (f : ℕ → A) (at : ℕ) → at < n → x ≡ f (getD s at 0) → x ≡ f (getD (take n s) at 0)
   code-at f at h e = e ∙ ap f (sym (getD-take n s at 0 h))
 
-  -- a leaf there, which ends after two bytes
-  module _ {T : Type 0} (ok : T → Bool) (make : ℕ → ℕ → T) (at end : ℕ) (is : end ≡ at + 3) where
-    pub pair-ends : n < end → refused 4 ≡ endOf ok at (twoBytes make (drop (at + 1) (take n s)))
-    pair-ends h = leaf-short ok make (take n s) at (pair-short (take n s) at (rw as-long (omega arith)))
+  -- a leaf there
+  module _ {T : Type 0} (ok : T → Bool) (make : ℕ → ℕ → T) (at : ℕ) where
+    pub pair-ends : n - at < 3 → refused 4 ≡ endOf ok at (twoBytes make (drop (at + 1) (take n s)))
+    pair-ends h = leaf-short ok make (take n s) at (pair-short (take n s) at (rw as-long h))
 
-    module _ (h : end ≤ n) where
+    module _ (h : 3 ≤ n - at) where
       bytes : Bytes (getD s (at + 1) 0) (getD s (at + 2) 0) ≡ pairOf (drop (at + 1) (take n s))
-      bytes = rw (← getD-take n s (at + 1) 0 (omega arith), ← getD-take n s (at + 2) 0 (omega arith)) (pair-long (take n s) at (rw as-long (omega arith)))
+      bytes = rw (← getD-take n s (at + 1) 0 (omega arith), ← getD-take n s (at + 2) 0 (omega arith)) (pair-long (take n s) at (rw as-long h))
 
-      pub pair-passes : ok (make (getD s (at + 1) 0) (getD s (at + 2) 0)) ≡ true → nextOf end ≡ endOf ok at (twoBytes make (drop (at + 1) (take n s)))
-      pair-passes e = ap nextOf is ∙ leaf-passes ok make (take n s) at bytes e
+      pub pair-passes : ok (make (getD s (at + 1) 0) (getD s (at + 2) 0)) ≡ true → nextOf (at + 3) ≡ endOf ok at (twoBytes make (drop (at + 1) (take n s)))
+      pair-passes e = leaf-passes ok make (take n s) at bytes e
 
       pub pair-fails : ok (make (getD s (at + 1) 0) (getD s (at + 2) 0)) ≡ false → refused 4 ≡ endOf ok at (twoBytes make (drop (at + 1) (take n s)))
       pair-fails e = leaf-fails ok make (take n s) at bytes e

@@ -34,13 +34,13 @@ module _ (l : List ℤ) (j e t : ℕ) where
   pub at-step : t ≤ j → marked (cellAt l (j - t) (mostFluents + e)) ≡ both (leb t j) (inStep l e (j + 1 - t))
   at-step h = let k : j + 1 - t - 1 ≡ j - t = omega arith in rw (le-leb t j h, k)
 
--- The leaves, which end after two bytes.
-module _ {A : Type 0} (make : ℕ → ℕ → A) (s : List ℕ) (at end : ℕ) (is : end ≡ at + 3) where
-  pub leaf-none : length s < end → malformed ≡ meant (λ v. v) at (twoBytes make (drop (at + 1) s))
-  leaf-none h = rw (no-pair make (drop (at + 1) s) (pair-short s at (omega arith)))
+-- The leaves.
+module _ {A : Type 0} (make : ℕ → ℕ → A) (s : List ℕ) (at : ℕ) where
+  pub leaf-none : length s - at < 3 → malformed ≡ meant (λ v. v) at (twoBytes make (drop (at + 1) s))
+  leaf-none h = rw (no-pair make (drop (at + 1) s) (pair-short s at h))
 
-  pub leaf-gives : {v : A} → end ≤ length s → v ≡ make (getD s (at + 1) 0) (getD s (at + 2) 0) → gives v end ≡ meant (λ v. v) at (twoBytes make (drop (at + 1) s))
-  leaf-gives h q = rw (a-pair make (drop (at + 1) s) (pair-long s at (omega arith)), q, is)
+  pub leaf-gives : {v : A} → 3 ≤ length s - at → v ≡ make (getD s (at + 1) 0) (getD s (at + 2) 0) → gives v (at + 3) ≡ meant (λ v. v) at (twoBytes make (drop (at + 1) s))
+  leaf-gives h q = rw (a-pair make (drop (at + 1) s) (pair-long s at h), q)
 
 leaf-meant : {T A : Type 0} (f : T → A) (make : ℕ → ℕ → T) (at : ℕ) (l : List ℕ) → meant (λ v. v) at (twoBytes (λ a b. f (make a b)) l) ≡ meant f at (twoBytes make l)
 leaf-meant f make at [] = refl

@@ -166,25 +166,6 @@ module _ {row : ℕ} where
   is-occurrence (expression c) p q = cc
   is-occurrence no-code p q = cc
 
-  -- a leaf has two bytes
-  pub leaf-bytes-e : (c : Code) → Expression row ≡ opened c → sortIn row ≡ 1 → countIn row ≡ 2
-  leaf-bytes-e (expression a-constant) p q = let w = reads row (expression a-constant) cc in w .count
-  leaf-bytes-e (expression a-fluent) p q = let w = reads row (expression a-fluent) cc in w .count
-  leaf-bytes-e (expression (of-two o)) p q = let w = reads row (expression (of-two o)) cc in absurd (omega (arith, w .sort, q))
-  leaf-bytes-e (expression (of-one o)) p q = let w = reads row (expression (of-one o)) cc in absurd (omega (arith, w .sort, q))
-  leaf-bytes-e (expression a-reified) p q = let w = reads row (expression a-reified) cc in absurd (omega (arith, w .sort, q))
-  leaf-bytes-e (constraint c) p q = cc
-  leaf-bytes-e no-code p q = cc
-
-  pub leaf-bytes-c : (c : Code) → Constraint row ≡ opened c → sortIn row ≡ 1 → countIn row ≡ 2
-  leaf-bytes-c (constraint (of-comparison o)) p q = let w = reads row (constraint (of-comparison o)) cc in absurd (omega (arith, w .sort, q))
-  leaf-bytes-c (constraint (of-junction o)) p q = let w = reads row (constraint (of-junction o)) cc in absurd (omega (arith, w .sort, q))
-  leaf-bytes-c (constraint a-negation) p q = let w = reads row (constraint a-negation) cc in absurd (omega (arith, w .sort, q))
-  leaf-bytes-c (constraint an-occurrence) p q = let w = reads row (constraint an-occurrence) cc in w .count
-  leaf-bytes-c (constraint a-truth) p q = let w = reads row (constraint a-truth) cc in absurd (omega (arith, w .sort, q))
-  leaf-bytes-c (expression c) p q = cc
-  leaf-bytes-c no-code p q = cc
-
   is-truth : (c : Code) → Constraint row ≡ opened c → countIn row ≡ 0 → c ≡ constraint a-truth
   is-truth (constraint (of-comparison o)) p n = let w = reads row (constraint (of-comparison o)) cc in absurd (omega (arith, w .count, n))
   is-truth (constraint (of-junction o)) p n = let w = reads row (constraint (of-junction o)) cc in absurd (omega (arith, w .count, n))

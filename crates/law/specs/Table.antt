@@ -1,6 +1,5 @@
 -- The operand table: for each code the sort of its operands, how many there are, and which operator is made of them.
-use mathlib.Core.Path.{_≡_}
-use Prim.Native.Nat.{ℕ, _+_, _*_, _/_, _%_, _<_}
+use Prim.Native.Nat.{ℕ, _+_, _*_, _/_, _%_}
 use mathlib.Core.List.{List, [], _∷_, map}
 use lib.Dec.{eqb}
 use Rattle.bmap.specs.Plain.{if-else, numbers}
@@ -118,11 +117,6 @@ abbrev pub opened : Code → Node
 opened (expression c) = Expression (rowOf (expression c))
 opened (constraint c) = Constraint (rowOf (constraint c))
 opened no-code = Refused
-
--- the row of a leaf whose code stands at a place of so many bytes
-pub record LeafRow (size at row : ℕ) : Type 0 where
-  pub inside : at < size
-  pub bytes : countIn row ≡ 2
 
 -- the first two bytes
 abbrev pub pairOf : List ℕ → Pair

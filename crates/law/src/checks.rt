@@ -6,7 +6,7 @@ ghost use lib.ListN.{length, take, drop};
 ghost use Rattle.bmap.specs.Limits.{mostDepth};
 ghost use Rattle.bmap.specs.Tree.{allowedE, allowedC, occurs};
 ghost use Rattle.bmap.specs.Code.{parseE, parseC, twoBytes};
-ghost use Rattle.law.specs.Table.{rows, LeafRow};
+ghost use Rattle.law.specs.Table.{rows};
 ghost use Rattle.law.specs.Check.{checkedOf, nextOf, endOf, passesE, passesC, Test, Asks, leafIn, lawSize, LawIn, Inner, exprEnd, conEnd};
 use crate::long::tree_in;
 use crate::may::allowed_in;
@@ -36,31 +36,29 @@ pub(crate) const REFUSED: usize = 0;
 // The first n bytes of an array are the law's, with room for a frame: a slice would go through memory at every node.
 pub(crate) const LAW: usize = 128;
 
-// The leaves, whose code stands at a place: after it so many bytes as the row says.
+// The leaves, whose code stands at a place.
 fn leaf_at(s: &[u8; LAW], n: usize, at: usize, may: u64, row: u8) -> usize
-    requires { ⌜ LawIn (now s) n × LeafRow n at row ⌝ }
+    requires { ⌜ LawIn (now s) n × (at < n) ⌝ }
     ensures { λ r. ⌜ ((t : Test) → Asks may t → nextOf r ≡ endOf (passesE t) at (twoBytes (leafIn row) (drop (at + 1) (take n (now (s .entry)))))) ⌝ }
 {
-    let end = at + 1 + count(row) as usize;
-    if n < end {
+    if n - at < 3 {
         return REFUSED;
     }
     if leaf_passes(may, row, s[at + 1], s[at + 2]) {
-        return end;
+        return at + 3;
     }
     REFUSED
 }
 
-fn entry_at(s: &[u8; LAW], n: usize, at: usize, may: u64, row: u8) -> usize
-    requires { ⌜ LawIn (now s) n × LeafRow n at row ⌝ }
+fn entry_at(s: &[u8; LAW], n: usize, at: usize, may: u64) -> usize
+    requires { ⌜ LawIn (now s) n × (at < n) ⌝ }
     ensures { λ r. ⌜ ((t : Test) → Asks may t → nextOf r ≡ endOf (passesC t) at (twoBytes occurs (drop (at + 1) (take n (now (s .entry)))))) ⌝ }
 {
-    let end = at + 1 + count(row) as usize;
-    if n < end {
+    if n - at < 3 {
         return REFUSED;
     }
     if entry_passes(may, s[at + 1], s[at + 2]) {
-        return end;
+        return at + 3;
     }
     REFUSED
 }
@@ -145,7 +143,7 @@ fn constraint_in(
         return expression_in(s, n, middle, depth - 1, may, table);
     }
     if sort(row) == BYTES {
-        return entry_at(s, n, at, may, row);
+        return entry_at(s, n, at, may);
     }
     if count(row) == 0 {
         return at + 1;

@@ -9,8 +9,8 @@ ghost use Rattle.bmap.specs.Plain.{both};
 ghost use Rattle.bmap.specs.Limits.{mostDepth, mostSteps};
 ghost use Rattle.bmap.specs.Number.{value, with1, with2, operate, change, compare, join, flag};
 ghost use Rattle.bmap.specs.Code.{twoBytes};
-ghost use Rattle.law.specs.Table.{rows, LeafRow};
-ghost use Rattle.law.specs.Evaluate.{heldSize, rowSize, historySize, Lent, gives, evaluated, judged, meant, onward, cellAt, marked, inStep, leafOf, NoLeaf, atPosition, valueAt, truthAt};
+ghost use Rattle.law.specs.Table.{rows};
+ghost use Rattle.law.specs.Evaluate.{rowSize, historySize, Lent, gives, evaluated, judged, meant, onward, cellAt, marked, inStep, leafOf, NoLeaf, atPosition, valueAt, truthAt};
 ghost use Rattle.law.specs.Packed.{valueIn, truthIn, evaluatedIn, judgedIn};
 use crate::packed::MALFORMED;
 use crate::packed::end_of;
@@ -116,28 +116,26 @@ fn number_at(z: i16, end: usize) -> u64
 
 // The leaves, whose code stands at a place: a constant, or a fluent and its lag.
 fn leaf_in(s: &[u8; HELD], at: usize, history: &[i16; HISTORY], j: usize, row: u8) -> u64
-    requires { ⌜ Lent (now s) (now history) j × LeafRow heldSize at row ⌝ }
+    requires { ⌜ Lent (now s) (now history) j ⌝ }
     ensures { λ r. ⌜ evaluatedIn r ≡ meant (λ v. v) at (twoBytes (leafOf row (now (history .entry)) j) (drop (at + 1) (now (s .entry)))) ⌝ }
 {
-    let end = at + 1 + count(row) as usize;
-    if HELD < end {
+    if HELD - 2 <= at {
         return MALFORMED;
     }
     if operator(row) == 0 {
-        return number_at(number::signed_word(s[at + 1], s[at + 2]), end);
+        return number_at(number::signed_word(s[at + 1], s[at + 2]), at + 3);
     }
-    number_at(level(history, j, s[at + 1], s[at + 2]), end)
+    number_at(level(history, j, s[at + 1], s[at + 2]), at + 3)
 }
 
-fn occurrence_in(s: &[u8; HELD], at: usize, history: &[i16; HISTORY], j: usize, row: u8) -> u64
-    requires { ⌜ Lent (now s) (now history) j × LeafRow heldSize at row ⌝ }
+fn occurrence_in(s: &[u8; HELD], at: usize, history: &[i16; HISTORY], j: usize) -> u64
+    requires { ⌜ Lent (now s) (now history) j ⌝ }
     ensures { λ r. ⌜ judgedIn r ≡ meant (λ v. v) at (twoBytes (λ e t. value (both (leb t j) (inStep (now (history .entry)) e (j + 1 - t)))) (drop (at + 1) (now (s .entry)))) ⌝ }
 {
-    let end = at + 1 + count(row) as usize;
-    if HELD < end {
+    if HELD - 2 <= at {
         return MALFORMED;
     }
-    with_truth(Truth::Is(occurs(history, j, s[at + 1], s[at + 2])), end)
+    with_truth(Truth::Is(occurs(history, j, s[at + 1], s[at + 2])), at + 3)
 }
 
 // "19 reified constraint": what the constraint gives, as a number.
@@ -296,7 +294,7 @@ fn truth_in(
         );
     }
     if sort(row) == BYTES {
-        return occurrence_in(s, at, history, j, row);
+        return occurrence_in(s, at, history, j);
     }
     if count(row) == 0 {
         return with_truth(Truth::Is(true), at + 1);

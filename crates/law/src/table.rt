@@ -1,7 +1,7 @@
 // "The number of operands of each code is kept as one table, code by code": what the operands of a code are, how many there
 // are, and which operator is made of them. The checker, the evaluator and the search for fluents take the three from a row,
-// the leaves 10, 11 and 29 too, and look at no code a second time. Where the sort of the operands leaves one count only (two
-// expressions of a constraint, one constraint of an expression), no count is asked.
+// the leaves 10 and 11 too, and look at no code a second time. Where the sort of the operands leaves one count only (two bytes,
+// two expressions of a constraint, one constraint of an expression), no count is asked.
 ghost use mathlib.Core.Path.{_≡_};
 ghost use Prim.Native.Nat.{_+_, _≤_, _<_};
 ghost use lib.ListN.{drop};

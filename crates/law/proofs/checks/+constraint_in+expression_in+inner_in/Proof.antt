@@ -11,8 +11,8 @@ use lib.ListN.{length, take, getD}
 use Rattle.bmap.specs.Code.{codeOf}
 use Rattle.law.specs.declared.table.Node.the-variants.{Expression, Constraint}
 use Rattle.law.specs.Check.{passesE, passesC}
-use Rattle.law.specs.Table.{opened, sortIn, countIn, LeafRow}
-use Rattle.law.proofs.Trees.{deep-e, deep-c, end-e, end-c, no-expression, no-constraint, leaf-bytes-e, leaf-bytes-c}
+use Rattle.law.specs.Table.{opened, sortIn, countIn}
+use Rattle.law.proofs.Trees.{deep-e, deep-c, end-e, end-c, no-expression, no-constraint}
 use Rattle.law.proofs.CheckLaws.{nowhere, there, no-tree, inside, outside, code-at, check-leaf, check-reified, check-one, check-two, check-first}
 use Rattle.law.proofs.CheckLaws.{check-compared, check-first-e, check-occurrence, check-truth, check-negation, check-junction, check-first-c}
 use Rattle.law.proofs.checks.constraint_in.Reads as constraint-in
@@ -174,17 +174,6 @@ module _ (t : ℕ) where
       (no-expression (law-e i) (i .args .at) (i .args .depth) (c .before .before .before .before .if1 .left) (inside (i .args .s .now) (i .args .n) (fits-e i) h) _
       (code-at (i .args .s .now) (i .args .n) (fits-e i) (λ b. opened (codeOf b)) (i .args .at) h (c .before .opens .ensures)) (c .match .keys2))
 
-  -- a leaf's row
-  an-entry : (c : constraint-in-lts.Then5 by-constraint-in constraint-in-at constraint-in.Post) → (let k = c .before .before .before .before in let a = start-c k .args in LeafRow (a .n) (a .at) (row-c k))
-  an-entry c =
-      let k = c .before .before .before .before in
-      record { inside = below-c k; bytes = leaf-bytes-c (codeOf (getD (start-c k .args .s .now) (start-c k .args .at) 0)) (read-c k) (sym (c .before .sort2 .ensures) ∙ c .if5 .taken) }
-
-  a-leaf : (c : expression-in-lts.Then3 by-expression-in expression-in-at expression-in.Post) → (let k = c .before .before in let a = start-e k .args in LeafRow (a .n) (a .at) (row-e k))
-  a-leaf c =
-      let k = c .before .before in
-      record { inside = below-e k; bytes = leaf-bytes-e (codeOf (getD (start-e k .args .s .now) (start-e k .args .at) 0)) (read-e k) (sym (c .before .sort .ensures) ∙ c .if3 .taken) }
-
   constraint-in-returns-4 : constraint-in-lts.Need-returns-4 by-constraint-in constraint-in-at constraint-in.Post
   constraint-in-returns-4 c = λ g asks.
       let k = c .before .before .before .before in
@@ -316,7 +305,7 @@ pub +constraint-in+expression-in+inner-in-spec : {M : Type 1} → statement M
     (λ c κs. (omega arith, c .before .before .before .before .before .before .before .before .before .before .before .pre .1))
     (constraint-in-returns-5 t)
     (λ c κs. search needs)
-    (λ c κs. (start-c t (c .before .before .before .before) .pre .1 .0, an-entry t c))
+    (λ c κs. (c .before .before .before .before .before .before .before .before .before .before .before .pre .1 .0, c .before .before .before .before .before .before .before .before .before .if2 .left))
     (constraint-in-returns-6 t)
     (λ c κs. search needs)
     (λ c. search needs)
@@ -338,7 +327,7 @@ pub +constraint-in+expression-in+inner-in-spec : {M : Type 1} → statement M
     (λ c. search needs)
     (expression-in-returns-3 t)
     (λ c κs. search needs)
-    (λ c κs. (start-e t (c .before .before) .pre .1 .0, a-leaf t c))
+    (λ c κs. (c .before .before .before .before .before .before .before .before .before .pre .1 .0, c .before .before .before .before .before .before .before .if2 .left))
     (expression-in-returns-4 t)
     (λ c κs. let k = c .before .before in
     let p = start-e t k .pre .1 in

@@ -1,5 +1,4 @@
-use mathlib.Core.Path.{_≡_, sym, _∙_}
-use Prim.Native.Nat.{_+_}
+use mathlib.Core.Path.{sym, _∙_}
 use native.Mathlib.Omega.{arith}
 use Rattle.bmap.specs.Tree.{occurs}
 use Rattle.law.specs.Check.{passesC}
@@ -8,41 +7,51 @@ use borrow.Author.Needs.{needs}
 use Rattle.law.proofs.checks.entry_at.Statement.{statement}
 use Rattle.law.proofs.checks.entry_at.Tie as tie
 
--- where the leaf ends
-ends : (k : tie.After-count) → k .before .args .at + 1 + k .count .result ≡ k .before .args .at + 3
-ends k = omega (arith, k .count .ensures, k .before .pre .1 .bytes)
+sub-if1 : tie.Need-sub-if1
+sub-if1 c = search needs
 
 returns : tie.Need-returns
-returns c = λ t asks.
-    let k = c .before in
-    let a = k .before .args in
-    pair-ends (a .s .now) (a .n) (omega arith) (passesC t) occurs (a .at) _ (ends k) (c .if1 .taken)
+returns c = λ t asks. let a = c .before .args in pair-ends (a .s .now) (a .n) (omega arith) (passesC t) occurs (a .at) (c .if1 .taken)
+
+add-entry-passes : tie.Need-add-entry-passes
+add-entry-passes c = search needs
+
+element-copy-out-entry-passes : tie.Need-element-copy-out-entry-passes
+element-copy-out-entry-passes c = search needs
+
+add-entry-passes-2 : tie.Need-add-entry-passes-2
+add-entry-passes-2 c = search needs
+
+element-copy-out-entry-passes-2 : tie.Need-element-copy-out-entry-passes-2
+element-copy-out-entry-passes-2 c = search needs
+
+entry-passes-requires : tie.Need-entry-passes-requires
+entry-passes-requires c κs = search needs
+
+add-result : tie.Need-add-result
+add-result c = search needs
 
 returns-2 : tie.Need-returns-2
 returns-2 c = λ t asks.
-    let k = c .before .before .before .before .before in
-    let a = k .before .args in
-    pair-passes (a .s .now) (a .n) (omega arith) (passesC t) occurs (a .at) _ (ends k) (omega arith) (sym (c .before .entry-passes .ensures t asks) ∙ c .if2 .taken)
+    let a = c .before .before .before .before .before .args in
+    pair-passes (a .s .now) (a .n) (omega arith) (passesC t) occurs (a .at) (omega arith) (sym (c .before .entry-passes .ensures t asks) ∙ c .if2 .taken)
 
 returns-3 : tie.Need-returns-3
 returns-3 c = λ t asks.
-    let k = c .before .before .before .before .before in
-    let a = k .before .args in
-    pair-fails (a .s .now) (a .n) (omega arith) (passesC t) occurs (a .at) _ (ends k) (omega arith) (sym (c .before .entry-passes .ensures t asks) ∙ c .if2 .left)
+    let a = c .before .before .before .before .before .args in
+    pair-fails (a .s .now) (a .n) (omega arith) (passesC t) occurs (a .at) (omega arith) (sym (c .before .entry-passes .ensures t asks) ∙ c .if2 .left)
 
 pub entry-at-spec : {M : Type 1} → statement M
 entry-at-spec =
     tie.close
     (tie.spec
-    (λ c. search needs)
-    (λ c κs. search needs)
-    (λ c. search needs)
-    (λ c. search needs)
+    sub-if1
     returns
-    (λ c. search needs)
-    (λ c. search needs)
-    (λ c. search needs)
-    (λ c. search needs)
-    (λ c κs. search needs)
+    add-entry-passes
+    element-copy-out-entry-passes
+    add-entry-passes-2
+    element-copy-out-entry-passes-2
+    entry-passes-requires
+    add-result
     returns-2
     returns-3)

@@ -10,10 +10,10 @@ use lib.ListN.{length, getD}
 use Rattle.bmap.specs.Meaning.{evalE, evalC}
 use Rattle.bmap.specs.Code.{codeOf}
 use Rattle.law.specs.declared.table.Node.the-variants.{Expression, Constraint}
-use Rattle.law.specs.Evaluate.{heldSize, NoLeaf, onward, historyOf}
+use Rattle.law.specs.Evaluate.{NoLeaf, onward, historyOf}
 use Rattle.law.specs.Packed.{valueIn, truthIn}
-use Rattle.law.specs.Table.{opened, sortIn, countIn, LeafRow}
-use Rattle.law.proofs.Trees.{deep-e, deep-c, end-e, end-c, no-expression, no-constraint, leaf-bytes-e, leaf-bytes-c}
+use Rattle.law.specs.Table.{opened, sortIn, countIn}
+use Rattle.law.proofs.Trees.{deep-e, deep-c, end-e, end-c, no-expression, no-constraint}
 use Rattle.law.proofs.PackedLaws.{ends-nowhere, ends-there}
 use Rattle.law.proofs.Evals.{nothing-there, eval-leaf, eval-reified, eval-one, eval-two, eval-first}
 use Rattle.law.proofs.Evals.{eval-compared, eval-first-e, eval-occurrence, eval-truth, eval-negation, eval-junction, eval-first-c}
@@ -174,17 +174,6 @@ module _ (t : ℕ) where
   inside : (k : Tree) → k .args .at < length (k .args .s .now)
   inside k = omega (arith, k .pre .1 .0 .0 .held, seen k .inside)
 
-  -- a leaf's row
-  an-entry : (c : truth-in-lts.Then5 by-truth-in truth-in-at truth-in.Post) → (let k = c .before .before .before .before in LeafRow heldSize (start-c k .args .at) (row-c k))
-  an-entry c =
-      let k = c .before .before .before .before in
-      record { inside = k .before .before .before .before .before .if2 .left; bytes = leaf-bytes-c (codeOf (getD (start-c k .args .s .now) (start-c k .args .at) 0)) (opens-c k) (sym (c .before .sort2 .ensures) ∙ c .if5 .taken) }
-
-  a-leaf : (c : value-in-lts.Then3 by-value-in value-in-at value-in.Post) → (let k = c .before .before in LeafRow heldSize (start-e k .args .at) (row-e k))
-  a-leaf c =
-      let k = c .before .before in
-      record { inside = k .before .before .before .before .before .if2 .left; bytes = leaf-bytes-e (codeOf (getD (start-e k .args .s .now) (start-e k .args .at) 0)) (opens-e k) (sym (c .before .sort .ensures) ∙ c .if3 .taken) }
-
   truth-in-returns-4 : truth-in-lts.Need-returns-4 by-truth-in truth-in-at truth-in.Post
   truth-in-returns-4 c =
       let k = c .before .before .before .before .before in
@@ -334,7 +323,7 @@ pub +inner-value+truth-in+value-in-spec : {M : Type 1} → statement M
     (λ c κs. search needs)
     (truth-in-returns-5 t)
     (λ c κs. search needs)
-    (λ c κs. (start-c t (c .before .before .before .before) .pre .1 .0, an-entry t c))
+    (λ c κs. search needs)
     (truth-in-returns-6 t)
     (λ c κs. search needs)
     (λ c. search needs)
@@ -362,7 +351,7 @@ pub +inner-value+truth-in+value-in-spec : {M : Type 1} → statement M
     (λ c. search needs)
     (value-in-returns-3 t)
     (λ c κs. search needs)
-    (λ c κs. (start-e t (c .before .before) .pre .1 .0, a-leaf t c))
+    (λ c κs. search needs)
     (value-in-returns-4 t)
     (λ c κs. (omega arith, (c .before .before .before .before .before .before .before .before .before .pre .1, no-leaf t c)))
     (value-in-returns-5 t))

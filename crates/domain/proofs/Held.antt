@@ -12,7 +12,7 @@ use Rattle.bmap.specs.Plain.{if-else, maybe}
 use Rattle.bmap.specs.Line.{Frame, stored}
 use Rattle.bmap.specs.Domain.{Domain, Fluent, Knows}
 use Rattle.bmap.specs.Payload.{byte, wordAt, valueAt}
-use Rattle.bmap.specs.Accept.{Partial, nothing, countsOf, room, finished, checked}
+use Rattle.bmap.specs.Accept.{Partial, nothing, countsOf, add, room, finished, checked}
 use Rattle.bmap.specs.Store.{frameAt, zeros}
 use Rattle.bmap.specs.declared.limits.Counts.{Counts}
 use Rattle.line.specs.Frame.{frameSizeAt}
@@ -34,6 +34,33 @@ pub record Rest (d : Domain) (places : List ℕ) (lowest highest start : List �
   pub masks : knowers ≡ row 64 0 (map (λ (x : Knows). x .mask) (d .knowledge))
   pub stand : laws ≡ row 128 0 places
 
+pub rest-first : Rest (nothing .domain) [] (replicate 32 (pos 0)) (replicate 32 (pos 0)) (replicate 32 (pos 0)) (replicate 64 0) (replicate 64 0) (replicate 128 0)
+rest-first = record { low = refl; high = refl; first = refl; knows = refl; masks = refl; stand = refl }
+
+-- one frame more
+module _ (p : Partial) (f : Frame) (v : Passed (p .latest) (countsOf (p .domain)) (p .domain .entries) f) {n : Counts} (m : n ≡ countsOf (p .domain)) (at : ℕ)
+    {places : List ℕ} {lowest highest start : List ℤ} {known knowers laws : List ℕ} (h : Rest (p .domain) places lowest highest start known knowers laws) (pl : length places ≡ length (p .domain .laws)) where
+  pub rest-next : {lowest′ highest′ start′ : List ℤ} {known′ knowers′ laws′ : List ℕ}
+      → lowest′ ≡ if-else (eqb (f .kind) 0xA2) (set lowest (n .fluents) (valueAt (f .payload) 0)) lowest
+      → highest′ ≡ if-else (eqb (f .kind) 0xA2) (set highest (n .fluents) (valueAt (f .payload) 2)) highest
+      → start′ ≡ if-else (eqb (f .kind) 0xA2) (set start (n .fluents) (valueAt (f .payload) 4)) start
+      → known′ ≡ if-else (eqb (f .kind) 0xA3) (set known (n .knowledge) (byte (f .payload) 0)) known
+      → knowers′ ≡ if-else (eqb (f .kind) 0xA3) (set knowers (n .knowledge) (wordAt (f .payload) 1)) knowers
+      → laws′ ≡ if-else (leb 0xA5 (f .kind)) (set laws (n .laws) at) laws
+      → Rest (add (v .item) (p .domain)) (placesWith places at f) lowest′ highest′ start′ known′ knowers′ laws′
+  rest-next el eh es ek em ep =
+      let mf : n .fluents ≡ length (p .domain .fluents) = ap (λ (m : Counts). m .fluents) m in
+      let mk : n .knowledge ≡ length (p .domain .knowledge) = ap (λ (m : Counts). m .knowledge) m in
+      let ml : n .laws ≡ length (p .domain .laws) = ap (λ (m : Counts). m .laws) m in
+      record {
+        low = el ∙ ap (λ (k : ℕ). if-else (eqb (f .kind) 0xA2) (set lowest k (valueAt (f .payload) 0)) lowest) mf ∙ fluents-on p f v (λ (x : Fluent). x .lowest) lowest (h .low);
+        high = eh ∙ ap (λ (k : ℕ). if-else (eqb (f .kind) 0xA2) (set highest k (valueAt (f .payload) 2)) highest) mf ∙ fluents-on p f v (λ (x : Fluent). x .highest) highest (h .high);
+        first = es ∙ ap (λ (k : ℕ). if-else (eqb (f .kind) 0xA2) (set start k (valueAt (f .payload) 4)) start) mf ∙ fluents-on p f v (λ (x : Fluent). x .start) start (h .first);
+        knows = ek ∙ ap (λ (k : ℕ). if-else (eqb (f .kind) 0xA3) (set known k (byte (f .payload) 0)) known) mk ∙ knowledge-on p f v (λ (x : Knows). x .fluent) known (h .knows);
+        masks = em ∙ ap (λ (k : ℕ). if-else (eqb (f .kind) 0xA3) (set knowers k (wordAt (f .payload) 1)) knowers) mk ∙ knowledge-on p f v (λ (x : Knows). x .mask) knowers (h .masks);
+        stand = ep ∙ ap (λ (k : ℕ). if-else (leb 0xA5 (f .kind)) (set laws k at) laws) ml ∙ laws-on p f v places at laws (h .stand) pl;
+      }
+
 pub record Held (s : List ℕ) (latest : ℕ) (n : Counts) (lowest highest start : List ℤ) (known knowers names crews laws ready : List ℕ) (at : ℕ) : Type 0 where
   pub so-far : Partial
   pub places : List ℕ
@@ -54,7 +81,7 @@ held-first s = record {
   looks = suc (length s);
   stands = stands-first s;
   gate = gate-first;
-  rest = record { low = refl; high = refl; first = refl; knows = refl; masks = refl; stand = refl };
+  rest = rest-first;
   inside = omega arith;
   enough = omega arith;
   run = found-start s;
@@ -177,10 +204,6 @@ module _ {s : List ℕ} {latest : ℕ} {n : Counts} {lowest highest start : List
           → Held s (f .kind) n′ lowest′ highest′ start′ known′ knowers′ names′ crews′ laws′ ready′ next
       held-next {next} {n′} {lowest′} {highest′} {start′} {known′} {knowers′} {names′} {crews′} {laws′} {ready′} el eh es ek em ea ec ep er en ex =
           let p = h .so-far in
-          let m = h .gate .counts in
-          let mf : n .fluents ≡ length (p .domain .fluents) = ap (λ (m : Counts). m .fluents) m in
-          let mk : n .knowledge ≡ length (p .domain .knowledge) = ap (λ (m : Counts). m .knowledge) m in
-          let ml : n .laws ≡ length (p .domain .laws) = ap (λ (m : Counts). m .laws) m in
           let here-is = here s at f e in
           let pl : length (h .places) ≡ length (p .domain .laws)
           = sym (length-mapped (lawThere s (countsOf (p .domain))) (h .places)) ∙ ap length (h .stands .there) ∙ length-mapped some (p .domain .laws) in
@@ -190,14 +213,7 @@ module _ {s : List ℕ} {latest : ℕ} {n : Counts} {lowest highest start : List
             looks = some-look .0;
             stands = subst (Stands s (with p f (pass .item)) (placesWith (h .places) at f)) (sym ex) (stands-next s p (h .places) at (h .stands) f here-is pass);
             gate = gate-next (h .gate) f pass (h .stands .few .entries) en ea ec er;
-            rest = record {
-              low = el ∙ ap (λ (k : ℕ). if-else (eqb (f .kind) 0xA2) (set lowest k (valueAt (f .payload) 0)) lowest) mf ∙ fluents-on p f pass (λ (x : Fluent). x .lowest) lowest (h .rest .low);
-              high = eh ∙ ap (λ (k : ℕ). if-else (eqb (f .kind) 0xA2) (set highest k (valueAt (f .payload) 2)) highest) mf ∙ fluents-on p f pass (λ (x : Fluent). x .highest) highest (h .rest .high);
-              first = es ∙ ap (λ (k : ℕ). if-else (eqb (f .kind) 0xA2) (set start k (valueAt (f .payload) 4)) start) mf ∙ fluents-on p f pass (λ (x : Fluent). x .start) start (h .rest .first);
-              knows = ek ∙ ap (λ (k : ℕ). if-else (eqb (f .kind) 0xA3) (set known k (byte (f .payload) 0)) known) mk ∙ knowledge-on p f pass (λ (x : Knows). x .fluent) known (h .rest .knows);
-              masks = em ∙ ap (λ (k : ℕ). if-else (eqb (f .kind) 0xA3) (set knowers k (wordAt (f .payload) 1)) knowers) mk ∙ knowledge-on p f pass (λ (x : Knows). x .mask) knowers (h .rest .masks);
-              stand = ep ∙ ap (λ (k : ℕ). if-else (leb 0xA5 (f .kind)) (set laws k at) laws) ml ∙ laws-on p f pass (h .places) at laws (h .rest .stand) pl;
-            };
+            rest = rest-next p f pass (h .gate .counts) at (h .rest) pl el eh es ek em ep;
             inside = omega (arith, here-is .within);
             enough = omega (arith, h .enough, some-look .1);
             run =

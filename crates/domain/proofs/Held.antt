@@ -2,12 +2,12 @@
 use Prim.Native.Nat.{ℕ, zero, suc, _+_, _-_, _≤_, _<_}
 use native.Mathlib.Omega.{arith}
 use mathlib.Core.Path.{_≡_, refl, sym, ap, subst, _∙_}
-use mathlib.Core.Bool.{true, false}
-use mathlib.Core.List.{List, [], map}
+use mathlib.Core.Bool.{Bool, true, false}
+use mathlib.Core.List.{List, [], _∷_, _++_, map}
 use mathlib.Core.Option.{Option, none, some}
 use lib.Dec.{eqb, leb}
 use lib.IntN.{ℤ, pos}
-use lib.ListN.{length, getD, set, take, drop, replicate}
+use lib.ListN.{length, getD, set, take, drop, replicate, length-append}
 use Rattle.bmap.specs.Plain.{if-else, maybe}
 use Rattle.bmap.specs.Line.{Frame, stored}
 use Rattle.bmap.specs.Domain.{Domain, Fluent, Knows}
@@ -22,7 +22,7 @@ use Rattle.domain.specs.Found.{row, counted, completeOn, indexWith, noth
 use Rattle.domain.proofs.Rows.{length-mapped}
 use Rattle.domain.proofs.Passed.{Passed, passed}
 use Rattle.domain.proofs.Stands.{here, Stands, stands-first, stands-next, stands-most, with, placesWith, lawThere, accept-refused, accept-passed}
-use Rattle.domain.proofs.Gate.{Gate, gate-first, gate-check, gate-complete, gate-room, gate-entry, gate-next, fluents-on, knowledge-on, laws-on}
+use Rattle.domain.proofs.Gate.{Gate, gate-first, gate-check, gate-complete, gate-room, gate-entry, gate-next, counts-with, fluents-on, knowledge-on, laws-on}
 use Rattle.domain.proofs.FoundLaws.{foundFrom, found-start, found-refused, found-next}
 
 -- the index, but for what the checks ask
@@ -60,6 +60,17 @@ module _ (p : Partial) (f : Frame) (v : Passed (p .latest) (countsOf (p .domain)
         masks = em ∙ ap (λ (k : ℕ). if-else (eqb (f .kind) 0xA3) (set knowers k (wordAt (f .payload) 1)) knowers) mk ∙ knowledge-on p f v (λ (x : Knows). x .mask) knowers (h .masks);
         stand = ep ∙ ap (λ (k : ℕ). if-else (leb 0xA5 (f .kind)) (set laws k at) laws) ml ∙ laws-on p f v places at laws (h .stand) pl;
       }
+
+-- each law has its place
+pub laws-counted : (p : Partial) (f : Frame) (v : Passed (p .latest) (countsOf (p .domain)) (p .domain .entries) f) (places : List ℕ) (at : ℕ) → length places ≡ length (p .domain .laws)
+    → length (placesWith places at f) ≡ length (add (v .item) (p .domain) .laws)
+unfolding counted
+laws-counted p f v places at e =
+    go (leb 0xA5 (f .kind)) ∙ ap (λ (n : Counts). n .laws) (counts-with (countsOf (p .domain)) (f .kind) (f .payload) (v .item) (p .domain) (v .case))
+  where
+    go : (t : Bool) → length (if-else t (places ++ (at ∷ [])) places) ≡ if-else t (length (p .domain .laws) + 1) (length (p .domain .laws))
+    go true = length-append places (at ∷ []) ∙ ap (λ (n : ℕ). n + 1) e
+    go false = e
 
 pub record Held (s : List ℕ) (latest : ℕ) (n : Counts) (lowest highest start : List ℤ) (known knowers names crews laws ready : List ℕ) (at : ℕ) : Type 0 where
   pub so-far : Partial

@@ -4,15 +4,16 @@ use native.Mathlib.Numerals.{add-one}
 use native.Mathlib.Omega.{arith}
 use mathlib.Core.Path.{_≡_, refl, sym, ap, _∙_}
 use mathlib.Core.Bool.{Bool, true, false}
-use mathlib.Core.List.{List, _++_}
+use mathlib.Core.List.{List, [], _∷_, _++_, append-assoc, append-nil}
 use mathlib.Core.Option.{Option, none, some}
-use lib.Dec.{eqb}
+use lib.Dec.{eqb, leb}
+use lib.IntN.{ℤ, pos}
 use lib.ListN.{length, set, take, drop, replicate}
 use borrow.Author.Tests.{le-leb, lt-leb}
 use Rattle.bmap.specs.Plain.{if-else}
 use Rattle.bmap.specs.Refusal.{numberOf, got, refused, need, read, refusedAt, atLine, afterwards}
-use Rattle.bmap.specs.Line.{Frame}
-use Rattle.bmap.specs.Payload.{byte, wordAt}
+use Rattle.bmap.specs.Line.{Frame, stored}
+use Rattle.bmap.specs.Payload.{byte, wordAt, valueAt}
 use Rattle.bmap.specs.Accept.{Partial, nothing, countsOf, room, accept, finished, takenFrom, checked}
 use Rattle.bmap.specs.Buffer.{padded}
 use Rattle.bmap.specs.Store.{framesOf, reading, readDomain}
@@ -20,43 +21,54 @@ use Rattle.bmap.specs.declared.limits.Counts.{Counts}
 use Rattle.line.specs.Read.{lineRead, bytesRead}
 use Rattle.line.proofs.Lists.{part-to-end}
 use Rattle.domain.specs.Check.{entriesOf, refusedIn}
-use Rattle.domain.specs.Found.{counted, completeOn}
+use Rattle.domain.specs.Found.{counted, completeOn, lawPlaces, indexWith, nothingFound}
 use Rattle.bmap.specs.declared.refusal.Refusal.{Refusal}
-use Rattle.domain.specs.declared.reader.ReadCounted.{ReadCounted}
+use Rattle.domain.specs.declared.reader.ReadFound.{ReadFound}
 use Rattle.domain.specs.declared.reader.ReadStore.{ReadStore}
 use Rattle.domain.specs.declared.reader.ReadStore.the-variants.{Read, Refused}
-use Rattle.domain.specs.Read.{readingOf, bytesIn, usedIn, Front, countsIn, countsRead}
+use Rattle.domain.specs.Read.{readingOf, bytesIn, usedIn, Front, framesAmong, placesFrom, foundReading, LinesRead}
 use Rattle.domain.proofs.Passed.{Passed, passed}
-use Rattle.domain.proofs.Stands.{frames, Few, few-first, few-frames, More, more, with, accept-refused, accept-passed}
+use Rattle.domain.proofs.Stands.{frames, Few, few-first, few-frames, More, more, with, placesWith, accept-refused, accept-passed}
 use Rattle.domain.proofs.Gate.{Gate, gate-first, gate-check, gate-complete, gate-room, gate-entry, gate-next}
-use Rattle.domain.proofs.Held.{cut}
-use Rattle.domain.proofs.IntoStore.{lent, renewed, Sizes, Decoded, none-left, all-used, all-stand, bad-line, line-sizes, frames-on, bytes-on, Fills, fill-ends, fill-stops}
+use Rattle.domain.proofs.Held.{cut, Rest, rest-first, rest-next, laws-counted}
+use Rattle.domain.proofs.IntoStore.{lent, renewed, Sizes, Decoded, none-left, all-used, all-stand, bad-line, line-sizes, frames-on, frame-size, bytes-on, Fills, fill-ends, fill-stops}
 
 -- ---- the lines so far
 
-pub record Reads (text store rest : List ℕ) (latest : ℕ) (n : Counts) (names crews ready : List ℕ) (used lines : ℕ) : Type 0 where
+pub record Reads (text store rest : List ℕ) (latest : ℕ) (n : Counts) (lowest highest start : List ℤ) (known knowers names crews laws ready : List ℕ) (used lines : ℕ) : Type 0 where
   pub so-far : Partial
+  pub places : List ℕ
   pub few : Few (so-far .domain)
   pub gate : Gate so-far latest n names crews ready
+  pub kept : Rest (so-far .domain) places lowest highest start known knowers laws
+  pub of-laws : length places ≡ length (so-far .domain .laws)
   pub used-most : used ≤ 122 * frames (so-far .domain)
   pub lines-most : lines ≤ frames (so-far .domain)
   pub enough : 36_000 ≤ length store
   pub run : reading text ≡ takenFrom lines so-far (framesOf rest)
   pub bytes : bytesIn text ≡ take used store ++ bytesIn rest
+  pub stand : placesFrom 0 text ≡ places ++ placesFrom used rest
 
-pub reads-first : (text store : List ℕ) → 36_000 ≤ length store → Reads text store text 0 (countsOf (nothing .domain)) (replicate 64 0) (replicate 64 0) (replicate 64 0) 0 0
+pub reads-first : (text store : List ℕ) → 36_000 ≤ length store
+    → Reads text store text 0 (countsOf (nothing .domain)) (replicate 32 (pos 0)) (replicate 32 (pos 0)) (replicate 32 (pos 0)) (replicate 64 0) (replicate 64 0) (replicate 64 0) (replicate 64 0)
+    (replicate 128 0) (replicate 64 0) 0 0
 reads-first text store h = record {
   so-far = nothing;
+  places = [];
   few = few-first;
   gate = gate-first;
+  kept = rest-first;
+  of-laws = refl;
   used-most = omega arith;
   lines-most = omega arith;
   enough = h;
   run = refl;
   bytes = refl;
+  stand = refl;
 }
 
-module _ {text store rest : List ℕ} {latest : ℕ} {n : Counts} {names crews ready : List ℕ} {used lines : ℕ} (h : Reads text store rest latest n names crews ready used lines) where
+module _ {text store rest : List ℕ} {latest : ℕ} {n : Counts} {lowest highest start : List ℤ} {known knowers names crews laws ready : List ℕ} {used lines : ℕ}
+    (h : Reads text store rest latest n lowest highest start known knowers names crews laws ready used lines) where
   pub reads-few : n .entries ≤ 64
   reads-few = let e = ap (λ (m : Counts). m .entries) (h .gate .counts) in omega (arith, e, h .few .entries)
 
@@ -69,12 +81,6 @@ module _ {text store rest : List ℕ} {latest : ℕ} {n : Counts} {names crews r
   so-read : Decoded text store rest used
   so-read = record { room = omega (arith, reads-used, h .enough); bytes = h .bytes }
 
-  -- ---- a text that is refused
-
-  refused-as : {m line : ℕ} → reading text ≡ refusedAt m line → ((refusedAt m line ≡ usedIn text) × Unit {0}) × (countsOf (nothing .domain) ≡ countsIn (reading text))
-  unfolding usedIn
-  refused-as q = ((sym (ap (λ r. afterwards r (λ d. read (length (bytesIn text)))) q), tt), ap countsIn (sym q))
-
   -- ---- no line is left
 
   module _ (e : none ≡ lineRead rest (lent store used)) where
@@ -86,22 +92,28 @@ module _ {text store rest : List ℕ} {latest : ℕ} {n : Counts} {names crews r
       ends-as : reading text ≡ atLine lines (need b 7 (got (h .so-far .domain))) read
       ends-as = last ∙ ap (λ b. atLine lines (need b 7 (got (h .so-far .domain))) read) (sym (gate-complete (h .gate) (h .few .entries)) ∙ sym c)
 
-    pub reads-done : (p : List ℕ) → true ≡ completeOn n ready → ((read used ≡ usedIn text) × (take used (renewed store used p) ≡ bytesIn text)) × (n ≡ countsIn (reading text))
-    unfolding usedIn
-    reads-done p c = (
-      (sym (ap (λ r. afterwards r (λ d. read (length (bytesIn text)))) (ends-as true c) ∙ ap read (all-used so-read e)), all-stand so-read e p),
-      h .gate .counts ∙ ap countsIn (sym (ends-as true c)),
-    )
+    pub reads-done : (p : List ℕ) → true ≡ completeOn n ready
+        → LinesRead text (record { answer = Read used; found = record { ok = true; index = record { counts = n; lowest = lowest; highest = highest; start = start; known = known; knowers = knowers; names = names; crews = crews; laws = laws } } })
+        (renewed store used p)
+    unfolding usedIn indexWith lawPlaces
+    reads-done p c =
+        let all : placesFrom 0 text ≡ h .places = h .stand ∙ ap (λ l. h .places ++ lawPlaces used (framesAmong l)) (none-left so-read e) ∙ append-nil (h .places) in
+        record {
+          used = sym (ap (λ r. afterwards r (λ d. read (length (bytesIn text)))) (ends-as true c) ∙ ap read (all-used so-read e));
+          front = all-stand so-read e p;
+          found =
+              sym (ap (foundReading (placesFrom 0 text)) (ends-as true c) ∙ ap (λ l. foundReading l (read (h .so-far .domain))) all
+              ∙ rw (h .gate .counts, h .kept .low, h .kept .high, h .kept .first, h .kept .knows, h .kept .masks, h .gate .named, h .gate .crewed, h .kept .stand));
+        }
 
-    pub reads-missing : false ≡ completeOn n ready → ((refusedAt 7 lines ≡ usedIn text) × Unit {0}) × (countsOf (nothing .domain) ≡ countsIn (reading text))
-    unfolding usedIn
-    reads-missing c = refused-as (ends-as false c)
+    pub reads-missing : false ≡ completeOn n ready → reading text ≡ refusedAt 7 lines
+    reads-missing c = ends-as false c
 
   -- ---- a line that is refused
 
-  pub reads-bad : (m : ℕ) → some (refused m) ≡ lineRead rest (lent store used) → ((refusedAt m (lines + 1) ≡ usedIn text) × Unit {0}) × (countsOf (nothing .domain) ≡ countsIn (reading text))
+  pub reads-bad : (m : ℕ) → some (refused m) ≡ lineRead rest (lent store used) → reading text ≡ refusedAt m (lines + 1)
   unfolding takenFrom
-  reads-bad m e = refused-as (h .run ∙ ap (takenFrom lines (h .so-far)) (bad-line so-read m e .1) ∙ ap (refusedAt m) (sym (add-one lines)))
+  reads-bad m e = h .run ∙ ap (takenFrom lines (h .so-far)) (bad-line so-read m e .1) ∙ ap (refusedAt m) (sym (add-one lines))
 
   -- ---- a line that is a frame's
 
@@ -118,9 +130,9 @@ module _ {text store rest : List ℕ} {latest : ℕ} {n : Counts} {names crews r
     says o q = q ∙ ap refusedIn (gate-check (h .gate) (cut (renewed store used p) used size))
 
     pub reads-refused : (m : ℕ) → some m ≡ refusedIn (checked latest n (entriesOf (n .entries) names crews) (cut (renewed store used p) used size))
-        → ((refusedAt m (lines + 1) ≡ usedIn text) × Unit {0}) × (countsOf (nothing .domain) ≡ countsIn (reading text))
+        → reading text ≡ refusedAt m (lines + 1)
     reads-refused m q =
-        refused-as (run-on ∙ ap (λ a. atLine (suc lines) a (λ q. takenFrom (suc lines) q (framesOf (drop k rest)))) (accept-refused (h .so-far) (cut (renewed store used p) used size) m (says (some m) q)) ∙ ap (refusedAt m) (sym (add-one lines)))
+        run-on ∙ ap (λ a. atLine (suc lines) a (λ q. takenFrom (suc lines) q (framesOf (drop k rest)))) (accept-refused (h .so-far) (cut (renewed store used p) used size) m (says (some m) q)) ∙ ap (refusedAt m) (sym (add-one lines))
 
     module _ (q : none ≡ refusedIn (checked latest n (entriesOf (n .entries) names crews) (cut (renewed store used p) used size))) where
       abbrev frame : Frame
@@ -138,16 +150,39 @@ module _ {text store rest : List ℕ} {latest : ℕ} {n : Counts} {names crews r
       grown : More (h .so-far .latest) (h .so-far .domain) (h .so-far .domain .entries) frame pass (pass .item)
       grown = more (h .so-far .latest) (h .so-far .domain) (h .so-far .domain .entries) frame pass
 
-      pub reads-next : {n′ : Counts} {names′ crews′ ready′ : List ℕ} → length (renewed store used p) ≡ length store
+      -- a law's place is put at the end
+      places-on : placesFrom 0 text ≡ placesWith (h .places) used frame ++ placesFrom (used + size) (take (length rest - k) (drop k rest))
+      unfolding lawPlaces
+      places-on =
+          h .stand ∙ ap (λ l. h .places ++ lawPlaces used (framesAmong l)) (frames-on so-read size k p e b)
+          ∙ go (leb 0xA5 (frame .kind))
+          ∙ ap (λ (i : ℕ). placesWith (h .places) used frame ++ placesFrom (used + i) (drop k rest)) (frame-size so-read size k p e b)
+          ∙ ap (λ l. placesWith (h .places) used frame ++ placesFrom (used + size) l) (sym (part-to-end rest k))
+        where
+          go : (t : Bool) → (let more = lawPlaces (used + length (stored frame)) (framesAmong (framesOf (drop k rest))) in
+              h .places ++ if-else t (used ∷ more) more ≡ if-else t (h .places ++ (used ∷ [])) (h .places) ++ more)
+          go true = sym (append-assoc (h .places) (used ∷ []) _)
+          go false = refl
+
+      pub reads-next : {n′ : Counts} {lowest′ highest′ start′ : List ℤ} {known′ knowers′ names′ crews′ laws′ ready′ : List ℕ} → length (renewed store used p) ≡ length store
+          → lowest′ ≡ if-else (eqb (frame .kind) 0xA2) (set lowest (n .fluents) (valueAt (frame .payload) 0)) lowest
+          → highest′ ≡ if-else (eqb (frame .kind) 0xA2) (set highest (n .fluents) (valueAt (frame .payload) 2)) highest
+          → start′ ≡ if-else (eqb (frame .kind) 0xA2) (set start (n .fluents) (valueAt (frame .payload) 4)) start
+          → known′ ≡ if-else (eqb (frame .kind) 0xA3) (set known (n .knowledge) (byte (frame .payload) 0)) known
+          → knowers′ ≡ if-else (eqb (frame .kind) 0xA3) (set knowers (n .knowledge) (wordAt (frame .payload) 1)) knowers
           → names′ ≡ if-else (eqb (frame .kind) 0xA4) (set names (n .entries) (byte (frame .payload) 0)) names
           → crews′ ≡ if-else (eqb (frame .kind) 0xA4) (set crews (n .entries) (wordAt (frame .payload) 1)) crews
+          → laws′ ≡ if-else (leb 0xA5 (frame .kind)) (set laws (n .laws) used) laws
           → ready′ ≡ if-else (eqb (frame .kind) 0xA5) (set ready (byte (frame .payload) 0) 1) ready
           → n′ ≡ counted n (frame .kind) (byte (frame .payload) 0)
-          → Reads text (renewed store used p) (take (length rest - k) (drop k rest)) (frame .kind) n′ names′ crews′ ready′ (used + size) (lines + 1)
-      reads-next {n′} {names′} {crews′} {ready′} same ea ec er en = record {
+          → Reads text (renewed store used p) (take (length rest - k) (drop k rest)) (frame .kind) n′ lowest′ highest′ start′ known′ knowers′ names′ crews′ laws′ ready′ (used + size) (lines + 1)
+      reads-next {n′} {lowest′} {highest′} {start′} {known′} {knowers′} {names′} {crews′} {laws′} {ready′} same el eh es ek em ea ec ep er en = record {
         so-far = with (h .so-far) frame (pass .item);
+        places = placesWith (h .places) used frame;
         few = grown .few (h .few);
         gate = gate-next (h .gate) frame pass (h .few .entries) en ea ec er;
+        kept = rest-next (h .so-far) frame pass (h .gate .counts) used (h .kept) (h .of-laws) el eh es ek em ep;
+        of-laws = laws-counted (h .so-far) frame pass (h .places) used (h .of-laws);
         used-most = omega (arith, h .used-most, reads-sizes .most, grown .one-more);
         lines-most = omega (arith, h .lines-most, grown .one-more);
         enough = omega (arith, h .enough, same);
@@ -157,29 +192,30 @@ module _ {text store rest : List ℕ} {latest : ℕ} {n : Counts} {names crews r
             ∙ ap (λ l. takenFrom l (with (h .so-far) frame (pass .item)) (framesOf (drop k rest))) (sym (add-one lines))
             ∙ ap (λ l. takenFrom (lines + 1) (with (h .so-far) frame (pass .item)) (framesOf l)) (sym (part-to-end rest k));
         bytes = bytes-on so-read size k p e b;
+        stand = places-on;
       }
 
 -- a refusal, as the code makes it
-pub refusing : (text after : List ℕ) (why : Refusal) (line : ℕ) (r : ReadCounted) → r ≡ record { answer = Refused why line; counts = countsOf (nothing .domain) }
-    → ((refusedAt (numberOf why) line ≡ usedIn text) × Unit {0}) × (countsOf (nothing .domain) ≡ countsIn (reading text))
-    → ((readingOf (r .answer) ≡ usedIn text) × Front (bytesIn text) (readingOf (r .answer)) after) × (r .counts ≡ countsIn (reading text))
-refusing text after why line r e h = rw e h
+pub refusing : (text after : List ℕ) (why : Refusal) (line : ℕ) (r : ReadFound) → r ≡ record { answer = Refused why line; found = nothingFound }
+    → reading text ≡ refusedAt (numberOf why) line → LinesRead text r after
+unfolding usedIn
+refusing text after why line r e q = rw e (record {
+  used = sym (ap (λ r. afterwards r (λ d. read (length (bytesIn text)))) q);
+  front = tt;
+  found = sym (ap (foundReading (placesFrom 0 text)) q);
+})
 
 -- ---- the reader around them
 
 module _ (text store : List ℕ) where
-  pub read-short : length store < 36_000 → ((refusedAt 10 0 ≡ readDomain text store .answer) × (store ≡ readDomain text store .buffer)) × (countsOf (nothing .domain) ≡ countsRead text store)
-  unfolding readDomain countsRead
-  read-short h = rw (lt-leb 36_000 (length store) h) ((refl, refl), refl)
+  pub read-short : length store < 36_000 → (refusedAt 10 0 ≡ readDomain text store .answer) × (store ≡ readDomain text store .buffer)
+  unfolding readDomain
+  read-short h = rw (lt-leb 36_000 (length store) h) (refl, refl)
 
   module _ (h : 36_000 ≤ length store) where
     pub read-in-room : Fills (reading text) (bytesIn text) (length store) (readDomain text store)
     unfolding readDomain bytesIn
     read-in-room = rw (le-leb 36_000 (length store) h)
-
-    pub counts-in-room : {n : Counts} → n ≡ countsIn (reading text) → n ≡ countsRead text store
-    unfolding countsRead
-    counts-in-room q = rw (le-leb 36_000 (length store) h) q
 
     module _ (after : List ℕ) (same : length after ≡ length store) (r : ReadStore) (e : (readingOf r ≡ usedIn text) × Front (bytesIn text) (readingOf r) after) (exit : List ℕ) where
       fills : Fills (reading text) (bytesIn text) (length after) (readDomain text store)

@@ -24,7 +24,8 @@ use Rattle.line.proofs.Lists.{Bytes, bytes-take, bytes-drop}
 use Rattle.line.proofs.Answers.{then-got-inv, at-line-read}
 use Rattle.line.proofs.LineLaws.{lines-first, decodes, decode-line, lines-line, text-line}
 use Rattle.domain.specs.Check.{refusedIn}
-use Rattle.domain.specs.Read.{bytesIn}
+use Rattle.domain.specs.Found.{lawPlaces, nothingFound, foundOf, foundIn}
+use Rattle.domain.specs.Read.{bytesIn, framesAmong, placesFrom, foundReading, foundAfter}
 use Rattle.domain.proofs.Passed.{Case, is-agents, is-fluent, is-knowledge, is-entry, is-law, passed}
 use Rattle.domain.proofs.Stands.{Here, here, with, accept-is}
 use Rattle.domain.proofs.Accepted.{domained}
@@ -227,6 +228,29 @@ was-got text store n e = room (leb 36_000 (length store)) refl
 left-domain : (text store : List ℕ) (n : ℕ) (g : Got text store n) → domainIn (readDomain text store .buffer) ≡ got (g .domain)
 unfolding domainIn
 left-domain text store n g = rw (g .left, frames-again text (g .frames) (length store)) (ap (λ (r : Reading Domain). known 15 (whatWasRead r)) (ap taken (sym (g .frames .are)) ∙ g .reads))
+
+-- and what was found on the way is what is found in it
+all-among : (fs : List Frame) → framesAmong (map got fs) ≡ fs
+all-among [] = refl
+all-among (f ∷ fs) = ap (λ l. f ∷ l) (all-among fs)
+
+pub found-after : (text store : List ℕ) → 36_000 ≤ length store → foundReading (placesFrom 0 text) (reading text) ≡ foundAfter (readDomain text store .answer) (readDomain text store .buffer)
+unfolding foundIn
+found-after text store h = go (readDomain text store .answer) refl
+  where
+    none-read : (m line : ℕ) (r : Reading Domain) → reading text ≡ r → readDomain text store .answer ≡ refusedAt m line → foundReading (placesFrom 0 text) r ≡ nothingFound
+    none-read m line (refusedAt k l) q e = refl
+    none-read m line (read d) q e =
+        absurd (let k = ap (λ (x : Filled). x .answer) (read-in-room text store h) in let a = ap (λ (x : Reading Domain). fill (length store) (afterwards x (λ d. read (record { count = length (bytesIn text); bytes = bytesIn text }))) .answer) q in let z : _≡_ {A = ℕ} 0 1 = cc in omega arith)
+
+    go : (a : Reading ℕ) → readDomain text store .answer ≡ a → foundReading (placesFrom 0 text) (reading text) ≡ foundAfter a (readDomain text store .buffer)
+    go (read n) e =
+        let g = was-got text store n e in
+        let places : placesFrom 0 text ≡ lawPlaces 0 (g .frames .frames) = ap (λ l. lawPlaces 0 (framesAmong l)) (g .frames .are) ∙ ap (lawPlaces 0) (all-among (g .frames .frames)) in
+        ap (foundReading (placesFrom 0 text)) (g .reads) ∙ ap (λ l. foundReading l (read (g .domain))) places
+        ∙ sym (ap (λ a. foundOf (maybe (framesIn (readDomain text store .buffer)) [] (lawPlaces 0)) a) (left-domain text store n g)
+        ∙ ap (λ o. foundOf (maybe o [] (lawPlaces 0)) (got (g .domain))) (ap framesIn (g .left) ∙ frames-again text (g .frames) (length store)))
+    go (refusedAt m line) e = none-read m line (reading text) refl e
 
 pub written-again : (s out : List ℕ) (d : Domain) → domainIn s ≡ got d → length (textOf s) ≤ length out
     → writeDomain s out ≡ record { answer = got (length (textOf s)); buffer = over (textOf s) out }

@@ -33,7 +33,7 @@ pub(crate) const NO_COUNTS: Counts = Counts {
     laws: 0,
 };
 
-fn nothing_found() -> Found
+pub(crate) fn nothing_found() -> Found
     ensures { λ r. ⌜ r ≡ nothingFound ⌝ }
 {
     Found {

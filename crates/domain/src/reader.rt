@@ -1,14 +1,20 @@
 // The domain reader: hex lines to a store.
 use crate::checks::Check;
 use crate::checks::check_frame;
+use crate::found::Found;
 use crate::found::NO_COUNTS;
 use crate::found::is_complete;
+use crate::found::nothing_found;
 use crate::note::count_frame;
 use crate::note::note_entry;
+use crate::note::note_fluent;
+use crate::note::note_knowledge;
+use crate::note::note_law;
 use crate::note::note_ready;
 use bmap::Counts;
 use bmap::Refusal;
 use bmap::STORE;
+use index::Index;
 use index::byte_at;
 use line::FirstLine;
 use line::read_line;
@@ -17,9 +23,9 @@ ghost use mathlib.Core.Path.{_≡_};
 ghost use Prim.Native.Nat.{_≤_};
 ghost use lib.ListN.{length};
 ghost use Rattle.bmap.specs.Limits.{storeSize};
-ghost use Rattle.bmap.specs.Accept.{nothing, countsOf};
-ghost use Rattle.bmap.specs.Store.{reading, readDomain};
-ghost use Rattle.domain.specs.Read.{readingOf, bytesIn, usedIn, Front, countsIn, countsRead};
+ghost use Rattle.bmap.specs.Store.{readDomain};
+ghost use Rattle.domain.specs.Found.{nothingFound};
+ghost use Rattle.domain.specs.Read.{readingOf, FoundRead, LinesRead};
 ghost use Rattle.domain.specs.declared.reader.ReadStore.the-variants.{Refused};
 
 // What a reader of lines into a store answers.
@@ -29,30 +35,29 @@ pub enum ReadStore {
     Refused { refusal: Refusal, line: usize },
 }
 
-// A reading, and how many of each the domain has: what its caller needs of it is not found once more.
-pub struct ReadCounted {
+// A reading, and what was found of the store that it leaves: who needs it looks at no frame again.
+pub struct ReadFound {
     pub answer: ReadStore,
-    pub counts: Counts,
+    pub found: Found,
 }
 
 // "Domain reader: 10, then line by line 1, 2, 3, 5, 4, 6, then 7." After 10 the store keeps its bytes; any other refusal zeroes it.
 pub fn read(text: &[u8], store: &mut [u8]) -> ReadStore
     ensures { λ r. ⌜ (readingOf r ≡ readDomain (now (text .entry)) (now (store .entry)) .answer) × (now (store .exit) ≡ readDomain (now (text .entry)) (now (store .entry)) .buffer) ⌝ }
 {
-    let counted = read_counted(text, store);
-    counted.answer
+    let reading = read_found(text, store);
+    reading.answer
 }
 
-// The same, with the domain's counts: none where it is refused.
-pub fn read_counted(text: &[u8], store: &mut [u8]) -> ReadCounted
-    ensures { λ r. ⌜ ((readingOf (r .answer) ≡ readDomain (now (text .entry)) (now (store .entry)) .answer) × (now (store .exit) ≡ readDomain (now (text .entry)) (now (store .entry)) .buffer))
-        × (r .counts ≡ countsRead (now (text .entry)) (now (store .entry))) ⌝ }
+// The same, with what was found: nothing where it is refused.
+pub fn read_found(text: &[u8], store: &mut [u8]) -> ReadFound
+    ensures { λ r. ⌜ FoundRead (now (text .entry)) (now (store .entry)) r (now (store .exit)) ⌝ }
 {
     if store.len() < STORE {
         return refused(Refusal::NoRoom, 0);
     }
-    let counted = read_lines(text, store);
-    let answer = counted.answer;
+    let reading = read_lines(text, store);
+    let answer = reading.answer;
     match answer {
         ReadStore::Read(used) => {
             zero_from(store, used);
@@ -64,28 +69,32 @@ pub fn read_counted(text: &[u8], store: &mut [u8]) -> ReadCounted
             zero_from(store, 0);
         }
     }
-    counted
+    reading
 }
 
-fn refused(refusal: Refusal, line: usize) -> ReadCounted
-    ensures { λ r. ⌜ r ≡ record { answer = Refused refusal line; counts = countsOf (nothing .domain) } ⌝ }
+fn refused(refusal: Refusal, line: usize) -> ReadFound
+    ensures { λ r. ⌜ r ≡ record { answer = Refused refusal line; found = nothingFound } ⌝ }
 {
     let answer = ReadStore::Refused { refusal, line };
-    ReadCounted {
-        answer,
-        counts: NO_COUNTS,
-    }
+    let found = nothing_found();
+    ReadFound { answer, found }
 }
 
 // Line after line, each decoded into the store and checked there. What stands after the frames is the caller's to zero.
-fn read_lines(text: &[u8], store: &mut [u8]) -> ReadCounted
+fn read_lines(text: &[u8], store: &mut [u8]) -> ReadFound
     requires { ⌜ storeSize ≤ length (now store) ⌝ }
-    ensures { λ r. ⌜ ((readingOf (r .answer) ≡ usedIn (now (text .entry))) × Front (bytesIn (now (text .entry))) (readingOf (r .answer)) (now (store .exit))) × (r .counts ≡ countsIn (reading (now (text .entry)))) ⌝ }
+    ensures { λ r. ⌜ LinesRead (now (text .entry)) r (now (store .exit)) ⌝ }
 {
     let mut latest: u8 = 0;
     let mut n = NO_COUNTS;
+    let mut lowest = [0i16; Counts::FLUENTS];
+    let mut highest = [0i16; Counts::FLUENTS];
+    let mut start = [0i16; Counts::FLUENTS];
+    let mut known = [0u8; Counts::KNOWLEDGE];
+    let mut knowers = [0u16; Counts::KNOWLEDGE];
     let mut names = [0u8; Counts::ENTRIES];
     let mut crews = [0u16; Counts::ENTRIES];
+    let mut laws = [0u16; Counts::LAWS];
     let mut ready = [0u8; Counts::ENTRIES];
     let mut rest = text;
     let mut used: usize = 0;
@@ -95,7 +104,21 @@ fn read_lines(text: &[u8], store: &mut [u8]) -> ReadCounted
             FirstLine::Nothing => {
                 if is_complete(n, &ready) {
                     let answer = ReadStore::Read(used);
-                    return ReadCounted { answer, counts: n };
+                    let found = Found {
+                        ok: true,
+                        index: Index {
+                            counts: n,
+                            lowest,
+                            highest,
+                            start,
+                            known,
+                            knowers,
+                            names,
+                            crews,
+                            laws,
+                        },
+                    };
+                    return ReadFound { answer, found };
                 }
                 return refused(Refusal::Incomplete, line);
             }
@@ -106,15 +129,19 @@ fn read_lines(text: &[u8], store: &mut [u8]) -> ReadCounted
                 line += 1;
                 let kind = store[used];
                 let from = used + 2;
-                used += bytes;
-                let p = &store[from..used];
+                let next = used + bytes;
+                let p = &store[from..next];
                 if let Check::Refused(refusal) = check_frame(latest, n, &names, &crews, kind, p) {
                     return refused(refusal, line);
                 }
+                note_fluent(n, kind, p, &mut lowest, &mut highest, &mut start);
+                note_knowledge(n, kind, p, &mut known, &mut knowers);
                 note_entry(n, kind, p, &mut names, &mut crews);
+                note_law(n, kind, used as u16, &mut laws);
                 note_ready(kind, p, &mut ready);
                 n = count_frame(n, kind, byte_at(p, 0));
                 latest = kind;
+                used = next;
                 rest = &rest[characters..];
             }
         }

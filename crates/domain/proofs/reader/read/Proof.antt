@@ -3,7 +3,7 @@ use Rattle.domain.proofs.reader.read.Statement.{statement}
 use Rattle.domain.proofs.reader.read.Tie as tie
 
 returns : tie.Need-returns
-returns c = c .before .before .read-counted .ensures .0
+returns c = let r = c .before .before .read-found .ensures in (r .answer, r .buffer)
 
 pub read-spec : {M : Type 1} → statement M
 read-spec = tie.close (tie.spec (λ c κs. search needs) (λ c. search needs) returns)

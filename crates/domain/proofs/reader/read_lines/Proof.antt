@@ -23,10 +23,10 @@ use Rattle.domain.proofs.reader.read_lines.Statement.{statement}
 use Rattle.domain.proofs.reader.read_lines.Tie as tie
 
 abbrev Inv-loop : tie.InvT-loop
-Inv-loop text store₀ latest₀ n₀ names₀ crews₀ ready₀ rest₀ used₀ line₀ store latest n names crews ready rest used line = (length store ≡ length store₀) × Reads text store rest latest n names crews ready used line
+Inv-loop text store₀ latest₀ n₀ lowest₀ highest₀ start₀ known₀ knowers₀ names₀ crews₀ laws₀ ready₀ rest₀ used₀ line₀ store latest n lowest highest start known knowers names crews laws ready rest used line = (length store ≡ length store₀) × Reads text store rest latest n lowest highest start known knowers names crews laws ready used line
 
 abbrev μ-loop : tie.MeasureT-loop
-μ-loop text store₀ latest₀ n₀ names₀ crews₀ ready₀ rest₀ used₀ line₀ store latest n names crews ready rest used line = length rest
+μ-loop text store₀ latest₀ n₀ lowest₀ highest₀ start₀ known₀ knowers₀ names₀ crews₀ laws₀ ready₀ rest₀ used₀ line₀ store latest n lowest highest start known knowers names crews laws ready rest used line = length rest
 
 -- the store has its length again once the part comes back
 again : (c : tie.After-read-line Inv-loop μ-loop) → length (renewed (c .before .before .loop .store) (c .before .before .loop .used) (c .read-line .last .1 .0)) ≡ length (c .before .before .before .before .before .args .store .now)
@@ -162,8 +162,8 @@ slice-read-kind c = let z = c .before .before in omega (arith, sizes z .two, siz
 add-from : tie.Need-add-from Inv-loop μ-loop
 add-from c = let z = c .before .before in omega (arith, sizes z .two, sizes z .most, within z, reads-used (z .before .before .before .before .before .before .loop .inv .1))
 
-add-used : tie.Need-add-used Inv-loop μ-loop
-add-used c = let z = c .before .before in omega (arith, sizes z .two, sizes z .most, within z, reads-used (z .before .before .before .before .before .before .loop .inv .1))
+add-next : tie.Need-add-next Inv-loop μ-loop
+add-next c = let z = c .before .before in omega (arith, sizes z .two, sizes z .most, within z, reads-used (z .before .before .before .before .before .before .loop .inv .1))
 
 sub-p : tie.Need-sub-p Inv-loop μ-loop
 sub-p c = let z = c .before .before in omega (arith, sizes z .two, sizes z .most, within z, reads-used (z .before .before .before .before .before .before .loop .inv .1))
@@ -197,41 +197,60 @@ returns-4 c =
 enum-told-2 : tie.Need-enum-told-2 Inv-loop μ-loop
 enum-told-2 c = search needs
 
+note-fluent-requires : tie.Need-note-fluent-requires Inv-loop μ-loop
+note-fluent-requires c κs = room (c .before .before .before)
+
+note-knowledge-requires : tie.Need-note-knowledge-requires Inv-loop μ-loop
+note-knowledge-requires c κs = room (c .before .before .before .before .before .before)
+
 note-entry-requires : tie.Need-note-entry-requires Inv-loop μ-loop
-note-entry-requires c κs = room (c .before .before)
+note-entry-requires c κs = room (c .before .before .before .before .before .before .before .before .before)
+
+cast-note-law : tie.Need-cast-note-law Inv-loop μ-loop
+cast-note-law c = omega (arith, reads-used (head (c .before .before .before .before .before .before .before .before .before .before) .loop .inv .1))
+
+note-law-requires : tie.Need-note-law-requires Inv-loop μ-loop
+note-law-requires c κs = room (c .before .before .before .before .before .before .before .before .before .before .before)
 
 note-ready-requires : tie.Need-note-ready-requires Inv-loop μ-loop
-note-ready-requires c κs = entry (c .before .before .before .before)
+note-ready-requires c κs = entry (c .before .before .before .before .before .before .before .before .before .before .before .before .before)
 
 byte-at-requires : tie.Need-byte-at-requires Inv-loop μ-loop
 byte-at-requires c κs = search needs
 
 count-frame-requires : tie.Need-count-frame-requires Inv-loop μ-loop
-count-frame-requires c κs = room (c .before .before .before .before .before .before)
+count-frame-requires c κs = room (c .before .before .before .before .before .before .before .before .before .before .before .before .before .before .before)
 
 sub-rest : tie.Need-sub-rest Inv-loop μ-loop
-sub-rest c = let z = c .before .before .before .before .before .before .before .before .before .before .before .before .before .before .before .before in omega (arith, sizes z .characters)
+sub-rest c = omega (arith, sizes (arm (c .before .before .before .before .before .before .before .before .before .before .before .before .before .before .before .before)) .characters)
 
 part-rest-start : tie.Need-part-rest-start Inv-loop μ-loop
-part-rest-start c = let z = c .before .before .before .before .before .before .before .before .before .before .before .before .before .before .before .before in omega (arith, sizes z .characters)
+part-rest-start c = omega (arith, sizes (arm (c .before .before .before .before .before .before .before .before .before .before .before .before .before .before .before .before)) .characters)
 
 part-rest-end : tie.Need-part-rest-end Inv-loop μ-loop
 part-rest-end c = search needs
 
 loop-less : tie.Need-loop-less Inv-loop μ-loop
-loop-less c = let z = c .before .before .before .before .before .before .before .before .before .before .before .before .before .before .before .before .before in less z
+loop-less c = less (arm (c .before .before .before .before .before .before .before .before .before .before .before .before .before .before .before .before .before))
 
 loop-again : tie.Need-loop-again Inv-loop μ-loop
 loop-again c =
-    let e = c .before .before .before .before .before .before .before .before in
+    let e = c .before .before .before .before .before .before .before .before .before .before .before .before .before .before .before .before .before in
     let z = arm e in
     let r = z .before .before .before .before in
     let l = head e in
-    let ne = c .before .before .before .before .before in
+    let nf = c .before .before .before .before .before .before .before .before .before .before .before .before .before in
+    let nk = c .before .before .before .before .before .before .before .before .before .before in
+    let ne = c .before .before .before .before .before .before .before in
+    let nl = c .before .before .before .before .before in
     let nr = c .before .before .before in (
       again r,
       reads-next (l .loop .inv .1) (z .bytes .given .0 .0) (z .bytes .given .0 .1 .0) (r .read-line .last .1 .0) (line-is z) (r .read-line .ensures .1) (passes e)
-          (again r ∙ sym (l .loop .inv .0)) (ne .note-entry .ensures .0) (ne .note-entry .ensures .1) (nr .note-ready .ensures)
+          (again r ∙ sym (l .loop .inv .0))
+          (nf .note-fluent .ensures .0) (nf .note-fluent .ensures .1) (nf .note-fluent .ensures .2)
+          (nk .note-knowledge .ensures .0) (nk .note-knowledge .ensures .1)
+          (ne .note-entry .ensures .0) (ne .note-entry .ensures .1)
+          (nl .note-law .ensures) (nr .note-ready .ensures)
           (c .before .count-frame .ensures ∙ ap (counted _ _) (c .before .before .byte-at .ensures)),
     )
 
@@ -262,7 +281,7 @@ read-lines-spec =
     add-line
     slice-read-kind
     add-from
-    add-used
+    add-next
     sub-p
     part-p-start
     part-p-end
@@ -272,7 +291,11 @@ read-lines-spec =
     same-length-4
     returns-4
     enum-told-2
+    note-fluent-requires
+    note-knowledge-requires
     note-entry-requires
+    cast-note-law
+    note-law-requires
     note-ready-requires
     byte-at-requires
     count-frame-requires

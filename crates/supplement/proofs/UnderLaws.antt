@@ -7,19 +7,20 @@ use mathlib.Core.List.{List, [], _∷_, _++_, map}
 use mathlib.Core.Option.{Option, none, some}
 use lib.ListN.{length, set, drop, replicate}
 use Rattle.bmap.specs.Plain.{maybe}
-use Rattle.bmap.specs.Refusal.{got, refused, known, then}
+use Rattle.bmap.specs.Refusal.{Answer, got, refused, known, then}
 use Rattle.bmap.specs.Line.{Frame, stored}
 use Rattle.bmap.specs.Domain.{Domain}
-use Rattle.bmap.specs.Store.{frameAt, zeros, framesFrom, whatWasRead}
+use Rattle.bmap.specs.Store.{frameAt, zeros, framesFrom, whatWasRead, domainIn}
 use Rattle.bmap.specs.Supplement.{Replacement, replaces, numberIn, replacementIn, supplementFrom, supplementIn}
 use Rattle.index.specs.Index.{domainOf, Sound}
 use Rattle.domain.specs.Check.{refusedIn}
 use Rattle.domain.specs.declared.found.Found.{Found}
 use Rattle.domain.specs.Found.{foundIn}
 use Rattle.domain.proofs.Stands.{here, refusal-is}
-use Rattle.domain.proofs.Accepted.{found-ok, found-none}
+use Rattle.domain.proofs.Accepted.{found-got, found-not, found-ok, found-none}
 use Rattle.supplement.specs.Check.{overOf}
-use Rattle.supplement.specs.Under.{underOf, underIn}
+use Rattle.supplement.specs.Under.{underOf, underIn, underAlone}
+use Rattle.supplement.proofs.EmptyLaws.{zeros-accepted}
 use Rattle.supplement.proofs.OverLaws.{Over, over-first, over-most}
 use Rattle.supplement.proofs.Passes.{Passes, passes, over-passed}
 
@@ -154,3 +155,15 @@ module _ (store supplement : List ℕ) (f : Found) (e : f ≡ foundIn store) whe
   under-by k =
       ap (λ (x : Found). underOf (x .index) (supplementIn (domainOf store (x .index)) supplement)) e
       ∙ ap (λ a. underOf (foundIn store .index) (then a (λ d. supplementIn d supplement))) (sym (found-ok store (its-ok true k) .domain))
+
+-- an empty supplement, which is accepted for every domain: nothing more is found
+pub alone-is : (store : List ℕ) → underAlone (foundIn store) ≡ underIn store []
+unfolding underIn
+alone-is store = go (domainIn store) refl
+  where
+    go : (a : Answer Domain) → domainIn store ≡ a → underAlone (foundIn store) ≡ underOf (foundIn store .index) (then a (λ d. supplementIn d []))
+    go (got d) e =
+        ap (λ (b : Bool). record { ok = b; index = foundIn store .index; over = replicate 128 0 }) (ap (λ (f : Found). f .ok) (found-got store d e))
+        ∙ ap (λ (o : List ℕ). record { ok = true; index = foundIn store .index; over = o }) (over-first .places)
+        ∙ sym (ap (underOf (foundIn store .index)) (zeros-accepted d 0))
+    go (refused n) e = ap (λ (b : Bool). record { ok = b; index = foundIn store .index; over = replicate 128 0 }) (ap (λ (f : Found). f .ok) (found-not store n e))

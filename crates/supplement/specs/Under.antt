@@ -9,6 +9,7 @@ use Rattle.bmap.specs.Store.{domainIn}
 use Rattle.bmap.specs.Supplement.{Replacement, supplementIn}
 use Rattle.index.specs.declared.Index.{Index}
 use Rattle.domain.specs.Found.{foundIn}
+use Rattle.domain.specs.declared.found.Found.{Found}
 use Rattle.supplement.specs.Check.{overOf}
 use Rattle.supplement.specs.declared.under.Under.{Under}
 
@@ -19,3 +20,7 @@ underOf x (refused n) = record { ok = false; index = x; over = replicate mostLaw
 
 unfoldable pub underIn : List ℕ → List ℕ → Under
 underIn store supplement = underOf (foundIn store .index) (then (domainIn store) (λ d. supplementIn d supplement))
+
+-- a domain alone, by what was found of it
+abbrev pub underAlone : Found → Under
+underAlone f = record { ok = f .ok; index = f .index; over = replicate mostLaws 0 }

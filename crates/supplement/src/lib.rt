@@ -16,4 +16,5 @@ pub use force::place_in_force;
 pub use laying::lay;
 pub use reader::read;
 pub use under::Under;
+pub use under::alone;
 pub use under::index_of;

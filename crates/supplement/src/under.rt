@@ -2,6 +2,7 @@
 use crate::checks::check_replacement;
 use bmap::Counts;
 use domain::Check;
+use domain::Found;
 use index::Index;
 use index::byte_at;
 use line::FrameAt;
@@ -12,7 +13,7 @@ ghost use Prim.Native.Nat.{ℕ};
 ghost use Rattle.bmap.specs.Refusal.{refused};
 ghost use Rattle.bmap.specs.Supplement.{supplementIn};
 ghost use Rattle.index.specs.Index.{domainOf, Sound};
-ghost use Rattle.supplement.specs.Under.{underOf, underIn};
+ghost use Rattle.supplement.specs.Under.{underOf, underIn, underAlone};
 
 // What a judge reads of a domain and a supplement accepted for it.
 pub struct Under {
@@ -32,6 +33,18 @@ pub fn index_of(store: &[u8], supplement: &[u8]) -> Under
         return places_of(store, index, supplement);
     }
     refused(index)
+}
+
+// What was found of a domain, where nothing stands in for a law.
+pub fn alone(found: Found) -> Under
+    ensures { λ r. ⌜ r ≡ underAlone found ⌝ }
+{
+    let index = found.index;
+    Under {
+        ok: found.ok,
+        index,
+        over: [0; Counts::LAWS],
+    }
 }
 
 fn refused(index: Index) -> Under

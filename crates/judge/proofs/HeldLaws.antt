@@ -5,14 +5,15 @@ use mathlib.Core.List.{List, _++_}
 use mathlib.Core.Option.{some}
 use native.Mathlib.Omega.{arith}
 use native.Mathlib.Decide.{decLt}
-use lib.ListN.{length, getD, take, drop, set, length-set, take-append-drop}
-use lib.Seq.{paste, length-paste, take-paste, take-take, take-length, take-at, take-set-le, drop-at, drop-drop, getD-take, getD-drop, getD-set-same, length-take-le}
+use lib.ListN.{length, getD, take, drop, set, length-set, length-take, take-append-drop}
+use lib.Seq.{take-all, paste, length-paste, take-paste, take-take, take-length, take-at, take-set-le, drop-at, drop-drop, getD-take, getD-drop, getD-set-same, length-take-le}
 use denote.Ref.{RefT, now}
 use Rattle.bmap.specs.Limits.{mostLaws, mostPayload, frameSize}
 use Rattle.bmap.specs.Domain.{Domain, Law}
 use Rattle.bmap.specs.Payload.{lawIn}
 use Rattle.bmap.specs.Accept.{countsOf}
 use Rattle.bmap.specs.Supplement.{Where, inDomain, inSupplement}
+use Rattle.index.specs.Place.{StandsAt}
 use Rattle.supplement.specs.Force.{StandsIn, lawStretch, payloadOf}
 use Rattle.judge.specs.Told.{Says, HeldLaw, Held, kindThere, frameOf}
 use Rattle.judge.proofs.StateLaws.{part-take}
@@ -26,6 +27,11 @@ contents-in (inSupplement at) store supplement bytes r s = s .contents
 module _ (store : RefT (List ℕ)) (laws : List ℕ) (supplement : RefT (List ℕ)) (over : List ℕ) (i : ℕ) (r : RefT (List ℕ)) where
   pub handed-out : StandsIn (lawStretch (now store) laws (now supplement) over i .stands) store supplement (payloadOf (now store) laws (now supplement) over i) r → now r ≡ payloadOf (now store) laws (now supplement) over i
   handed-out h = contents-in (lawStretch (now store) laws (now supplement) over i .stands) store supplement (payloadOf (now store) laws (now supplement) over i) r h
+
+-- and as much of it as a frame has
+module _ (p : List ℕ) (whole : RefT (List ℕ)) (r : RefT (List ℕ)) (e : now whole ≡ p) where
+  pub cut-short : StandsAt whole 0 (take mostPayload (drop 0 (now whole))) r → now r ≡ take mostPayload p
+  cut-short h = h .contents ∙ ap (take mostPayload) e
 
 -- ---- a kind and a payload, laid
 
@@ -82,23 +88,25 @@ law-kept held held′ at n kind payload e h w =
 
 -- ---- one law more
 
-module _ (store laws supplement over held : List ℕ) (i : ℕ) (before : Held store laws supplement over i held) (few : i < mostLaws) (short : (k : ℕ) → k ≤ i → length (payloadOf store laws supplement over k) ≤ mostPayload)
-    {kind : ℕ} {payload held′ : List ℕ} (its-kind : kind ≡ kindThere store laws i) (its-payload : payload ≡ payloadOf store laws supplement over i) (e : held′ ≡ paste (set held (frameSize * i) kind) (frameSize * i + 2) payload (length payload)) where
-  room-for-law : frameSize * i + 2 + length payload ≤ length held
-  room-for-law = let z : length payload ≡ length (payloadOf store laws supplement over i) = ap length its-payload in omega (arith, short i (omega arith), before .long)
+module _ (store laws supplement over held : List ℕ) (i : ℕ) (before : Held store laws supplement over i held) (few : i < mostLaws)
+    {payload : List ℕ} (its-payload : payload ≡ take mostPayload (payloadOf store laws supplement over i)) where
+  pub room-for-law : frameSize * i + 2 + length payload ≤ length held
+  room-for-law = let z : length payload ≡ length (take mostPayload (payloadOf store laws supplement over i)) = ap length its-payload in omega (arith, z, length-take mostPayload (payloadOf store laws supplement over i), before .long)
 
-  pub hold-more : Held store laws supplement over (i + 1) held′
-  hold-more = record {
+  pub hold-more : {kind : ℕ} {held′ : List ℕ} → kind ≡ kindThere store laws i → held′ ≡ paste (set held (frameSize * i) kind) (frameSize * i + 2) payload (length payload) → Held store laws supplement over (i + 1) held′
+  hold-more {kind} {held′} its-kind e = record {
     long = ap length e ∙ (length-laid held payload (frameSize * i) kind room-for-law ∙ before .long);
-    law = λ k h. elim (decLt k i) [
+    law = λ k h short. elim (decLt k i) [
       | yes q ↦
-          let p : frameSize * k + 2 + length (payloadOf store laws supplement over k) ≤ frameSize * i = omega (arith, short k (omega arith)) in
-          law-kept held held′ (frameSize * k) (frameSize * i) (kindThere store laws k) (payloadOf store laws supplement over k) (ap (take (frameSize * i)) e ∙ before-laid held payload (frameSize * i) kind room-for-law) p (before .law k q)
+          let p : frameSize * k + 2 + length (payloadOf store laws supplement over k) ≤ frameSize * i = omega (arith, short) in
+          law-kept held held′ (frameSize * k) (frameSize * i) (kindThere store laws k) (payloadOf store laws supplement over k) (ap (take (frameSize * i)) e ∙ before-laid held payload (frameSize * i) kind room-for-law) p (before .law k q short)
       | no q ↦
-          let z : i ≡ k = omega arith in
-          subst (λ (m : ℕ). HeldLaw (kindThere store laws m) (payloadOf store laws supplement over m) (frameOf held′ m)) z
+          let z : k ≡ i = omega arith in
+          let whole : payload ≡ payloadOf store laws supplement over i
+          = its-payload ∙ take-all mostPayload (payloadOf store laws supplement over i) (subst (λ (m : ℕ). length (payloadOf store laws supplement over m) ≤ mostPayload) z short) in
+          subst (λ (m : ℕ). HeldLaw (kindThere store laws m) (payloadOf store laws supplement over m) (frameOf held′ m)) (sym z)
           (subst (λ (n : ℕ). HeldLaw n (payloadOf store laws supplement over i) (frameOf held′ i)) its-kind
-          (subst (λ (l : List ℕ). HeldLaw kind l (frameOf held′ i)) its-payload
+          (subst (λ (l : List ℕ). HeldLaw kind l (frameOf held′ i)) whole
           (subst (λ (l : List ℕ). HeldLaw kind payload (frameOf l i)) (sym e) (law-laid held payload (frameSize * i) kind room-for-law))))
     ];
   }

@@ -23,7 +23,7 @@ use Rattle.supplement.proofs.Accepted.{UnderIs, under-ok, length-in-force}
 use Rattle.judge.specs.Masks.{unionFrom}
 use Rattle.judge.specs.Landing.{Ranged}
 use Rattle.judge.specs.Told.{Lawful, Knowing, Held, kindThere, frameOf}
-use Rattle.judge.specs.Prepared.{Entered, Accepted, Governs}
+use Rattle.judge.specs.Prepared.{InLimits, Entered, Accepted, Governs}
 use Rattle.bmap.proofs.NumbersLaws.{map-length, map-at}
 use Rattle.judge.proofs.CheckLaws.{noEntry}
 use Rattle.judge.proofs.HeldLaws.{held-says}
@@ -50,8 +50,11 @@ module _ {s supplement : List ℕ} {u : Under} (here : UnderIs s supplement u) w
   abbrev pub domainHere : Domain
   domainHere = replaced (here .replacements) (domainOf s x)
 
-  pub in-force : Governs s supplement u domainHere
-  in-force = record { replacements = here .replacements; accepted = here .accepted; is = refl }
+  pub in-force : Accepted s supplement u → Governs s supplement u domainHere
+  in-force a = record { of = a; replacements = here .replacements; accepted = here .accepted; is = refl }
+
+  pub in-limits : InLimits (u .index .counts)
+  in-limits = let k = here .sound in record { someAgent = k .someAgent; agents = k .agents; fluents = k .fluents; knowledge = k .knowledge; entries = k .entries; laws = k .laws }
 
   pub only-one : {d : Domain} → Governs s supplement u d → domainHere ≡ d
   only-one f = let z : got (here .replacements) ≡ got (f .replacements) = sym (here .accepted) ∙ f .accepted in let same : here .replacements ≡ f .replacements = cc in ap (λ (r : List Replacement). replaced r (domainOf s x)) same ∙ f .is
@@ -66,7 +69,7 @@ module _ {s supplement : List ℕ} {u : Under} (here : UnderIs s supplement u) w
   index-lawful held copied = record {
     long = copied .long;
     count = length-in-force (here .replacements) (domainOf s x) ∙ law-count s x;
-    law = λ i h. held-says domainHere (payloadOf s (x .laws) supplement (u .over) i) (frameOf held i) (lawNumber domainHere i) (copied .law i h) (ap (λ (c : Counts). lawIn c (kindThere s (x .laws) i) (payloadOf s (x .laws) supplement (u .over) i)) counts-in-force ∙ here .law i h) (here .short i h);
+    law = λ i h. held-says domainHere (payloadOf s (x .laws) supplement (u .over) i) (frameOf held i) (lawNumber domainHere i) (copied .law i h (here .short i h)) (ap (λ (c : Counts). lawIn c (kindThere s (x .laws) i) (payloadOf s (x .laws) supplement (u .over) i)) counts-in-force ∙ here .law i h) (here .short i h);
   }
 
   pub index-ranged : Ranged domainHere (x .lowest) (x .highest) (n .fluents)

@@ -1,16 +1,17 @@
 -- What is found once for a judgement, and what a judgement leaves.
 use Prim.Native.Nat.{ℕ, _+_, _*_, _≤_, _<_}
 use mathlib.Core.Path.{_≡_}
-use mathlib.Core.Bool.{true}
+use mathlib.Core.Bool.{Bool, true, false}
 use mathlib.Core.List.{List, map}
 use lib.IntN.{ℤ}
 use lib.ListN.{length, getD}
 use Rattle.bmap.specs.Plain.{numbers}
-use Rattle.bmap.specs.Limits.{mostAgents, mostFluents, mostEntries, mostSteps}
+use Rattle.bmap.specs.Limits.{mostAgents, mostFluents, mostKnowledge, mostEntries, mostLaws, mostSteps}
 use Rattle.bmap.specs.Refusal.{got}
 use Rattle.bmap.specs.Domain.{Domain}
 use Rattle.bmap.specs.Supplement.{Replacement, replaced, supplementIn}
 use Rattle.bmap.specs.Judge.{Judged, accepted}
+use Rattle.bmap.specs.declared.limits.Counts.{Counts}
 use Rattle.law.specs.Evaluate.{historySize}
 use Rattle.index.specs.Index.{domainOf}
 use Rattle.supplement.specs.Under.{underIn}
@@ -28,15 +29,30 @@ pub record Accepted (store supplement : List ℕ) (u : Under) : Type 0 where
   pub found : u ≡ underIn store supplement
   pub ok : u .ok ≡ true
 
--- "the domain with those laws replaced"
+-- "the domain with those laws replaced", by what was found
 pub record Governs (store supplement : List ℕ) (u : Under) (d : Domain) : Type 0 where
+  pub of : Accepted store supplement u
   pub replacements : List Replacement
   pub accepted : supplementIn (domainOf store (u .index)) supplement ≡ got replacements
   pub is : replaced replacements (domainOf store (u .index)) ≡ d
 
+-- the limits of every domain: what was found of other stores has them or is refused
+pub record InLimits (n : Counts) : Type 0 where
+  pub someAgent : 1 ≤ n .agents
+  pub agents : n .agents ≤ mostAgents
+  pub fluents : n .fluents ≤ mostFluents
+  pub knowledge : n .knowledge ≤ mostKnowledge
+  pub entries : n .entries ≤ mostEntries
+  pub laws : n .laws ≤ mostLaws
+
+-- an answer says whether they are kept
+pub record KeepsLimits (n : Counts) (r : Bool) : Type 0 where
+  pub yes : r ≡ true → InLimits n
+  pub no : r ≡ false → InLimits n → ⊥
+
 -- a sheet of so many steps that can be judged by it
-pub record Judgeable (store supplement : List ℕ) (u : Under) (sheet : List ℕ) (n : ℕ) (history : List ℤ) : Type 0 where
-  pub accepted : Accepted store supplement u
+pub record Judgeable (u : Under) (sheet : List ℕ) (n : ℕ) (history : List ℤ) : Type 0 where
+  pub limits : InLimits (u .index .counts)
   pub steps : n ≤ mostSteps
   pub whole : length sheet ≡ n * u .index .counts .agents
   pub room : length history ≡ historySize

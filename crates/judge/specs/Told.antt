@@ -59,16 +59,15 @@ pub record HeldLaw (kind : ℕ) (payload bytes : List ℕ) : Type 0 where
 abbrev pub kindThere : List ℕ → List ℕ → ℕ → ℕ
 kindThere store laws i = getD (frameBytes store (getD laws i 0)) 0 0
 
--- the first n laws in force are held
+-- the first n laws in force are held, those that a frame has room for
 pub record Held (store laws supplement over : List ℕ) (n : ℕ) (held : List ℕ) : Type 0 where
   pub long : length held ≡ heldSize
-  pub law : (i : ℕ) → i < n → HeldLaw (kindThere store laws i) (payloadOf store laws supplement over i) (frameOf held i)
+  pub law : (i : ℕ) → i < n → length (payloadOf store laws supplement over i) ≤ mostPayload → HeldLaw (kindThere store laws i) (payloadOf store laws supplement over i) (frameOf held i)
 
 -- and there is room for them
-pub record Holdable (store laws supplement over : List ℕ) (n : ℕ) (held : List ℕ) : Type 0 where
+pub record Holdable (n : ℕ) (held : List ℕ) : Type 0 where
   pub long : length held ≡ heldSize
   pub few : n ≤ mostLaws
-  pub short : (i : ℕ) → i < n → length (payloadOf store laws supplement over i) ≤ mostPayload
 
 -- the held laws are the domain's
 pub record Lawful (d : Domain) (held : List ℕ) (n : ℕ) : Type 0 where

@@ -10,8 +10,10 @@ ghost use Rattle.law.specs.Evaluate.{heldSize};
 ghost use Rattle.judge.specs.Told.{Held, Holdable};
 use bmap::Counts;
 use bmap::FRAME;
+use bmap::PAYLOAD;
 use index::byte_at;
 use index::law_at;
+use index::part;
 use law::HELD;
 use supplement::payload_at;
 
@@ -36,18 +38,15 @@ pub(crate) fn hold_laws<'a>(
     over: &[u16; Counts::LAWS],
     n: usize,
 )
-    requires { ⌜ Holdable (now store) (now laws) (now supplement) (now over) n (now held) ⌝ }
+    requires { ⌜ Holdable n (now held) ⌝ }
     ensures { λ _. ⌜ Held (now (store .entry)) (now (laws .entry)) (now (supplement .entry)) (now (over .entry)) n (now (held .exit)) ⌝ }
 {
     let mut i = 0;
     while i < n {
         let kind = byte_at(law_at(store, laws, i), 0);
-        hold(
-            held,
-            FRAME * i,
-            kind,
-            payload_at(store, laws, supplement, over, i),
-        );
+        let payload = payload_at(store, laws, supplement, over, i);
+        // An accepted law has no more bytes than this.
+        hold(held, FRAME * i, kind, part(payload, 0, PAYLOAD));
         i += 1;
     }
 }

@@ -12,7 +12,8 @@ ghost use Rattle.bmap.specs.Verdict.{judgement, judgeSheet};
 ghost use Rattle.law.specs.Evaluate.{historySize};
 ghost use Rattle.judge.specs.Answer.{answerOf, statesIn, statesWritten, statesWrittenUnder, judgeFor, statesWrittenFor};
 ghost use Rattle.judge.specs.declared.verdict.Judgement.the-variants.{Refused};
-ghost use Rattle.judge.specs.Prepared.{judgedOf, Accepted, Governs, Judgeable};
+ghost use Rattle.judge.specs.Prepared.{judgedOf, Governs, InLimits, KeepsLimits, Judgeable};
+ghost use Rattle.supplement.specs.Under.{underIn};
 use crate::held::hold_laws;
 use crate::knowledge::all_knowers;
 use crate::knowledge::all_owners;
@@ -22,6 +23,7 @@ use crate::steps::Plan;
 use crate::steps::Ran;
 use crate::steps::run_sheet;
 use crate::verdict::Judgement;
+use bmap::Counts;
 use bmap::LEVELS;
 use bmap::Refusal;
 use bmap::Sheet;
@@ -39,7 +41,7 @@ fn judge_steps<'a>(
     n: usize,
     history: &mut [i16; HISTORY],
 ) -> Ran
-    requires { ⌜ Judgeable (now store) (now supplement) under (now sheet) n (now history) ⌝ }
+    requires { ⌜ Judgeable under (now sheet) n (now history) ⌝ }
     ensures { λ r. ⌜ ((r .reached ≤ mostSteps + 1) × (length (now (history .exit)) ≡ historySize))
         × ((d : Domain) → Governs (now (store .entry)) (now (supplement .entry)) under d
         → judgedOf (under .index .counts .fluents) r (now (history .exit)) ≡ judge d (rows (under .index .counts .agents) n (now (sheet .entry)))) ⌝ }
@@ -92,7 +94,7 @@ fn judge_by<'a>(
     sheet: &[u8],
     levels: &mut [i16],
 ) -> Counted
-    requires { ⌜ Accepted (now store) (now supplement) under × (levelsSize ≤ length (now levels)) ⌝ }
+    requires { ⌜ InLimits (under .index .counts) × (levelsSize ≤ length (now levels)) ⌝ }
     ensures { λ r. ⌜ ((d : Domain) → Governs (now (store .entry)) (now (supplement .entry)) under d
         → (record { answer = answerOf (r .judgement); levels = now (levels .exit) }
         ≡ judgement (now (levels .entry)) (then (sheetOf (under .index .counts .agents) (now (sheet .entry))) (λ steps. got (judge d steps))))
@@ -101,17 +103,11 @@ fn judge_by<'a>(
     let counts = under.index.counts;
     let agents = counts.agents;
     if sheet.len() % agents != 0 {
-        return Counted {
-            judgement: Judgement::Refused(Refusal::NotWhole),
-            states: 0,
-        };
+        return refused(Refusal::NotWhole);
     }
     let n = sheet.len() / agents;
     if Sheet::STEPS < n {
-        return Counted {
-            judgement: Judgement::Refused(Refusal::TooLong),
-            states: 0,
-        };
+        return refused(Refusal::TooLong);
     }
     let mut history = [0i16; HISTORY];
     let ran = judge_steps(store, supplement, under, sheet, n, &mut history);
@@ -163,20 +159,60 @@ pub fn judge_under_counted<'a>(
     ensures { λ r. ⌜ (record { answer = answerOf (r .judgement); levels = now (levels .exit) } ≡ judgeUnder (now (store .entry)) (now (supplement .entry)) (now (sheet .entry)) (now (levels .entry)))
         × (r .states ≡ statesWrittenUnder (now (store .entry)) (now (supplement .entry)) (now (sheet .entry)) (now (levels .entry))) ⌝ }
 {
+    judge_found(
+        store,
+        supplement,
+        index_of(store, supplement),
+        sheet,
+        levels,
+    )
+}
+
+// By what was found of the two stores: nothing in them is looked at again. What was found of others says nothing of these; it is
+// refused where it is beyond the limits, and else judged without harm.
+pub fn judge_found<'a>(
+    store: &'a [u8],
+    supplement: &'a [u8],
+    under: Under,
+    sheet: &[u8],
+    levels: &mut [i16],
+) -> Counted
+    ensures { λ r. ⌜ (under ≡ underIn (now (store .entry)) (now (supplement .entry))
+        → (record { answer = answerOf (r .judgement); levels = now (levels .exit) } ≡ judgeUnder (now (store .entry)) (now (supplement .entry)) (now (sheet .entry)) (now (levels .entry)))
+        × (r .states ≡ statesWrittenUnder (now (store .entry)) (now (supplement .entry)) (now (sheet .entry)) (now (levels .entry)))) ⌝ }
+{
     if levels.len() < LEVELS {
-        return Counted {
-            judgement: Judgement::Refused(Refusal::NoRoom),
-            states: 0,
-        };
+        return refused(Refusal::NoRoom);
     }
-    let under = index_of(store, supplement);
     if !under.ok {
-        return Counted {
-            judgement: Judgement::Refused(Refusal::NotDomain),
-            states: 0,
-        };
+        return refused(Refusal::NotDomain);
+    }
+    if !keeps_limits(under.index.counts) {
+        return refused(Refusal::NotDomain);
     }
     judge_by(store, supplement, under, sheet, levels)
+}
+
+// The numbers of every domain.
+fn keeps_limits(n: Counts) -> bool
+    ensures { λ r. ⌜ KeepsLimits n r ⌝ }
+{
+    if n.agents == 0 {
+        return false;
+    }
+    if Counts::AGENTS < n.agents {
+        return false;
+    }
+    if Counts::FLUENTS < n.fluents {
+        return false;
+    }
+    if Counts::KNOWLEDGE < n.knowledge {
+        return false;
+    }
+    if Counts::ENTRIES < n.entries {
+        return false;
+    }
+    n.laws <= Counts::LAWS
 }
 
 // The same without a supplement, of a sheet for so many agents: "10, 15, 16", then "8, 9". Who knows how many they are asks here,
@@ -192,8 +228,7 @@ pub fn judge_for(agents: usize, store: &[u8], sheet: &[u8], levels: &mut [i16]) 
     if !under.ok {
         return refused(Refusal::NotDomain);
     }
-    let counts = under.index.counts;
-    if counts.agents != agents {
+    if under.index.counts.agents != agents {
         return refused(Refusal::OtherAgents);
     }
     judge_by(store, &store[..0], under, sheet, levels)

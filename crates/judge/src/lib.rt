@@ -17,6 +17,7 @@ pub use judgement::Counted;
 pub use judgement::judge;
 pub use judgement::judge_counted;
 pub use judgement::judge_for;
+pub use judgement::judge_found;
 pub use judgement::judge_under;
 pub use judgement::judge_under_counted;
 pub use verdict::Fault;

@@ -5,32 +5,27 @@ use borrow.Author.Needs.{needs}
 use lib.ListN.{length}
 use Rattle.judge.specs.Prepared.{judgedOf}
 use Rattle.law.specs.Evaluate.{historySize}
-use Rattle.index.specs.Index.{Sound}
 use Rattle.judge.proofs.StateLaws.{states-length}
-use Rattle.judge.proofs.IndexLaws.{under-is}
 use Rattle.judge.proofs.JudgeLaws.{blank-zeros}
 use Rattle.judge.proofs.CallLaws.{whole, by-uneven, by-long, by-steps}
 use Rattle.judge.proofs.judgement.judge_by.Statement.{statement}
 use Rattle.judge.proofs.judgement.judge_by.Tie as tie
 
-sound : (s : tie.Start) → Sound (s .args .store .now) (s .args .under .index)
-sound s = under-is (s .args .store .now) (s .args .supplement .now) (s .pre .0) .sound
-
 rem-if1 : tie.Need-rem-if1
-rem-if1 c = let s = c .before .before .before .before in let crew : 1 ≤ s .args .under .index .counts .agents = sound s .someAgent in search needs
+rem-if1 c = let s = c .before .before .before .before in let crew : 1 ≤ s .args .under .index .counts .agents = s .pre .0 .someAgent in search needs
 
 returns : tie.Need-returns
-returns c = let s = c .before .before .before .before .before .args in λ d f. by-uneven d (s .under .index .counts .agents) (s .sheet .now) (s .levels .now) (c .if1 .taken)
+returns c = let s = c .before .before .before .before .before .before .args in λ d f. rw (c .refused .ensures) (by-uneven d (s .under .index .counts .agents) (s .sheet .now) (s .levels .now) (c .before .if1 .taken))
 
 div-n : tie.Need-div-n
-div-n c = let s = c .before .before .before .before .before in let crew : 1 ≤ s .args .under .index .counts .agents = sound s .someAgent in search needs
+div-n c = let s = c .before .before .before .before .before in let crew : 1 ≤ s .args .under .index .counts .agents = s .pre .0 .someAgent in search needs
 
 returns-2 : tie.Need-returns-2
-returns-2 c = let s = c .before .before .before .before .before .before .args in λ d f. by-long d (s .under .index .counts .agents) (s .sheet .now) (s .levels .now) (c .before .if1 .left) (c .if2 .taken)
+returns-2 c = let s = c .before .before .before .before .before .before .before .args in λ d f. rw (c .refused2 .ensures) (by-long d (s .under .index .counts .agents) (s .sheet .now) (s .levels .now) (c .before .before .if1 .left) (c .before .if2 .taken))
 
 judge-steps-requires : tie.Need-judge-steps-requires
 judge-steps-requires c κs = let start = c .before .before .before .before .before .before .before in record {
-  accepted = start .pre .0;
+  limits = start .pre .0;
   steps = c .before .if2 .left;
   whole = whole (length (start .args .sheet .now)) (start .args .under .index .counts .agents) (c .before .before .if1 .left);
   room = refl;
@@ -41,7 +36,7 @@ slice-aggregate-copy-states : tie.Need-slice-aggregate-copy-states
 slice-aggregate-copy-states c = search needs
 
 copy-states-requires : tie.Need-copy-states-requires
-copy-states-requires c κs = let s = c .before .before .before .before .before .before .before .before .before .before in let ran = c .before .before .judge-steps .ensures .0 in (omega (arith, ran .0), (sound s .fluents, (ran .1, s .pre .1)))
+copy-states-requires c κs = let s = c .before .before .before .before .before .before .before .before .before .before in let ran = c .before .before .judge-steps .ensures .0 in (omega (arith, ran .0), (s .pre .0 .fluents, (ran .1, s .pre .1)))
 
 same-length : tie.Need-same-length
 same-length c = search needs
@@ -56,8 +51,10 @@ judge-by-spec =
     tie.close
     (tie.spec
     rem-if1
+    (λ c κs. search needs)
     returns
     div-n
+    (λ c κs. search needs)
     returns-2
     judge-steps-requires
     slice-aggregate-copy-states

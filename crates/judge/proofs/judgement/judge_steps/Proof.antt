@@ -6,7 +6,6 @@ use Rattle.bmap.specs.Domain.{Domain}
 use Rattle.bmap.specs.Sheet.{rows}
 use Rattle.bmap.specs.Judge.{judge}
 use Rattle.index.specs.declared.Index.{Index}
-use Rattle.supplement.proofs.Accepted.{UnderIs}
 use Rattle.judge.specs.Told.{Lawful}
 use Rattle.judge.proofs.IndexLaws.{under-is, domainHere, only-one, index-lawful, index-ranged, index-entered, index-entries, index-agents, index-started, index-knowing}
 use Rattle.judge.proofs.judgement.judge_steps.Statement.{statement}
@@ -33,9 +32,6 @@ long s = record {
   crews = search needs;
 }
 
-here : (s : tie.Start) → UnderIs (s .args .store .now) (s .args .supplement .now) (s .args .under)
-here s = under-is (s .args .store .now) (s .args .supplement .now) (s .pre .accepted)
-
 -- ---- the places, each from the one after it
 
 abbrev start : tie.After-hold-laws → tie.Start
@@ -54,7 +50,7 @@ abbrev begun : tie.After-all-runs → tie.Start
 begun c = start (held (known (owned c)))
 
 hold-laws-requires : tie.Need-hold-laws-requires
-hold-laws-requires c κs = let s = c .before .before .before .before .before .before .before .before .before .before .before .before in record { long = search needs; few = here s .sound .laws; short = here s .short }
+hold-laws-requires c κs = record { long = search needs; few = c .before .before .before .before .before .before .before .before .before .before .before .before .pre .limits .laws }
 
 slice-aggregate-all-knowers : tie.Need-slice-aggregate-all-knowers
 slice-aggregate-all-knowers c = sym (long (start (c .before)) .known)
@@ -63,20 +59,20 @@ slice-aggregate-all-knowers-2 : tie.Need-slice-aggregate-all-knowers-2
 slice-aggregate-all-knowers-2 c = sym (long (start (c .before .before)) .knowers)
 
 all-knowers-requires : tie.Need-all-knowers-requires
-all-knowers-requires c κs = let s = start (c .before .before) in let sound = here s .sound in (sound .fluents, (omega (arith, sound .knowledge, long s .known), omega (arith, sound .knowledge, long s .knowers)))
+all-knowers-requires c κs = let s = start (c .before .before) in let sound = s .pre .limits in (sound .fluents, (omega (arith, sound .knowledge, long s .known), omega (arith, sound .knowledge, long s .knowers)))
 
 slice-aggregate-all-owners : tie.Need-slice-aggregate-all-owners
 slice-aggregate-all-owners c = sym (long (start (held (c .before .before .before))) .crews)
 
 all-owners-requires : tie.Need-all-owners-requires
-all-owners-requires c κs = let s = start (held (c .before .before .before)) in let sound = here s .sound in (sound .laws, (sound .fluents, (c .before .before .before .all-knowers .ensures .0, sound .agents)))
+all-owners-requires c κs = let s = start (held (c .before .before .before)) in let sound = s .pre .limits in (sound .laws, (sound .fluents, (c .before .before .before .all-knowers .ensures .0, sound .agents)))
 
 all-runs-requires : tie.Need-all-runs-requires
-all-runs-requires c κs = here (start (held (known (c .before .before)))) .sound .laws
+all-runs-requires c κs = start (held (known (c .before .before))) .pre .limits .laws
 
 run-sheet-requires : tie.Need-run-sheet-requires
 run-sheet-requires c κs =
-    let ran = c .before .before .before .before .before .before .before in let s = begun ran in let sound = here s .sound in let runs = ran .all-runs .ensures in (
+    let ran = c .before .before .before .before .before .before .before in let s = begun ran in let sound = s .pre .limits in let runs = ran .all-runs .ensures in (
       record {
         steps = s .pre .steps;
         whole = s .pre .whole;
@@ -96,20 +92,24 @@ run-sheet-requires c κs =
 
 returns : tie.Need-returns
 returns c =
-    let ran = c .before .before .before .before .before .before .before .before in let s = begun ran in let x = s .args .under .index in let w = here s in let kept = held (known (owned ran)) in
-    let lawful : Lawful (domainHere w) (kept .hold-laws .last .0) (x .counts .laws) = index-lawful w (kept .hold-laws .last .0) (kept .hold-laws .ensures) in
-    let judged = c .run-sheet .ensures .1 (domainHere w) (x .counts .laws) (record {
-      prepared = record {
-        lawful = lawful;
-        owned = owned ran .all-owners .ensures .1 (domainHere w) lawful (index-knowing w (known (owned ran) .all-knowers .result) (known (owned ran) .all-knowers .ensures .1));
-        ordered = ran .all-runs .ensures;
-        ranged = index-ranged w;
-        entries = index-entries w;
-      };
-      entered = index-entered w;
-      agents = index-agents w;
-    }) (index-started w (omega (arith, w .sound .fluents, long s .start))) in
-    (c .run-sheet .ensures .0, λ d f. judged ∙ ap (λ (e : Domain). judge e (rows (x .counts .agents) (s .args .n) (s .args .sheet .now))) (only-one w f))
+    let ran = c .before .before .before .before .before .before .before .before in let s = begun ran in let x = s .args .under .index in let kept = held (known (owned ran)) in (
+      c .run-sheet .ensures .0,
+      λ d f.
+          let w = under-is (s .args .store .now) (s .args .supplement .now) (f .of) in
+          let lawful : Lawful (domainHere w) (kept .hold-laws .last .0) (x .counts .laws) = index-lawful w (kept .hold-laws .last .0) (kept .hold-laws .ensures) in
+          let judged = c .run-sheet .ensures .1 (domainHere w) (x .counts .laws) (record {
+            prepared = record {
+              lawful = lawful;
+              owned = owned ran .all-owners .ensures .1 (domainHere w) lawful (index-knowing w (known (owned ran) .all-knowers .result) (known (owned ran) .all-knowers .ensures .1));
+              ordered = ran .all-runs .ensures;
+              ranged = index-ranged w;
+              entries = index-entries w;
+            };
+            entered = index-entered w;
+            agents = index-agents w;
+          }) (index-started w (omega (arith, s .pre .limits .fluents, long s .start))) in
+          judged ∙ ap (λ (e : Domain). judge e (rows (x .counts .agents) (s .args .n) (s .args .sheet .now))) (only-one w f),
+    )
 
 pub judge-steps-spec : {M : Type 1} → statement M
 judge-steps-spec =

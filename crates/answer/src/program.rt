@@ -7,7 +7,6 @@ use crate::print::put_accepted;
 use crate::print::put_broken;
 use crate::print::put_refused;
 use crate::print::put_states;
-use bmap::Counts;
 use bmap::INPUT;
 use bmap::LEVELS;
 use bmap::Refusal;
@@ -18,23 +17,26 @@ use domain::ReadStore;
 use judge::Judgement;
 use judge::Verdict;
 use sheet::ReadSheet;
+use supplement::Under;
+use supplement::alone;
+use supplement::index_of;
 ghost use mathlib.Core.Path.{_≡_};
 ghost use mathlib.Core.List.{List, [], map};
 ghost use Prim.Native.Nat.{_+_, _≤_};
 ghost use lib.ListN.{length};
-ghost use Rattle.bmap.specs.Limits.{mostFluents, mostInput};
+ghost use Rattle.bmap.specs.Limits.{mostInput};
 ghost use Rattle.bmap.specs.Refusal.{got, read};
 ghost use Rattle.bmap.specs.Line.{linesOf, decode};
 ghost use Rattle.bmap.specs.Domain.{Domain, Names};
-ghost use Rattle.bmap.specs.Accept.{countsOf};
 ghost use Rattle.bmap.specs.Store.{domainIn};
 ghost use Rattle.bmap.specs.Sheet.{stepsFrom, sheetOf};
-ghost use Rattle.bmap.specs.Supplement.{Replacement, replaced, supplementIn};
+ghost use Rattle.bmap.specs.Supplement.{Replacement, replaced};
 ghost use Rattle.bmap.specs.Judge as paper;
 ghost use Rattle.bmap.specs.Program.{lastLine, judgedText, judgedBy, split, sheetMark, output, answeredUnder, lowWater};
 ghost use Rattle.judge.specs.Answer.{verdictOf};
 ghost use Rattle.answer.specs.Put.{Put};
 ghost use Rattle.answer.specs.Room.{lastRoom, outputSize, Few};
+ghost use Rattle.answer.specs.Speaks.{Speaks};
 ghost use Rattle.answer.specs.Cut.{CutTwice};
 ghost use Rattle.answer.specs.Answer.{answered};
 
@@ -57,22 +59,23 @@ fn put_verdict(out: &mut [u8], at: usize, verdict: Verdict) -> usize
     }
 }
 
-// A domain with so many fluents, a supplement of it, and a sheet of its agents' names: the states written, then the verdict.
+// A domain, a supplement of it, what was found of both, and a sheet of its agents' names: the states written, then the verdict.
 fn put_judged<'a>(
     store: &'a [u8],
     supplement: &'a [u8],
-    fluents: usize,
+    under: Under,
     sheet: &[u8],
     out: &mut [u8],
 ) -> usize
-    requires { ⌜ (fluents ≤ mostFluents) × (outputSize ≤ length (now out)) ⌝ }
+    requires { ⌜ Few (under .index .counts) × (outputSize ≤ length (now out)) ⌝ }
     ensures { λ r. ⌜ ((d : Domain) (s : List Replacement) (steps : List Names)
-        → domainIn (now (store .entry)) ≡ got d → supplementIn d (now (supplement .entry)) ≡ got s → fluents ≡ length (d .fluents) → sheetOf (d .agents) (now (sheet .entry)) ≡ got steps
+        → Speaks (now (store .entry)) (now (supplement .entry)) under d s → sheetOf (d .agents) (now (sheet .entry)) ≡ got steps
         → Put (now (out .entry)) 0 (judgedText (paper.judge (replaced s d) steps)) r (now (out .exit))) ⌝ }
     ensures { λ r. ⌜ r ≤ outputSize ⌝ }
 {
+    let fluents = under.index.counts.fluents;
     let mut levels = [0i16; LEVELS];
-    let counted = judge::judge_under_counted(store, supplement, sheet, &mut levels);
+    let counted = judge::judge_found(store, supplement, under, sheet, &mut levels);
     let written = put_states(out, &levels, fluents, counted.states);
     let judgement = counted.judgement;
     match judgement {
@@ -82,27 +85,28 @@ fn put_judged<'a>(
     }
 }
 
-// The sheet's lines after so many of an accepted domain, of which the reading has counted what it has, and its supplement.
+// The sheet's lines after so many of an accepted domain and its supplement, of which nothing is read again.
 fn put_sheet<'a>(
     store: &'a [u8],
     supplement: &'a [u8],
-    counts: Counts,
+    under: Under,
     before: usize,
     text: &[u8],
     out: &mut [u8],
 ) -> usize
-    requires { ⌜ ((before ≤ mostInput) × (length (now text) ≤ mostInput) × (outputSize ≤ length (now out))) × Few counts ⌝ }
-    ensures { λ r. ⌜ ((d : Domain) (s : List Replacement) → domainIn (now (store .entry)) ≡ got d → counts ≡ countsOf d → supplementIn d (now (supplement .entry)) ≡ got s
+    requires { ⌜ ((before ≤ mostInput) × (length (now text) ≤ mostInput) × (outputSize ≤ length (now out))) × Few (under .index .counts) ⌝ }
+    ensures { λ r. ⌜ ((d : Domain) (s : List Replacement) → Speaks (now (store .entry)) (now (supplement .entry)) under d s
         → Put (now (out .entry)) 0 (judgedBy (replaced s d) before (stepsFrom (d .agents) [] (map decode (linesOf (now (text .entry)))))) r (now (out .exit))) ⌝ }
     ensures { λ r. ⌜ r ≤ outputSize ⌝ }
 {
+    let agents = under.index.counts.agents;
     let mut names = [0u8; Sheet::BYTES];
-    let answer = sheet::read(text, counts.agents, &mut names);
+    let answer = sheet::read(text, agents, &mut names);
     match answer {
         ReadSheet::Refused(refusal, line) => put_refused(out, refusal.number(), before + line),
         ReadSheet::Read(steps) => {
-            let used = steps * counts.agents;
-            put_judged(store, supplement, counts.fluents, &names[..used], out)
+            let used = steps * agents;
+            put_judged(store, supplement, under, &names[..used], out)
         }
     }
 }
@@ -120,7 +124,7 @@ pub fn answer(input: &[u8], out: &mut [u8]) -> usize
     let cut = line_starting(input, b'B', b'1');
     let at = cut.at;
     let mut store = [0u8; STORE];
-    let reading = domain::read_counted(&input[..at], &mut store);
+    let reading = domain::read_found(&input[..at], &mut store);
     let answer = reading.answer;
     match answer {
         ReadStore::Refused { refusal, line } => put_refused(out, refusal.number(), line),
@@ -128,7 +132,7 @@ pub fn answer(input: &[u8], out: &mut [u8]) -> usize
         ReadStore::Read(_) => put_sheet(
             &store,
             &input[..0],
-            reading.counts,
+            alone(reading.found),
             cut.lines,
             &input[at..],
             out,
@@ -139,14 +143,13 @@ pub fn answer(input: &[u8], out: &mut [u8]) -> usize
 // What follows the lines of an accepted domain in an input that is cut twice: the supplement's, then the sheet's.
 fn put_under(
     store: &[u8],
-    counts: Counts,
     input: &[u8],
     supplement: Cut,
     sheet: Cut,
     out: &mut [u8],
 ) -> usize
-    requires { ⌜ (CutTwice (now input) supplement sheet × (outputSize ≤ length (now out))) × Few counts ⌝ }
-    ensures { λ r. ⌜ ((d : Domain) → domainIn (now (store .entry)) ≡ got d → counts ≡ countsOf d
+    requires { ⌜ CutTwice (now input) supplement sheet × (outputSize ≤ length (now out)) ⌝ }
+    ensures { λ r. ⌜ ((d : Domain) → domainIn (now (store .entry)) ≡ got d
         → Put (now (out .entry)) 0 (answeredUnder (split sheetMark (linesOf (now (input .entry)))) (read d)) r (now (out .exit))) ⌝ }
     ensures { λ r. ⌜ r ≤ outputSize ⌝ }
 {
@@ -158,7 +161,10 @@ fn put_under(
         ReadStore::Refused { refusal, line } => {
             put_refused(out, refusal.number(), supplement.lines + line)
         }
-        ReadStore::Read(_) => put_sheet(store, &laws, counts, sheet.lines, &input[to..], out),
+        ReadStore::Read(_) => {
+            let under = index_of(store, &laws);
+            put_sheet(store, &laws, under, sheet.lines, &input[to..], out)
+        }
     }
 }
 
@@ -177,10 +183,9 @@ pub fn low_water(input: &[u8], out: &mut [u8]) -> usize
     let supplement = line_starting(&input[..end], b'A', b'F');
     let at = supplement.at;
     let mut store = [0u8; STORE];
-    let reading = domain::read_counted(&input[..at], &mut store);
-    let answer = reading.answer;
+    let answer = domain::read(&input[..at], &mut store);
     match answer {
         ReadStore::Refused { refusal, line } => put_refused(out, refusal.number(), line),
-        ReadStore::Read(_) => put_under(&store, reading.counts, input, supplement, sheet, out),
+        ReadStore::Read(_) => put_under(&store, input, supplement, sheet, out),
     }
 }

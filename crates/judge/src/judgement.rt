@@ -99,6 +99,7 @@ fn judge_by<'a>(
         → (record { answer = answerOf (r .judgement); levels = now (levels .exit) }
         ≡ judgement (now (levels .entry)) (then (sheetOf (under .index .counts .agents) (now (sheet .entry))) (λ steps. got (judge d steps))))
         × (r .states ≡ statesIn (then (sheetOf (under .index .counts .agents) (now (sheet .entry))) (λ steps. got (judge d steps))))) ⌝ }
+    ensures { λ r. ⌜ r .states ≤ mostSteps + 1 ⌝ }
 {
     let counts = under.index.counts;
     let agents = counts.agents;
@@ -180,6 +181,7 @@ pub fn judge_found<'a>(
     ensures { λ r. ⌜ (under ≡ underIn (now (store .entry)) (now (supplement .entry))
         → (record { answer = answerOf (r .judgement); levels = now (levels .exit) } ≡ judgeUnder (now (store .entry)) (now (supplement .entry)) (now (sheet .entry)) (now (levels .entry)))
         × (r .states ≡ statesWrittenUnder (now (store .entry)) (now (supplement .entry)) (now (sheet .entry)) (now (levels .entry)))) ⌝ }
+    ensures { λ r. ⌜ r .states ≤ mostSteps + 1 ⌝ }
 {
     if levels.len() < LEVELS {
         return refused(Refusal::NoRoom);

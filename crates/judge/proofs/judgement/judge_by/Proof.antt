@@ -15,13 +15,13 @@ rem-if1 : tie.Need-rem-if1
 rem-if1 c = let s = c .before .before .before .before in let crew : 1 ≤ s .args .under .index .counts .agents = s .pre .0 .someAgent in search needs
 
 returns : tie.Need-returns
-returns c = let s = c .before .before .before .before .before .before .args in λ d f. rw (c .refused .ensures) (by-uneven d (s .under .index .counts .agents) (s .sheet .now) (s .levels .now) (c .before .if1 .taken))
+returns c = let s = c .before .before .before .before .before .before .args in (λ d f. rw (c .refused .ensures) (by-uneven d (s .under .index .counts .agents) (s .sheet .now) (s .levels .now) (c .before .if1 .taken)), rw (c .refused .ensures) (omega arith))
 
 div-n : tie.Need-div-n
 div-n c = let s = c .before .before .before .before .before in let crew : 1 ≤ s .args .under .index .counts .agents = s .pre .0 .someAgent in search needs
 
 returns-2 : tie.Need-returns-2
-returns-2 c = let s = c .before .before .before .before .before .before .before .args in λ d f. rw (c .refused2 .ensures) (by-long d (s .under .index .counts .agents) (s .sheet .now) (s .levels .now) (c .before .before .if1 .left) (c .before .if2 .taken))
+returns-2 c = let s = c .before .before .before .before .before .before .before .args in (λ d f. rw (c .refused2 .ensures) (by-long d (s .under .index .counts .agents) (s .sheet .now) (s .levels .now) (c .before .before .if1 .left) (c .before .if2 .taken)), rw (c .refused2 .ensures) (omega arith))
 
 judge-steps-requires : tie.Need-judge-steps-requires
 judge-steps-requires c κs = let start = c .before .before .before .before .before .before .before in record {
@@ -43,8 +43,8 @@ same-length c = search needs
 
 returns-3 : tie.Need-returns-3
 returns-3 c = let s = c .before .before .before .before .before .before .before .before .before .before .before .before .args in let ran = c .before .before .before .before .judge-steps in let copy = c .before .copy-states in
-    λ d f. by-steps d (s .under .index .counts .agents) (s .sheet .now) (s .levels .now) (judgedOf (s .under .index .counts .fluents) (ran .result) (ran .last .1 .1 .1 .1 .1 .0)) (copy .last .1 .1 .1 .0) (ran .result .reached) (sym (states-length _ _ _))
-    (c .before .before .before .before .before .before .before .if1 .left) (c .before .before .before .before .before .before .if2 .left) (ran .ensures .1 d f) (copy .ensures)
+    (λ d f. by-steps d (s .under .index .counts .agents) (s .sheet .now) (s .levels .now) (judgedOf (s .under .index .counts .fluents) (ran .result) (ran .last .1 .1 .1 .1 .1 .0)) (copy .last .1 .1 .1 .0) (ran .result .reached) (sym (states-length _ _ _))
+    (c .before .before .before .before .before .before .before .if1 .left) (c .before .before .before .before .before .before .if2 .left) (ran .ensures .1 d f) (copy .ensures), ran .ensures .0 .0)
 
 pub judge-by-spec : {M : Type 1} → statement M
 judge-by-spec =

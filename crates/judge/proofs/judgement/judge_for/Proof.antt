@@ -41,7 +41,7 @@ returns-4 : tie.Need-returns-4
 returns-4 c =
     let s = c .before .before .before .before .before .before .before .before .before .before .before .before .before .args in
     let e = c .before .before .before .before .before .before in
-    let judged = c .before .judge-by .ensures (domainHere (here e)) (in-force (here e) (accepted e)) in
+    let judged = c .before .judge-by .ensures .0 (domainHere (here e)) (in-force (here e) (accepted e)) in
     let called = for-judged (s .agents) (s .store .now) (s .sheet .now) (s .levels .now) (c .before .before .before .before .before .before .before .before .before .before .if1 .left) (here e) (c .before .before .before .before .if3 .left) in
     (judged .0 ∙ called .0, judged .1 ∙ called .1)
 

@@ -12,8 +12,7 @@ use Rattle.bmap.specs.Refusal.{Answer, got, refused, then, numberOf, Reading, r
 use Rattle.bmap.specs.declared.refusal.Refusal.{Refusal}
 use Rattle.bmap.specs.Line.{Line, Frame, linesOf, decode}
 use Rattle.bmap.specs.Domain.{Domain}
-use Rattle.bmap.specs.Accept.{countsOf, taken}
-use Rattle.bmap.specs.declared.limits.Counts.{Counts}
+use Rattle.bmap.specs.Accept.{taken}
 use Rattle.bmap.specs.Buffer.{Filling, filled}
 use Rattle.bmap.specs.Store.{domainIn, framesOf, storedOf, reading, readDomain}
 use Rattle.bmap.specs.Sheet.{stepsFrom}
@@ -23,12 +22,15 @@ use Rattle.domain.specs.Read as domains
 use Rattle.domain.specs.declared.reader.ReadStore.{ReadStore}
 use Rattle.domain.specs.declared.reader.ReadStore.the-variants as given
 use Rattle.domain.proofs.RoundTrip as stores
+use Rattle.supplement.specs.Under.{underIn}
+use Rattle.supplement.specs.declared.under.Under.{Under}
 use Rattle.supplement.proofs.Theorems.{supplement-stands}
 use Rattle.judge.proofs.StateLaws.{part-take}
 use Rattle.answer.specs.declared.cut.Cut.{Cut}
 use Rattle.answer.specs.Put.{Put}
 use Rattle.answer.specs.Cut.{CutTwice}
-use Rattle.answer.proofs.ProgramLaws.{lines-most, lines-small, refused-reading, domain-refused, counts-of, rest-lines}
+use Rattle.answer.specs.Speaks.{Speaks}
+use Rattle.answer.proofs.ProgramLaws.{lines-most, lines-small, refused-reading, domain-refused, rest-lines}
 
 -- ---- the supplement's text
 
@@ -133,16 +135,16 @@ module _ {input : List ℕ} {supplement sheet : Cut} (cut : CutTwice input suppl
         (ap (λ (n : ℕ). refusedText n (supplement .lines + line)) k ∙ ap (λ (n : ℕ). refusedText (numberOf r) (n + line)) before-supplement ∙ sym (prints (supplement-refused store text buffer answer told size d domain r e)))
         x
 
-    pub under-read : {counts : Counts} {out new : List ℕ} {q : ℕ} (n : ℕ) → counts ≡ countsOf d → answer ≡ given.Read n
-        → ((d : Domain) (s : List Replacement) → domainIn store ≡ got d → counts ≡ countsOf d → supplementIn d after ≡ got s
+    pub under-read : {u : Under} {out new : List ℕ} {q : ℕ} (n : ℕ) → u ≡ underIn store after → answer ≡ given.Read n
+        → ((d : Domain) (s : List Replacement) → Speaks store after u d s
         → Put out 0 (judgedBy (replaced s d) (sheet .lines) (stepsFrom (d .agents) [] (map decode (linesOf (take (length input - sheet .at) (drop (sheet .at) input)))))) q new)
         → Put out 0 (answeredUnder parts (read d)) q new
-    under-read {out = out} {new = new} {q = q} n are e judges =
+    under-read {out = out} {new = new} {q = q} n found e judges =
         let k = supplement-read store text buffer answer told size d domain n e in
         subst (λ (t : List ℕ). Put out 0 t q new)
         (ap (λ (ls : List Line). judgedBy (replaced (k .replacements) d) (sheet .lines) (stepsFrom (d .agents) [] (map decode ls))) (rest-lines (cut .outer))
         ∙ ap (λ (m : ℕ). judgedBy (replaced (k .replacements) d) m (stepsFrom (d .agents) [] (map decode (parts .from)))) (cut .outer .count) ∙ sym (prints (k .goes)))
-        (judges d (k .replacements) domain are (k .accepted))
+        (judges d (k .replacements) (record { domain = domain; accepted = k .accepted; found = found }))
 
   -- ---- the whole input
 
@@ -155,11 +157,11 @@ module _ {input : List ℕ} {supplement sheet : Cut} (cut : CutTwice input suppl
     pub low-water-refused : {line : ℕ} (r : Refusal) → length store ≡ storeSize → answer ≡ given.Refused r line → lowWater input ≡ refusedText (numberOf r) line
     low-water-refused r size e = low-water-is ∙ ap (answeredUnder parts) (domain-refused (take (supplement .at) input) store size answer (told .0) r e)
 
-    pub low-water-read : {counts : Counts} {out new : List ℕ} {q : ℕ} (n : ℕ) → length store ≡ storeSize → counts ≡ domains.countsRead (take (supplement .at) input) store → answer ≡ given.Read n
-        → ((d : Domain) → domainIn after ≡ got d → counts ≡ countsOf d → Put out 0 (answeredUnder parts (read d)) q new) → Put out 0 (lowWater input) q new
-    low-water-read {out = out} {new = new} {q = q} n size counted e prints =
+    pub low-water-read : {out new : List ℕ} {q : ℕ} (n : ℕ) → answer ≡ given.Read n
+        → ((d : Domain) → domainIn after ≡ got d → Put out 0 (answeredUnder parts (read d)) q new) → Put out 0 (lowWater input) q new
+    low-water-read {out = out} {new = new} {q = q} n e prints =
         let k = stores.kept (take (supplement .at) input) store n (sym (told .0) ∙ ap domains.readingOf e) in
-        subst (λ (t : List ℕ). Put out 0 t q new) (sym (low-water-is ∙ ap (answeredUnder parts) (k .reads))) (prints (k .domain) (ap domainIn (told .1) ∙ k .holds) (counts-of (take (supplement .at) input) store size counted k))
+        subst (λ (t : List ℕ). Put out 0 t q new) (sym (low-water-is ∙ ap (answeredUnder parts) (k .reads))) (prints (k .domain) (ap domainIn (told .1) ∙ k .holds))
 
 pub long-low-water : (input : List ℕ) → mostInput < length input → lowWater input ≡ refusedText 18 0
 unfolding lowWater

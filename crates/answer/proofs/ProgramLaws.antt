@@ -12,7 +12,7 @@ use lib.Seq.{sets-eq, take-all}
 use borrow.Author.Tests.{le-leb, lt-leb}
 use Rattle.bmap.specs.Plain.{if-else, flat, text}
 use Rattle.bmap.specs.Limits.{mostAgents, levelsSize, storeSize, sheetSize, mostInput}
-use Rattle.bmap.specs.Refusal.{got, numberOf, Reading, read, refusedAt, afterwards}
+use Rattle.bmap.specs.Refusal.{Answer, got, refused, numberOf, Reading, read, refusedAt, afterwards}
 use Rattle.bmap.specs.declared.refusal.Refusal.{Refusal}
 use Rattle.bmap.specs.declared.limits.Counts.{Counts}
 use Rattle.bmap.specs.Line.{Line, linesOf, decode, lineFeed, before}
@@ -29,9 +29,10 @@ use Rattle.bmap.specs.Program.{decimal, lineOf, stateLines, lastLine, judgedTex
 use Rattle.domain.specs.Read as domains
 use Rattle.domain.specs.Found.{indexWith, foundIn}
 use Rattle.domain.specs.declared.found.Found.{Found}
+use Rattle.domain.specs.declared.reader.ReadFound.{ReadFound}
 use Rattle.domain.specs.declared.reader.ReadStore.{ReadStore}
 use Rattle.domain.specs.declared.reader.ReadStore.the-variants as given
-use Rattle.domain.proofs.Accepted.{found-got, found-ok}
+use Rattle.domain.proofs.Accepted.{found-got, found-not, found-ok}
 use Rattle.domain.proofs.RoundTrip as stores
 use Rattle.sheet.specs.Answer as sheets
 use Rattle.sheet.specs.Step.{agentsAllowed, outcome}
@@ -44,10 +45,14 @@ use Rattle.judge.specs.declared.verdict.Verdict.{Verdict}
 use Rattle.judge.specs.declared.verdict.Verdict.the-variants.{Accepted, Broken}
 use Rattle.judge.specs.declared.verdict.Judgement.{Judgement}
 use Rattle.judge.specs.declared.verdict.Judgement.the-variants as said
+use Rattle.supplement.specs.Under.{underIn, underAlone}
+use Rattle.supplement.specs.declared.under.Under.{Under}
+use Rattle.supplement.proofs.UnderLaws.{under-counts, alone-is}
 use Rattle.supplement.proofs.Theorems.{empty-changes-nothing}
 use Rattle.answer.specs.Put.{Put}
 use Rattle.answer.specs.Cut.{CutIn}
 use Rattle.answer.specs.Room.{outputSize, Few}
+use Rattle.answer.specs.Speaks.{Speaks}
 use Rattle.answer.specs.Answer.{Answered, answered}
 use Rattle.answer.proofs.PutLaws.{put-then}
 use Rattle.answer.proofs.StatesLaws.{judge-reached}
@@ -130,6 +135,21 @@ few-counts store d domain {counts} e =
     let are : foundIn store .index .counts ≡ counts = ap (λ (f : Found). f .index .counts) (found-got store d domain) ∙ sym e in
     subst (λ (n : Counts). (1 ≤ n .agents) × Few n) are (k .someAgent, record { agents = k .agents; fluents = k .fluents })
 
+-- and so do those of whatever was found
+pub few-found : (store supplement : List ℕ) {u : Under} → u ≡ underIn store supplement → Few (u .index .counts)
+unfolding indexWith
+few-found store supplement e = subst Few (sym (ap (λ (u : Under). u .index .counts) e ∙ under-counts store supplement)) (go (domainIn store) refl)
+  where
+    go : (a : Answer Domain) → domainIn store ≡ a → Few (foundIn store .index .counts)
+    go (got d) e = few-counts store d e (ap (λ (f : Found). f .index .counts) (found-got store d e)) .1
+    go (refused n) e = rw (found-not store n e) (record { agents = omega arith; fluents = omega arith })
+
+-- what was found speaks of the domain
+pub counts-speak : {store supplement : List ℕ} {u : Under} {d : Domain} {s : List Replacement} → Speaks store supplement u d s → u .index .counts ≡ countsOf d
+unfolding indexWith
+counts-speak {store} {d = d} k =
+    ap (λ (u : Under). u .index .counts) (k .found) ∙ under-counts store _ ∙ ap (λ (f : Found). f .index .counts) (found-got store d (k .domain))
+
 module _ (store : List ℕ) (counts : Counts) (few : Few counts) where
   module _ (d : Domain) (domain : domainIn store ≡ got d) (are : counts ≡ countsOf d) where
     agents-are : counts .agents ≡ d .agents
@@ -159,18 +179,16 @@ module _ (store : List ℕ) (counts : Counts) (few : Few counts) where
           let goes : outcome (d .agents) s ≡ refusedAt (numberOf r) line = subst (λ (a : ℕ). outcome a s ≡ refusedAt (numberOf r) line) (agents-are d domain are) (turned-at r line e .goes (agents-fit d domain are)) in
           subst (λ (o : Reading (List Names)). Put out 0 (judgedBy (replaced l d) lines o) q new) (sym goes) (subst (λ (m : ℕ). Put out 0 (refusedText m (lines + line)) q new) k x)
 
-      pub sheet-judged : (n : ℕ) (supplement : List ℕ) → supplementIn d supplement ≡ got l → answer ≡ Read n
-          → ((d : Domain) (l : List Replacement) (steps : List Names) → domainIn store ≡ got d → supplementIn d supplement ≡ got l → counts .fluents ≡ length (d .fluents) → sheetOf (d .agents) (take (n * counts .agents) after) ≡ got steps
-          → Put out 0 (judgedText (judge (replaced l d) steps)) q new)
+      pub sheet-judged : (n : ℕ) → answer ≡ Read n
+          → ((steps : List Names) → sheetOf (d .agents) (take (n * counts .agents) after) ≡ got steps → Put out 0 (judgedText (judge (replaced l d) steps)) q new)
           → Put out 0 (judgedBy (replaced l d) lines (stepsFrom (d .agents) [] (map decode (linesOf s)))) q new
-      sheet-judged n supplement accepted e judges =
+      sheet-judged n e judges =
           let k = kept-at n e in
           let goes : outcome (d .agents) s ≡ read (k .steps) = subst (λ (a : ℕ). outcome a s ≡ read (k .steps)) (agents-are d domain are) (k .goes) in
           let names-are : sheetOf (d .agents) (take (n * counts .agents) after) ≡ got (k .steps) =
           ap (λ (x : List ℕ). sheetOf (d .agents) (take (n * counts .agents) x)) (told .1)
           ∙ subst (λ (a : ℕ). sheetOf a (take (n * counts .agents) (readSheet (counts .agents) s names .buffer)) ≡ got (k .steps)) (agents-are d domain are) (k .sheet) in
-          subst (λ (o : Reading (List Names)). Put out 0 (judgedBy (replaced l d) lines o) q new) (sym goes)
-          (judges d l (k .steps) domain accepted (ap (λ (c : Counts). c .fluents) are) names-are)
+          subst (λ (o : Reading (List Names)). Put out 0 (judgedBy (replaced l d) lines o) q new) (sym goes) (judges (k .steps) names-are)
 
 -- ---- a part of an input
 
@@ -198,16 +216,10 @@ pub domain-refused : (s store : List ℕ) → length store ≡ storeSize → (an
 unfolding readDomain
 domain-refused s store size answer told r e = refused-reading storeSize store (omega (arith, size)) _ (reading s) (sym told ∙ ap domains.readingOf e)
 
--- the counts that a reading hands out are those of the domain that was read
-module _ (s store : List ℕ) (size : length store ≡ storeSize) {counts : Counts} (counted : counts ≡ domains.countsRead s store) where
-  pub counts-of : (k : stores.Kept s store) → counts ≡ countsOf (k .domain)
-  unfolding domains.countsRead
-  counts-of k = counted ∙ rw (le-leb storeSize (length store) (omega (arith, size))) (ap domains.countsIn (k .reads))
-
-  pub few-read : (answer : ReadStore) → domains.readingOf answer ≡ readDomain s store .answer → {n : ℕ} → answer ≡ given.Read n → Few counts
-  few-read answer told {n} e =
-      let k = stores.kept s store n (sym told ∙ ap domains.readingOf e) in
-      few-counts (readDomain s store .buffer) (k .domain) (k .holds) (counts-of k) .1
+-- what a reading has found is what is found in the store that it leaves, with nothing over it
+pub found-alone : {s store after : List ℕ} (r : ReadFound) → domains.FoundRead s store r after → {n : ℕ} → r .answer ≡ given.Read n → underAlone (r .found) ≡ underIn after []
+found-alone {s} {store} {after} r told e =
+    ap underAlone (told .found ∙ ap (λ a. domains.foundAfter a (readDomain s store .buffer)) (sym (told .answer) ∙ ap domains.readingOf e) ∙ ap foundIn (sym (told .buffer))) ∙ alone-is after
 
 -- ---- an input
 
@@ -244,11 +256,11 @@ module _ (input : List ℕ) {at lines : ℕ} (short : length input ≤ mostInput
     pub output-refused : {line : ℕ} (r : Refusal) → length store ≡ storeSize → answer ≡ given.Refused r line → output input ≡ refusedText (numberOf r) line
     output-refused r size e = output-is ∙ ap (answeredBy parts) (domain-refused (take at input) store size answer (told .0) r e)
 
-    pub output-read : {counts : Counts} {out new : List ℕ} {q : ℕ} (n : ℕ) → length store ≡ storeSize → counts ≡ domains.countsRead (take at input) store → answer ≡ given.Read n
-        → ((d : Domain) (s : List Replacement) → domainIn after ≡ got d → counts ≡ countsOf d → supplementIn d (take 0 input) ≡ got s
+    pub output-read : {u : Under} {out new : List ℕ} {q : ℕ} (n : ℕ) → u ≡ underIn after [] → answer ≡ given.Read n
+        → ((d : Domain) (s : List Replacement) → Speaks after (take 0 input) u d s
         → Put out 0 (judgedBy (replaced s d) lines (stepsFrom (d .agents) [] (map decode (linesOf (take (length input - at) (drop at input)))))) q new)
         → Put out 0 (output input) q new
-    output-read {out = out} {new = new} {q = q} n size counted e judges =
+    output-read {out = out} {new = new} {q = q} n found e judges =
         let k = stores.kept (take at input) store n (sym (told .0) ∙ ap domains.readingOf e) in
         let d = k .domain in
         let is : output input ≡ judgedBy (replaced [] d) lines (stepsFrom (d .agents) [] (map decode (linesOf (take (length input - at) (drop at input))))) =
@@ -256,7 +268,8 @@ module _ (input : List ℕ) {at lines : ℕ} (short : length input ≤ mostInput
         ∙ ap (λ (m : ℕ). judgedBy d m (stepsFrom (d .agents) [] (map decode (parts .from)))) (sym (cut .count))
         ∙ ap (λ (ls : List Line). judgedBy d lines (stepsFrom (d .agents) [] (map decode ls))) (sym (rest-lines cut))
         ∙ ap (λ (x : Domain). judgedBy x lines (stepsFrom (d .agents) [] (map decode (linesOf (take (length input - at) (drop at input)))))) (sym (empty-changes-nothing .laws d)) in
-        subst (λ (t : List ℕ). Put out 0 t q new) (sym is) (judges d [] (ap domainIn (told .1) ∙ k .holds) (counts-of (take at input) store size counted k) (empty-changes-nothing .accepted d 0))
+        subst (λ (t : List ℕ). Put out 0 t q new) (sym is)
+        (judges d [] (record { domain = ap domainIn (told .1) ∙ k .holds; accepted = empty-changes-nothing .accepted d 0; found = found }))
 
 -- ---- for callers: what is counted stands in the buffer
 

@@ -167,3 +167,12 @@ alone-is store = go (domainIn store) refl
         ∙ ap (λ (o : List ℕ). record { ok = true; index = foundIn store .index; over = o }) (over-first .places)
         ∙ sym (ap (underOf (foundIn store .index)) (zeros-accepted d 0))
     go (refused n) e = ap (λ (b : Bool). record { ok = b; index = foundIn store .index; over = replicate 128 0 }) (ap (λ (f : Found). f .ok) (found-not store n e))
+
+-- the counts are the domain's, whatever the supplement is
+pub under-counts : (store supplement : List ℕ) → underIn store supplement .index .counts ≡ foundIn store .index .counts
+unfolding underIn
+under-counts store supplement = go (then (domainIn store) (λ d. supplementIn d supplement))
+  where
+    go : (a : Answer (List Replacement)) → underOf (foundIn store .index) a .index .counts ≡ foundIn store .index .counts
+    go (got s) = refl
+    go (refused n) = refl

@@ -1,7 +1,10 @@
-use mathlib.Core.Path.{refl, sym}
+use mathlib.Core.Path.{_≡_, refl, sym, _∙_}
+use mathlib.Core.List.{List, []}
+use Prim.Native.Nat.{ℕ}
 use native.Mathlib.Omega.{arith}
 use lib.Seq.{length-take-le}
-use Rattle.answer.proofs.ProgramLaws.{no-room, long-output, answered-refusal, answered-by, output-refused, output-read, lines-small, rest-small, few-read}
+use Rattle.answer.proofs.ProgramLaws.{no-room, long-output, answered-refusal, answered-by, output-refused, output-read, lines-small, rest-small, few-found, found-alone}
+use Rattle.supplement.specs.Under.{underIn}
 use borrow.Author.Needs.{needs}
 use Rattle.answer.proofs.program.answer.Statement.{statement}
 use Rattle.answer.proofs.program.answer.Tie as tie
@@ -32,14 +35,14 @@ returns-2 c = let p = c .before .before in
 line-starting-requires : tie.Need-line-starting-requires
 line-starting-requires c κs = search needs
 
-slice-aggregate-read-counted : tie.Need-slice-aggregate-read-counted
-slice-aggregate-read-counted c = sym (length-take-le _ _ (c .before .line-starting .ensures .within))
+slice-aggregate-read-found : tie.Need-slice-aggregate-read-found
+slice-aggregate-read-found c = sym (length-take-le _ _ (c .before .line-starting .ensures .within))
 
-slice-aggregate-read-counted-2 : tie.Need-slice-aggregate-read-counted-2
-slice-aggregate-read-counted-2 c = search needs
+slice-aggregate-read-found-2 : tie.Need-slice-aggregate-read-found-2
+slice-aggregate-read-found-2 c = search needs
 
-read-counted-requires : tie.Need-read-counted-requires
-read-counted-requires c κs = search needs
+read-found-requires : tie.Need-read-found-requires
+read-found-requires c κs = search needs
 
 enum-known-answer : tie.Need-enum-known-answer
 enum-known-answer c = search needs
@@ -59,6 +62,9 @@ slice-aggregate-put-sheet c = search needs
 slice-aggregate-put-sheet-2 : tie.Need-slice-aggregate-put-sheet-2
 slice-aggregate-put-sheet-2 c = search needs
 
+alone-requires : tie.Need-alone-requires
+alone-requires c κs = search needs
+
 sub-put-sheet : tie.Need-sub-put-sheet
 sub-put-sheet c = search needs
 
@@ -68,24 +74,30 @@ part-put-sheet-start c = search needs
 part-put-sheet-end : tie.Need-part-put-sheet-end
 part-put-sheet-end c = search needs
 
+-- what was found of the domain that was read
+abbrev store : tie.After-alone → List ℕ
+store c = c .before .before .before .before .before .before .read-found .last .1 .0
+
+found : (c : tie.After-alone) → c .alone .result ≡ underIn (store c) []
+found c = let r = c .before .before .before .before .before .before .read-found in c .alone .ensures ∙ found-alone (r .result) (r .ensures) (c .before .before .before .enum-told .given .1)
+
 put-sheet-requires : tie.Need-put-sheet-requires
-put-sheet-requires c κs = let l = c .before .before .before .before .before .before .before .before .before .before in
-    let r = c .before .before .before .before .before .before .before .read-counted in
-    ((omega (arith, lines-small (l .line-starting .ensures), short l .if2 .left), rest-small (c .before .before .before .before .before .before .before .before .before .before .before .before .before .before .before .args .input .now) (l .line-starting .result .at) (short l .if2 .left), room l .if1 .left), few-read _ _ refl (r .ensures .1) (r .result .answer) (r .ensures .0 .0) (c .before .before .before .before .enum-told .given .1))
+put-sheet-requires c κs = let l = c .before .before .before .before .before .before .before .before .before .before .before in
+    ((omega (arith, lines-small (l .line-starting .ensures), short l .if2 .left), rest-small (c .before .before .before .before .before .before .before .before .before .before .before .before .before .before .before .before .args .input .now) (l .line-starting .result .at) (short l .if2 .left), room l .if1 .left), few-found _ _ (found (c .before .before)))
 
 same-length-2 : tie.Need-same-length-2
 same-length-2 c = search needs
 
 returns-3 : tie.Need-returns-3
 returns-3 c = let l = c .before .before .before .before .before .before .before .before .before .before .before .before in let p = c .before .before in
-    answered-refusal (room l .if1 .left) (omega (arith, p .put-refused2 .ensures .1)) _ (output-refused _ (short l .if2 .left) (l .line-starting .ensures) _ _ (c .before .before .before .before .before .before .before .before .before .read-counted .ensures .0) _ refl (c .before .before .before .before .before .before .answer .given .1)) (c .before .before .before .number2 .ensures) (p .put-refused2 .ensures .0)
+    answered-refusal (room l .if1 .left) (omega (arith, p .put-refused2 .ensures .1)) _ (output-refused _ (short l .if2 .left) (l .line-starting .ensures) _ _ (let r = c .before .before .before .before .before .before .before .before .before .read-found .ensures in (r .answer, r .buffer)) _ refl (c .before .before .before .before .before .before .answer .given .1)) (c .before .before .before .number2 .ensures) (p .put-refused2 .ensures .0)
 
 same-length-3 : tie.Need-same-length-3
 same-length-3 c = search needs
 
 returns-4 : tie.Need-returns-4
-returns-4 c = let l = c .before .before .before .before .before .before .before .before .before .before .before .before .before in let p = c .before .before in
-    answered-by (room l .if1 .left) (p .put-sheet .ensures .1) refl (output-read _ (short l .if2 .left) (l .line-starting .ensures) _ _ (c .before .before .before .before .before .before .before .before .before .before .read-counted .ensures .0) _ refl (c .before .before .before .before .before .before .before .before .before .before .read-counted .ensures .1) (c .before .before .before .before .before .before .before .enum-told .given .1) (p .put-sheet .ensures .0))
+returns-4 c = let l = c .before .before .before .before .before .before .before .before .before .before .before .before .before .before in let p = c .before .before in
+    answered-by (room l .if1 .left) (p .put-sheet .ensures .1) refl (output-read _ (short l .if2 .left) (l .line-starting .ensures) _ _ (let r = c .before .before .before .before .before .before .before .before .before .before .before .read-found .ensures in (r .answer, r .buffer)) _ (found (c .before .before .before .before .before)) (c .before .before .before .before .before .before .before .before .enum-told .given .1) (p .put-sheet .ensures .0))
 
 pub answer-spec : {M : Type 1} → statement M
 answer-spec =
@@ -97,15 +109,16 @@ answer-spec =
     same-length
     returns-2
     line-starting-requires
-    slice-aggregate-read-counted
-    slice-aggregate-read-counted-2
-    read-counted-requires
+    slice-aggregate-read-found
+    slice-aggregate-read-found-2
+    read-found-requires
     enum-known-answer
     number-requires-2
     put-refused-requires-2
     enum-told
     slice-aggregate-put-sheet
     slice-aggregate-put-sheet-2
+    alone-requires
     sub-put-sheet
     part-put-sheet-start
     part-put-sheet-end

@@ -3,7 +3,7 @@ use native.Mathlib.Omega.{arith}
 use lib.Seq.{length-take-le}
 use borrow.Author.Needs.{needs}
 use Rattle.answer.specs.Cut.{CutTwice}
-use Rattle.answer.proofs.ProgramLaws.{no-room, answered-refusal, answered-by, few-read}
+use Rattle.answer.proofs.ProgramLaws.{no-room, answered-refusal, answered-by}
 use Rattle.answer.proofs.LowWaterLaws.{long-low-water, in-order, low-water-refused, low-water-read}
 use Rattle.answer.proofs.program.low_water.Statement.{statement}
 use Rattle.answer.proofs.program.low_water.Tie as tie
@@ -40,15 +40,15 @@ slice-aggregate-line-starting c = sym (length-take-le _ _ (omega (arith, c .befo
 line-starting-requires-2 : tie.Need-line-starting-requires-2
 line-starting-requires-2 c κs = search needs
 
-slice-aggregate-read-counted : tie.Need-slice-aggregate-read-counted
-slice-aggregate-read-counted c = let l = c .before in
+slice-aggregate-read : tie.Need-slice-aggregate-read
+slice-aggregate-read c = let l = c .before in
     sym (length-take-le _ _ (omega (arith, in-order (cut l), cut l .outer .within)))
 
-slice-aggregate-read-counted-2 : tie.Need-slice-aggregate-read-counted-2
-slice-aggregate-read-counted-2 c = search needs
+slice-aggregate-read-2 : tie.Need-slice-aggregate-read-2
+slice-aggregate-read-2 c = search needs
 
-read-counted-requires : tie.Need-read-counted-requires
-read-counted-requires c κs = search needs
+read-requires : tie.Need-read-requires
+read-requires c κs = search needs
 
 enum-known-answer : tie.Need-enum-known-answer
 enum-known-answer c = search needs
@@ -67,22 +67,21 @@ slice-aggregate-put-under c = search needs
 
 put-under-requires : tie.Need-put-under-requires
 put-under-requires c κs = let l = c .before .before .before .before .before .before .before .before in
-    let r = c .before .before .before .before .before .read-counted in
-    ((cut l, room l .if1 .left), few-read _ _ refl (r .ensures .1) (r .result .answer) (r .ensures .0 .0) (c .before .before .enum-told .given .1))
+    (cut l, room l .if1 .left)
 
 same-length-2 : tie.Need-same-length-2
 same-length-2 c = search needs
 
 returns-3 : tie.Need-returns-3
 returns-3 c = let l = c .before .before .before .before .before .before .before .before .before .before .before .before in let p = c .before .before in
-    answered-refusal (room l .if1 .left) (omega (arith, p .put-refused2 .ensures .1)) _ (low-water-refused (cut l) _ _ (c .before .before .before .before .before .before .before .before .before .read-counted .ensures .0) _ refl (c .before .before .before .before .before .before .answer .given .1)) (c .before .before .before .number2 .ensures) (p .put-refused2 .ensures .0)
+    answered-refusal (room l .if1 .left) (omega (arith, p .put-refused2 .ensures .1)) _ (low-water-refused (cut l) _ _ (c .before .before .before .before .before .before .before .before .before .read .ensures) _ refl (c .before .before .before .before .before .before .answer .given .1)) (c .before .before .before .number2 .ensures) (p .put-refused2 .ensures .0)
 
 same-length-3 : tie.Need-same-length-3
 same-length-3 c = search needs
 
 returns-4 : tie.Need-returns-4
 returns-4 c = let l = c .before .before .before .before .before .before .before .before .before .before .before in let p = c .before .before in
-    answered-by (room l .if1 .left) (p .put-under .ensures .1) refl (low-water-read (cut l) _ _ (c .before .before .before .before .before .before .before .before .read-counted .ensures .0) _ refl (c .before .before .before .before .before .before .before .before .read-counted .ensures .1) (c .before .before .before .before .before .enum-told .given .1) (p .put-under .ensures .0))
+    answered-by (room l .if1 .left) (p .put-under .ensures .1) refl (low-water-read (cut l) _ _ (c .before .before .before .before .before .before .before .before .read .ensures) _ (c .before .before .before .before .before .enum-told .given .1) (p .put-under .ensures .0))
 
 pub low-water-spec : {M : Type 1} → statement M
 low-water-spec =
@@ -96,9 +95,9 @@ low-water-spec =
     line-starting-requires
     slice-aggregate-line-starting
     line-starting-requires-2
-    slice-aggregate-read-counted
-    slice-aggregate-read-counted-2
-    read-counted-requires
+    slice-aggregate-read
+    slice-aggregate-read-2
+    read-requires
     enum-known-answer
     number-requires-2
     put-refused-requires-2

@@ -1,31 +1,31 @@
 use Prim.Native.Nat.{_*_, _≤_}
-use mathlib.Core.Path.{refl, sym, subst}
+use mathlib.Core.Path.{refl, ap, subst}
 use native.Mathlib.Omega.{arith}
 use Rattle.answer.proofs.PutLaws.{put-length}
-use Rattle.answer.proofs.StatesLaws.{states-few}
-use Rattle.answer.proofs.ProgramLaws.{product-most, judged-text, refused-not}
+use Rattle.bmap.specs.declared.limits.Counts.{Counts}
+use Rattle.answer.proofs.ProgramLaws.{product-most, counts-speak, judged-text, refused-not}
 use borrow.Author.Needs.{needs}
 use Rattle.answer.proofs.program.put_judged.Statement.{statement}
 use Rattle.answer.proofs.program.put_judged.Tie as tie
 
-abbrev start : tie.After-judge-under-counted → tie.Start
+abbrev start : tie.After-judge-found → tie.Start
 start c = c .before .before .before .before .before .before
 
-few : (c : tie.After-judge-under-counted) → c .judge-under-counted .result .states ≤ 65
-few c = subst (λ m. m ≤ 65) (sym (c .judge-under-counted .ensures .1)) (states-few _ _ _ _)
+few : (c : tie.After-judge-found) → c .judge-found .result .states ≤ 65
+few c = c .judge-found .ensures .1
 
-slice-aggregate-judge-under-counted : tie.Need-slice-aggregate-judge-under-counted
-slice-aggregate-judge-under-counted c = search needs
+slice-aggregate-judge-found : tie.Need-slice-aggregate-judge-found
+slice-aggregate-judge-found c = search needs
 
-judge-under-counted-requires : tie.Need-judge-under-counted-requires
-judge-under-counted-requires c κs = search needs
+judge-found-requires : tie.Need-judge-found-requires
+judge-found-requires c κs = search needs
 
 slice-aggregate-put-states : tie.Need-slice-aggregate-put-states
 slice-aggregate-put-states c = search needs
 
 put-states-requires : tie.Need-put-states-requires
 put-states-requires c κs = let j = c .before .before .before in
-    (start j .pre .0, few j, subst (λ m. j .judge-under-counted .result .states * start j .args .fluents ≤ m) (slice-aggregate-put-states c) (product-most _ _ (few j) (start j .pre .0) refl), omega (arith, few j, start j .pre .1))
+    (start j .pre .0 .fluents, few j, subst (λ m. j .judge-found .result .states * start j .args .under .index .counts .fluents ≤ m) (slice-aggregate-put-states c) (product-most _ _ (few j) (start j .pre .0 .fluents) refl), omega (arith, few j, start j .pre .1))
 
 enum-known-judgement : tie.Need-enum-known-judgement
 enum-known-judgement c = search needs
@@ -42,21 +42,21 @@ same-length c = search needs
 
 returns : tie.Need-returns
 returns c = let j = c .before .before .before .before .before .before .before .before .before .before .before .before .before in let p = c .before .before .before .before .before .before .before .before .before in let v = c .before .before in
-    (λ d s steps domain accepted fluents sheet. judged-text _ _ _ _ _ (j .judge-under-counted .ensures) refl d s steps domain accepted fluents sheet _ (c .before .before .before .before .before .judgement .given .1) (p .put-states .ensures .0) (v .put-verdict .ensures .0), omega (arith, few j, p .put-states .ensures .1, v .put-verdict .ensures .1))
+    (λ d s steps k sheet. judged-text _ _ _ _ _ (j .judge-found .ensures .0 (k .found)) refl d s steps (k .domain) (k .accepted) (ap (λ (n : Counts). n .fluents) (counts-speak k)) sheet _ (c .before .before .before .before .before .judgement .given .1) (p .put-states .ensures .0) (v .put-verdict .ensures .0), omega (arith, few j, p .put-states .ensures .1, v .put-verdict .ensures .1))
 
 same-length-2 : tie.Need-same-length-2
 same-length-2 c = search needs
 
 returns-2 : tie.Need-returns-2
 returns-2 c = let j = c .before .before .before .before .before .before .before .before in
-    (λ d s steps domain accepted fluents sheet. absurd (refused-not _ _ _ _ _ (j .judge-under-counted .ensures) refl d s steps domain accepted sheet _ (c .enum-told .given .1)), omega (arith, few j, c .before .before .before .before .put-states .ensures .1))
+    (λ d s steps k sheet. absurd (refused-not _ _ _ _ _ (j .judge-found .ensures .0 (k .found)) refl d s steps (k .domain) (k .accepted) sheet _ (c .enum-told .given .1)), omega (arith, few j, c .before .before .before .before .put-states .ensures .1))
 
 pub put-judged-spec : {M : Type 1} → statement M
 put-judged-spec =
     tie.close
     (tie.spec
-    slice-aggregate-judge-under-counted
-    judge-under-counted-requires
+    slice-aggregate-judge-found
+    judge-found-requires
     slice-aggregate-put-states
     put-states-requires
     enum-known-judgement

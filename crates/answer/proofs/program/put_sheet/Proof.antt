@@ -1,7 +1,7 @@
 use mathlib.Core.Path.{refl, sym}
 use native.Mathlib.Omega.{arith}
 use lib.Seq.{length-take-le}
-use Rattle.answer.proofs.ProgramLaws.{line-small, used-most, sheet-refused, sheet-judged}
+use Rattle.answer.proofs.ProgramLaws.{counts-speak, line-small, used-most, sheet-refused, sheet-judged}
 use borrow.Author.Needs.{needs}
 use Rattle.answer.proofs.program.put_sheet.Statement.{statement}
 use Rattle.answer.proofs.program.put_sheet.Tie as tie
@@ -32,33 +32,33 @@ enum-known-answer-2 : tie.Need-enum-known-answer-2
 enum-known-answer-2 c = search needs
 
 mul-used : tie.Need-mul-used
-mul-used c = let r = c .before .before .before .before .before in
-    omega (arith, used-most (start r .args .store .now) _ (start r .pre .1) _ _ _ (r .read .ensures) refl _ (c .before .before .answer2 .given .1))
+mul-used c = let r = c .before .before .before .before in
+    omega (arith, used-most (start r .args .store .now) _ (start r .pre .1) _ _ _ (r .read .ensures) refl _ (c .before .answer2 .given .1))
 
 array-share-prefix-names : tie.Need-array-share-prefix-names
-array-share-prefix-names c = let r = c .before .before .before .before .before in
-    omega (arith, used-most (start r .args .store .now) _ (start r .pre .1) _ _ _ (r .read .ensures) refl _ (c .before .before .answer2 .given .1))
+array-share-prefix-names c = let r = c .before .before .before .before in
+    omega (arith, used-most (start r .args .store .now) _ (start r .pre .1) _ _ _ (r .read .ensures) refl _ (c .before .answer2 .given .1))
 
 slice-aggregate-put-judged : tie.Need-slice-aggregate-put-judged
 slice-aggregate-put-judged c = sym (length-take-le _ _ (array-share-prefix-names (c .before)))
 
 put-judged-requires : tie.Need-put-judged-requires
-put-judged-requires c κs = let r = c .before .before .before .before .before .before .before in
-    (start r .pre .1 .fluents, start r .pre .0 .2)
+put-judged-requires c κs = let r = c .before .before .before .before .before .before in
+    (start r .pre .1, start r .pre .0 .2)
 
 same-length : tie.Need-same-length
 same-length c = search needs
 
 returns : tie.Need-returns
 returns c = let r = c .before .before .before .before .before .before .before .before .before in let p = c .before .before in
-    (λ d s domain are accepted. sheet-refused (start r .args .store .now) _ (start r .pre .1) _ _ _ (r .read .ensures) refl _ d s domain are _ (c .before .before .before .before .before .before .answer .given .1) (c .before .before .before .number .ensures) (p .put-refused .ensures .0), omega (arith, p .put-refused .ensures .1))
+    (λ d s k. sheet-refused (start r .args .store .now) _ (start r .pre .1) _ _ _ (r .read .ensures) refl _ d s (k .domain) (counts-speak k) _ (c .before .before .before .before .before .before .answer .given .1) (c .before .before .before .number .ensures) (p .put-refused .ensures .0), omega (arith, p .put-refused .ensures .1))
 
 same-length-2 : tie.Need-same-length-2
 same-length-2 c = search needs
 
 returns-2 : tie.Need-returns-2
-returns-2 c = let r = c .before .before .before .before .before .before .before .before .before .before in let p = c .before .before in
-    (λ d s domain are accepted. sheet-judged (start r .args .store .now) _ (start r .pre .1) _ _ _ (r .read .ensures) refl _ d s domain are _ _ accepted (c .before .before .before .before .before .before .before .answer2 .given .1) (p .put-judged .ensures .0), p .put-judged .ensures .1)
+returns-2 c = let r = c .before .before .before .before .before .before .before .before .before in let p = c .before .before in
+    (λ d s k. sheet-judged (start r .args .store .now) _ (start r .pre .1) _ _ _ (r .read .ensures) refl _ d s (k .domain) (counts-speak k) _ (c .before .before .before .before .before .before .answer2 .given .1) (λ steps. p .put-judged .ensures .0 d s steps k), p .put-judged .ensures .1)
 
 pub put-sheet-spec : {M : Type 1} → statement M
 put-sheet-spec =

@@ -1,24 +1,14 @@
 -- The states that a judgement writes: each has a level for each fluent, and there is at most one more than steps. Assumes nothing.
-use Prim.Native.Nat.{ℕ, suc, _+_, _/_, _%_, _≤_}
-use mathlib.Core.Path.{_≡_, refl, sym, ap, _∙_}
-use mathlib.Core.Bool.{Bool, true, false}
+use Prim.Native.Nat.{ℕ, suc, _+_, _≤_}
+use mathlib.Core.Path.{_≡_, _∙_}
 use mathlib.Core.List.{List, [], _∷_, _++_}
 use native.Mathlib.Omega.{arith}
-use lib.Dec.{eqb, leb}
-use lib.IntN.{ℤ, pos}
+use lib.IntN.{pos}
 use lib.ListN.{length, getD, length-append, length-map}
-use borrow.Author.Tests.{leb-true}
 use Rattle.bmap.specs.Plain.{numbers}
-use Rattle.bmap.specs.Limits.{mostSteps, levelsSize}
-use Rattle.bmap.specs.Refusal.{Answer, got, refused, need, then}
 use Rattle.bmap.specs.Domain.{Domain, Fluent, Names, State, static, concurrency, goal}
-use Rattle.bmap.specs.Store.{domainIn}
-use Rattle.bmap.specs.Sheet.{rows, sheetOf}
 use Rattle.bmap.specs.Judge.{Checked, fine, fault, Pass, next, each, placed, mayOccur, allHold, settled, Setting, levelAfter, stateAfter, inRange, history, step, Verdict, accepted, broken, Judged, judgedAt, passed, carried, startOf, ran, goalsAfter, judge, landed}
-use Rattle.bmap.specs.Supplement.{Replacement, replaced, supplementIn}
-use Rattle.line.proofs.Answers.{need-got}
-use Rattle.sheet.proofs.RoundTrip.{Rows, none, more, length-rows}
-use Rattle.judge.specs.Answer.{statesIn, statesWrittenUnder}
+use Rattle.sheet.proofs.RoundTrip.{Rows, none, more}
 use Rattle.bmap.proofs.NumbersLaws.{numbers-length}
 
 -- ---- one step
@@ -98,41 +88,3 @@ module _ (d : Domain) where
       go : (states : List State) (v : Verdict) → Rows (length (d .fluents)) states → length states ≤ suc (length sheet) → Reached (suc (length sheet)) (goalsAfter d sheet states v)
       go states accepted r h = goals states (allHold goal 8 d (history d sheet states) (length sheet)) r h
       go states (broken kind k n) r h = record { whole = r; few = h }
-
--- ---- the number of states written
-
-steps-few : (agents : ℕ) (sheet : List ℕ) (steps : List Names) → sheetOf agents sheet ≡ got steps → length steps ≤ mostSteps
-unfolding sheetOf
-steps-few agents sheet steps e =
-    let n : ℕ = length sheet / agents in
-    let a = need-got (eqb (length sheet % agents) 0) 8 (need (leb n mostSteps) 9 (got (rows agents n sheet))) steps e in
-    let b = need-got (leb n mostSteps) 9 (got (rows agents n sheet)) steps (a .1) in
-    let same : rows agents n sheet ≡ steps = cc (b .1) in
-    omega (arith, leb-true n mostSteps (b .0), ap length (sym same) ∙ length-rows agents n sheet)
-
-module _ (supplement sheet : List ℕ) where
-  abbrev judged-under : Domain → Answer Judged
-  judged-under d = then (supplementIn d supplement) (λ s. then (sheetOf (d .agents) sheet) (λ steps. got (judge (replaced s d) steps)))
-
-  under-few : (d : Domain) → statesIn (judged-under d) ≤ suc mostSteps
-  under-few d = by (supplementIn d supplement)
-    where
-      stepped : (e : Domain) (a : Answer (List Names)) → sheetOf (d .agents) sheet ≡ a → statesIn (then a (λ steps. got (judge e steps))) ≤ suc mostSteps
-      stepped e (got steps) q = omega (arith, judge-reached e steps .few, steps-few (d .agents) sheet steps q)
-      stepped e (refused n) q = omega arith
-
-      by : (a : Answer (List Replacement)) → statesIn (then a (λ s. then (sheetOf (d .agents) sheet) (λ steps. got (judge (replaced s d) steps)))) ≤ suc mostSteps
-      by (got s) = stepped (replaced s d) (sheetOf (d .agents) sheet) refl
-      by (refused n) = omega arith
-
-  pub states-few : (store : List ℕ) (levels : List ℤ) → statesWrittenUnder store supplement sheet levels ≤ suc mostSteps
-  unfolding statesWrittenUnder
-  states-few store levels = room (leb levelsSize (length levels))
-    where
-      by : (a : Answer Domain) → statesIn (then a judged-under) ≤ suc mostSteps
-      by (got d) = under-few d
-      by (refused n) = omega arith
-
-      room : (b : Bool) → statesIn (need b 10 (then (domainIn store) judged-under)) ≤ suc mostSteps
-      room true = by (domainIn store)
-      room false = omega arith

@@ -3,11 +3,12 @@ use Prim.Native.Nat.{ℕ, suc, _+_, _≤_, _<_}
 use native.Mathlib.Numerals.{add-one}
 use native.Mathlib.Omega.{arith}
 use mathlib.Core.Path.{_≡_, refl, sym, ap, subst, _∙_}
+use mathlib.Core.Bool.{true}
 use mathlib.Core.List.{List, [], _∷_, _++_}
 use mathlib.Core.Option.{none, some}
 use lib.ListN.{length, set, take, drop, replicate}
 use borrow.Author.Tests.{le-leb, lt-leb}
-use Rattle.bmap.specs.Refusal.{got, refused, read, refusedAt, atLine, afterwards}
+use Rattle.bmap.specs.Refusal.{got, refused, read, refusedAt, numberOf, atLine, afterwards}
 use Rattle.bmap.specs.Line.{Frame}
 use Rattle.bmap.specs.Domain.{Domain}
 use Rattle.bmap.specs.Buffer.{padded}
@@ -24,7 +25,9 @@ use Rattle.domain.proofs.Rows.{length-snoc}
 use Rattle.domain.proofs.Held.{cut}
 use Rattle.domain.proofs.Stands.{refusal-is}
 use Rattle.domain.proofs.IntoStore.{lent, renewed, Sizes, Decoded, none-left, all-used, all-stand, bad-line, line-sizes, frames-on, frame-size, bytes-on, Fills, fill-ends, fill-stops}
-use Rattle.supplement.specs.Read.{usedUnder}
+use Rattle.index.specs.declared.Index.{Index}
+use Rattle.supplement.specs.Read.{usedUnder, underReading, RefusedAt, LinesUnder}
+use Rattle.supplement.specs.declared.reader.ReadUnder.{ReadUnder}
 use Rattle.supplement.proofs.OverLaws.{Over, over-first, over-most}
 use Rattle.supplement.proofs.Passes.{Passes, passes, over-passed}
 
@@ -52,22 +55,21 @@ module _ {d : Domain} {text buffer rest over : List ℕ} {used lines : ℕ} (h :
   so-read = record { room = omega (arith, reads-used, h .enough); bytes = h .bytes }
 
   -- no line is left
-  pub reads-done : none ≡ lineRead rest (lent buffer used) → (p : List ℕ) → (read used ≡ usedUnder d text) × (take used (renewed buffer used p) ≡ bytesIn text)
+  pub reads-done : none ≡ lineRead rest (lent buffer used) → (p : List ℕ) (x : Index) → LinesUnder d x text (record { answer = Read used; under = record { ok = true; index = x; over = over } }) (renewed buffer used p)
   unfolding usedUnder supplementFrom
-  reads-done e p = (
-    sym (ap (λ r. afterwards r (λ s. read (length (bytesIn text)))) (h .run ∙ ap (supplementFrom d (h .so-far)) (none-left so-read e)) ∙ ap read (all-used so-read e)),
-    all-stand so-read e p,
-  )
+  reads-done e p x =
+      let all : supplementFrom d [] (framesOf text) ≡ read (h .so-far) = h .run ∙ ap (supplementFrom d (h .so-far)) (none-left so-read e) in
+      record {
+        used = sym (ap (λ r. afterwards r (λ s. read (length (bytesIn text)))) all ∙ ap read (all-used so-read e));
+        front = all-stand so-read e p;
+        under = ap (λ (o : List ℕ). record { ok = true; index = x; over = o }) (h .stand .places) ∙ sym (ap (underReading x) all);
+      }
 
   -- a line that is refused
-  at-next : (m : ℕ) → supplementFrom d [] (framesOf text) ≡ refusedAt m (suc (length (h .so-far))) → (refusedAt m (lines + 1) ≡ usedUnder d text) × Unit {0}
-  unfolding usedUnder
-  at-next m e = (
-    ap (refusedAt m) (add-one lines ∙ ap suc (h .each)) ∙ sym (ap (λ r. afterwards r (λ s. read (length (bytesIn text)))) e),
-    tt,
-  )
+  at-next : (m : ℕ) → supplementFrom d [] (framesOf text) ≡ refusedAt m (suc (length (h .so-far))) → supplementFrom d [] (framesOf text) ≡ refusedAt m (lines + 1)
+  at-next m e = e ∙ ap (refusedAt m) (sym (add-one lines ∙ ap suc (h .each)))
 
-  pub reads-bad : (m : ℕ) → some (refused m) ≡ lineRead rest (lent buffer used) → (refusedAt m (lines + 1) ≡ usedUnder d text) × Unit {0}
+  pub reads-bad : (m : ℕ) → some (refused m) ≡ lineRead rest (lent buffer used) → supplementFrom d [] (framesOf text) ≡ refusedAt m (lines + 1)
   unfolding supplementFrom
   reads-bad m e = at-next m (h .run ∙ ap (supplementFrom d (h .so-far)) (bad-line so-read m e .1))
 
@@ -84,7 +86,7 @@ module _ {d : Domain} {text buffer rest over : List ℕ} {used lines : ℕ} (h :
     unfolding supplementFrom
     run-on = h .run ∙ ap (supplementFrom d (h .so-far)) (frames-on so-read size k p e b)
 
-    pub reads-refused : (m : ℕ) → some m ≡ refusedIn (replacementIn d (h .so-far) frame) → (refusedAt m (lines + 1) ≡ usedUnder d text) × Unit {0}
+    pub reads-refused : (m : ℕ) → some m ≡ refusedIn (replacementIn d (h .so-far) frame) → supplementFrom d [] (framesOf text) ≡ refusedAt m (lines + 1)
     reads-refused m q =
         at-next m
         (run-on
@@ -112,6 +114,15 @@ module _ {d : Domain} {text buffer rest over : List ℕ} {used lines : ℕ} (h :
             ∙ ap (λ l. supplementFrom d (h .so-far ++ (pass .replacement ∷ [])) (framesOf l)) (sym (part-to-end rest k));
         bytes = bytes-on so-read size k p e b;
       }
+
+-- a refusal, as the code makes it
+pub refusing : (d : Domain) (x : Index) (text after : List ℕ) (why : Refusal) (line : ℕ) (r : ReadUnder) → RefusedAt x why line r → supplementFrom d [] (framesOf text) ≡ refusedAt (numberOf why) line → LinesUnder d x text r after
+unfolding usedUnder
+refusing d x text after why line r is e = record {
+  used = ap readingOf (is .answer) ∙ sym (ap (λ r. afterwards r (λ s. read (length (bytesIn text)))) e);
+  front = subst (λ (a : ReadStore). Front (bytesIn text) (readingOf a) after) (sym (is .answer)) tt;
+  under = is .under (numberOf why) ∙ sym (ap (underReading x) e);
+}
 
 -- ---- the reader around them
 

@@ -1,22 +1,25 @@
 -- There and back: the store that the reader leaves is the supplement that it read, and the lines of its frames are the text. Assumes nothing.
 use Prim.Native.Nat.{ℕ, suc, _≤_}
 use native.Mathlib.Omega.{arith}
-use mathlib.Core.Path.{_≡_, sym, ap, _∙_}
+use mathlib.Core.Path.{_≡_, refl, sym, ap, _∙_}
 use mathlib.Core.List.{List, [], _∷_, _++_}
 use lib.Dec.{eqb}
 use lib.ListN.{length}
 use borrow.Author.Tests.{eqb-true}
 use Rattle.bmap.specs.Limits.{supplementSize}
-use Rattle.bmap.specs.Refusal.{Answer, got, known, then, Reading, read}
+use Rattle.bmap.specs.Refusal.{Answer, got, known, then, Reading, read, refusedAt, afterwards}
 use Rattle.bmap.specs.Line.{Frame}
 use Rattle.bmap.specs.Domain.{Domain}
-use Rattle.bmap.specs.Buffer.{padded}
+use Rattle.bmap.specs.Buffer.{padded, Filled, fill}
 use Rattle.bmap.specs.Store.{framesOf, whatWasRead, domainIn, textOf}
 use Rattle.bmap.specs.Supplement.{Replacement, replacementIn, supplementFrom, readSupplement, supplementIn}
 use Rattle.line.proofs.Answers.{need-got, then-got-inv, at-line-read}
 use Rattle.domain.specs.Read.{bytesIn}
 use Rattle.domain.proofs.IntoStore.{fill-left}
 use Rattle.domain.proofs.RoundTrip.{First, TextFrames, text-frames, text-again, frames-again}
+use Rattle.domain.specs.Found.{foundIn}
+use Rattle.supplement.specs.Under.{underOf, underIn}
+use Rattle.supplement.specs.Read.{underAfter, underReading}
 use Rattle.supplement.proofs.ReaderLaws.{read-in-room}
 
 -- the kind of every frame of a supplement is AF
@@ -50,3 +53,25 @@ module _ (store text buffer : List ℕ) (d : Domain) (s : List Replacement) (g :
 
   pub left-lines : textOf (readSupplement store text buffer .buffer) ≡ text
   left-lines = ap textOf left ∙ text-again text frames (length buffer)
+
+-- what was found on the way is what is found in the two stores
+module _ (store text buffer : List ℕ) (d : Domain) (g : domainIn store ≡ got d) (h : supplementSize ≤ length buffer) where
+  abbrev left-buffer : List ℕ
+  left-buffer = readSupplement store text buffer .buffer
+
+  answers : {r : Reading (List Replacement)} → supplementFrom d [] (framesOf text) ≡ r
+      → readSupplement store text buffer .answer ≡ fill (length buffer) (afterwards r (λ s. read (record { count = length (bytesIn text); bytes = bytesIn text }))) .answer
+  answers e =
+      ap (λ (f : Filled). f .answer) (read-in-room store text buffer h d g)
+      ∙ ap (λ (q : Reading (List Replacement)). fill (length buffer) (afterwards q (λ s. read (record { count = length (bytesIn text); bytes = bytesIn text }))) .answer) e
+
+  pub under-after : underReading (foundIn store .index) (supplementFrom d [] (framesOf text)) ≡ underAfter (readSupplement store text buffer .answer) store left-buffer
+  unfolding underIn
+  under-after = go (supplementFrom d [] (framesOf text)) refl
+    where
+      go : (r : Reading (List Replacement)) → supplementFrom d [] (framesOf text) ≡ r → underReading (foundIn store .index) r ≡ underAfter (readSupplement store text buffer .answer) store left-buffer
+      go (read s) e =
+          sym (ap (λ (a : Reading ℕ). underAfter a store left-buffer) (answers e)
+          ∙ ap (λ (a : Answer Domain). underOf (foundIn store .index) (then a (λ d. supplementIn d left-buffer))) g
+          ∙ ap (underOf (foundIn store .index)) (left-supplement store text buffer d s g e h))
+      go (refusedAt m line) e = sym (ap (λ (a : Reading ℕ). underAfter a store left-buffer) (answers e))

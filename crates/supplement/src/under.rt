@@ -47,7 +47,7 @@ pub fn alone(found: Found) -> Under
     }
 }
 
-fn refused(index: Index) -> Under
+pub(crate) fn refused(index: Index) -> Under
     ensures { λ r. ⌜ ((n : ℕ) → r ≡ underOf index (refused n)) ⌝ }
 {
     Under {

@@ -1,5 +1,5 @@
 -- `supplement::reader::read_lines` meets its contract: after each line the code holds where the replacements so far stand. Assumes nothing.
-use Rattle.supplement.proofs.ReaderLaws.{Reads, reads-first, reads-used, reads-lines, reads-done, reads-bad, reads-sizes, reads-refused, reads-number, reads-next}
+use Rattle.supplement.proofs.ReaderLaws.{Reads, reads-first, reads-used, reads-lines, reads-done, reads-bad, reads-sizes, reads-refused, reads-number, reads-next, refusing}
 use Rattle.supplement.proofs.CheckLaws.{laws-stand}
 use Rattle.supplement.specs.Check.{LawsStand}
 use Rattle.domain.proofs.IntoStore.{lent, renewed, Sizes}
@@ -25,11 +25,11 @@ use Rattle.supplement.proofs.reader.read_lines.Tie as tie
 
 -- of any domain whose laws stand there
 abbrev Inv-loop : tie.InvT-loop
-Inv-loop store text buffer₀ counts laws over₀ rest₀ used₀ line₀ buffer over rest used line =
+Inv-loop store index text buffer₀ counts laws over₀ rest₀ used₀ line₀ buffer over rest used line =
     (length buffer ≡ length buffer₀) × ((d : Domain) → LawsStand d store counts laws → Reads d text buffer rest over used line)
 
 abbrev μ-loop : tie.MeasureT-loop
-μ-loop store text buffer₀ counts laws over₀ rest₀ used₀ line₀ buffer over rest used line = length rest
+μ-loop store index text buffer₀ counts laws over₀ rest₀ used₀ line₀ buffer over rest used line = length rest
 
 abbrev start : tie.At-loop Inv-loop μ-loop → tie.Start Inv-loop μ-loop
 start l = l .before .before .before .before .before .before
@@ -130,19 +130,19 @@ same-length c = again (c .before .before .before .before)
 returns : tie.Need-returns Inv-loop μ-loop
 returns c =
     let r = c .before .before .before .before in
-    reads-done (read-so (loop-of r)) (sym (ap said (c .enum-told .given .1)) ∙ r .read-line .ensures .0) (r .read-line .last .1 .0)
+    reads-done (read-so (loop-of r)) (sym (ap said (c .enum-told .given .1)) ∙ r .read-line .ensures .0) (r .read-line .last .1 .0) _
 
 enum-known-refusal : tie.Need-enum-known-refusal Inv-loop μ-loop
 enum-known-refusal c = search needs
 
-add-t24 : tie.Need-add-t24 Inv-loop μ-loop
-add-t24 c = omega (arith, reads-lines (read-so (c .before .before .before .before .before .before .before)))
+add-refused-at : tie.Need-add-refused-at Inv-loop μ-loop
+add-refused-at c = omega (arith, reads-lines (read-so (c .before .before .before .before .before .before .before)))
 
 same-length-2 : tie.Need-same-length-2 Inv-loop μ-loop
-same-length-2 c = again (c .before .before .before .before .before)
+same-length-2 c = again (c .before .before .before .before .before .before)
 
 returns-2 : tie.Need-returns-2 Inv-loop μ-loop
-returns-2 c = let r = c .before .before .before .before .before in reads-bad (read-so (loop-of r)) _ (sym (ap said (c .before .refusal .given .1)) ∙ r .read-line .ensures .0)
+returns-2 c = let r = c .before .before .before .before .before .before in refusing _ _ _ _ _ _ _ (c .refused-at .ensures) (reads-bad (read-so (loop-of r)) _ (sym (ap said (c .before .before .refusal .given .1)) ∙ r .read-line .ensures .0))
 
 enum-known-bytes : tie.Need-enum-known-bytes Inv-loop μ-loop
 enum-known-bytes c = search needs
@@ -178,15 +178,15 @@ enum-known-refusal-2 : tie.Need-enum-known-refusal-2 Inv-loop μ-loop
 enum-known-refusal-2 c = search needs
 
 same-length-3 : tie.Need-same-length-3 Inv-loop μ-loop
-same-length-3 c = again (c .before .before .before .before .before .before .before .before .before .before .before .before .before .before)
+same-length-3 c = again (c .before .before .before .before .before .before .before .before .before .before .before .before .before .before .before)
 
 returns-3 : tie.Need-returns-3 Inv-loop μ-loop
 returns-3 c =
-    let k = c .before .before .before in
+    let k = c .before .before .before .before in
     let z = k .before .before .before .before .before .before .before in
     let l = head z in
-    reads-refused (read-so l) (z .bytes .given .0 .0) (z .bytes .given .0 .1 .0) (answered z .read-line .last .1 .0) (line-is z) (answered z .read-line .ensures .1) _
-    (sym (ap refusalOf (c .before .refusal2 .given .1)) ∙ k .check-replacement .ensures (domain l) (read-so l .so-far) (stands l) (read-so l .stand .places))
+    refusing _ _ _ _ _ _ _ (c .refused-at2 .ensures) (reads-refused (read-so l) (z .bytes .given .0 .0) (z .bytes .given .0 .1 .0) (answered z .read-line .last .1 .0) (line-is z) (answered z .read-line .ensures .1) _
+    (sym (ap refusalOf (c .before .before .refusal2 .given .1)) ∙ k .check-replacement .ensures (domain l) (read-so l .so-far) (stands l) (read-so l .stand .places)))
 
 enum-told-2 : tie.Need-enum-told-2 Inv-loop μ-loop
 enum-told-2 c = search needs
@@ -243,7 +243,8 @@ read-lines-spec =
     same-length
     returns
     enum-known-refusal
-    add-t24
+    add-refused-at
+    (λ c κs. search needs)
     same-length-2
     returns-2
     enum-known-bytes
@@ -257,6 +258,7 @@ read-lines-spec =
     part-p-end
     check-replacement-requires
     enum-known-refusal-2
+    (λ c κs. search needs)
     same-length-3
     returns-3
     enum-told-2

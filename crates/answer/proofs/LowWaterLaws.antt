@@ -22,7 +22,9 @@ use Rattle.domain.specs.Read as domains
 use Rattle.domain.specs.declared.reader.ReadStore.{ReadStore}
 use Rattle.domain.specs.declared.reader.ReadStore.the-variants as given
 use Rattle.domain.proofs.RoundTrip as stores
+use Rattle.supplement.specs.Read as supplements
 use Rattle.supplement.specs.Under.{underIn}
+use Rattle.supplement.specs.declared.reader.ReadUnder.{ReadUnder}
 use Rattle.supplement.specs.declared.under.Under.{Under}
 use Rattle.supplement.proofs.Theorems.{supplement-stands}
 use Rattle.judge.proofs.StateLaws.{part-take}
@@ -87,6 +89,11 @@ module _ (store text buffer : List ℕ) {after : List ℕ} (answer : ReadStore)
           let at-0 : refusedAt m 0 ≡ refusedAt (numberOf r) line = refused-reading {A = List Replacement} supplementSize buffer (omega (arith, size)) filling (refusedAt m 0) (sym (answers q) ∙ ap domains.readingOf e) in
           let same : 0 ≡ line = cc in
           omega arith
+
+-- what a reading has found is what is found in the two stores
+pub found-under : {store text buffer after : List ℕ} (r : ReadUnder) → supplements.UnderRead store text buffer r after → {n : ℕ} → r .answer ≡ given.Read n → r .under ≡ underIn store after
+found-under {store} {text} {buffer} r told e =
+    told .under ∙ ap (λ (a : Reading ℕ). supplements.underAfter a store (readSupplement store text buffer .buffer)) (sym (told .answer) ∙ ap domains.readingOf e) ∙ ap (underIn store) (sym (told .buffer))
 
 -- ---- an input cut twice
 

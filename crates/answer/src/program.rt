@@ -19,7 +19,6 @@ use judge::Verdict;
 use sheet::ReadSheet;
 use supplement::Under;
 use supplement::alone;
-use supplement::index_of;
 ghost use mathlib.Core.Path.{_≡_};
 ghost use mathlib.Core.List.{List, [], map};
 ghost use Prim.Native.Nat.{_+_, _≤_};
@@ -156,15 +155,20 @@ fn put_under(
     let from = supplement.at;
     let to = sheet.at;
     let mut laws = [0u8; SUPPLEMENT];
-    let answer = supplement::read(store, &input[from..to], &mut laws);
+    let reading = supplement::read_under(store, &input[from..to], &mut laws);
+    let answer = reading.answer;
     match answer {
         ReadStore::Refused { refusal, line } => {
             put_refused(out, refusal.number(), supplement.lines + line)
         }
-        ReadStore::Read(_) => {
-            let under = index_of(store, &laws);
-            put_sheet(store, &laws, under, sheet.lines, &input[to..], out)
-        }
+        ReadStore::Read(_) => put_sheet(
+            store,
+            &laws,
+            reading.under,
+            sheet.lines,
+            &input[to..],
+            out,
+        ),
     }
 }
 

@@ -1,11 +1,13 @@
 //! Each refusal's order, the edges of the limits, and what buffers hold after.
 
+use waroth_reference::generate::codes;
 use waroth_reference::generate::draft::{frame, mask_frame, text_of, Draft};
 use waroth_reference::generate::faults::LINE_FAULTS;
 use waroth_reference::generate::random::Random;
 use waroth_reference::generate::texts::ORDER_FAULTS;
 use waroth_reference::judge::{judge, LEVELS};
 use waroth_reference::store::{frame_at, STORE_BYTES};
+use waroth_reference::supplement::{read_supplement, SUPPLEMENT_BYTES};
 use waroth_reference::{accepted, read_domain, read_sheet, write_domain, write_sheet, FrameReader};
 
 fn domain(text: &[u8]) -> Result<usize, (u8, usize)> {
@@ -63,6 +65,25 @@ fn one_step(text: &[u8], agents: usize) -> Result<Vec<u8>, u8> {
     match bytes.len() == 2 + agents {
         true => Ok(bytes[2..].to_vec()),
         false => Err(2),
+    }
+}
+
+#[test]
+fn every_part_of_a_law_has_its_number_in_every_spot() {
+    let mut r = Random::seeded(8);
+    for (label, number, part) in codes::parts() {
+        for (spot_label, spot) in part.spots() {
+            for _ in 0..4 {
+                let lines = part.in_domain(&mut r, spot);
+                let met = domain(&text_of(&lines)).map_or_else(|(met, _)| met, |_| 0);
+                assert_eq!(met, number, "{label}, {spot_label}");
+                let (draft, lines) = part.in_supplement(&mut r, spot);
+                let mut buffer = vec![0xEE; SUPPLEMENT_BYTES];
+                let read = read_supplement(&draft.store(), &text_of(&lines), &mut buffer);
+                let met = read.map_or_else(|(met, _)| met, |_| 0);
+                assert_eq!(met, number, "supplement: {label}, {spot_label}");
+            }
+        }
     }
 }
 

@@ -3,6 +3,7 @@
 
 use super::calls::CALLS;
 use super::case::{Call, Case, SupplementCall};
+use super::codes::{self, Part};
 use super::draft::{sheet_text, text_of, Draft};
 use super::faults::{Lines, LINE_FAULTS};
 use super::laying::{self, LAYING, WRONG};
@@ -232,6 +233,11 @@ fn refused_or_fine(number: u8) -> Expect {
     }
 }
 
+/// The same of a store, where every fault is one refusal.
+fn stored_or_fine(number: u8) -> Expect {
+    refused_or_fine(if number == 0 { 0 } else { STORE })
+}
+
 #[derive(Default)]
 struct Aims(Vec<Aim>);
 
@@ -245,13 +251,17 @@ impl Aims {
         });
     }
 
-    /// A domain text, read by the reader and by the program.
-    fn domain_text(
-        &mut self,
-        label: &str,
-        number: u8,
-        text: impl Fn(&mut Random) -> Vec<u8> + Copy + 'static,
-    ) {
+    /// A domain text, read by the reader and by the programs.
+    fn domain_text(&mut self, label: &str, number: u8, text: impl MakesText) {
+        self.read_domain(label, number, text);
+        // For the programs a B1 line ends the domain.
+        if label != "B1 in a domain" {
+            self.program(label, number, text);
+            self.low_water_over(label, number, text);
+        }
+    }
+
+    fn read_domain(&mut self, label: &str, number: u8, text: impl MakesText) {
         let expect = refused_or_fine(number);
         self.add(format!("read_domain: {label}"), expect, move |r| {
             Case::ReadDomain {
@@ -259,25 +269,40 @@ impl Aims {
                 store: enough(r, STORE_BYTES),
             }
         });
-        // For the programs a B1 line ends the domain.
-        if label != "B1 in a domain" {
-            self.add(format!("program: {label}"), expect, move |r| {
-                let input = text(r);
-                printing(r, input)
-            });
-            self.add(format!("low_water: {label}"), expect, move |r| {
-                let mut input = text(r);
-                // A spoilt line that starts so would end the domain.
-                while input.split(|&c| c == b'\n').any(|l| l.starts_with(b"AF")) {
-                    input = text(r);
-                }
-                // The domain's refusals go before the supplement's and the sheet's.
-                if number != 0 && input.ends_with(b"\n") {
-                    input.extend(b"AF00\nB100\n");
-                }
-                printing_by(Program::LowWater, r, input)
-            });
-        }
+    }
+
+    fn program(&mut self, label: &str, number: u8, text: impl MakesText) {
+        let expect = refused_or_fine(number);
+        self.add(format!("program: {label}"), expect, move |r| {
+            let input = text(r);
+            printing(r, input)
+        });
+    }
+
+    fn low_water_over(&mut self, label: &str, number: u8, text: impl MakesText) {
+        let expect = refused_or_fine(number);
+        self.add(format!("low_water: {label}"), expect, move |r| {
+            let mut input = text(r);
+            // A spoilt line that starts so would end the domain.
+            while input.split(|&c| c == b'\n').any(|l| l.starts_with(b"AF")) {
+                input = text(r);
+            }
+            // The domain's refusals go before the supplement's and the sheet's.
+            if number != 0 && input.ends_with(b"\n") {
+                input.extend(b"AF00\nB100\n");
+            }
+            printing_by(Program::LowWater, r, input)
+        });
+    }
+
+    /// The bytes of a domain's lines, before some call that reads the store.
+    fn store(&mut self, label: &str, number: u8, lines: impl Fn(&mut Random) -> Lines + 'static) {
+        let expect = stored_or_fine(number);
+        self.add(format!("store: {label}"), expect, move |r| {
+            let bytes = lines(r).concat();
+            let store = stored(r, bytes);
+            over_store(r, store)
+        });
     }
 
     /// A sheet text for so many agents, read by the reader and, after a
@@ -315,18 +340,31 @@ impl Aims {
     /// A supplement for a domain: its text before the reader, its bytes before
     /// the calls that take them.
     fn supplement(&mut self, label: &str, number: u8, make: impl MakesSupplement) {
+        self.read_supplement(label, number, make);
+        self.over_supplement(label, number, make);
+        self.lay(label, number, make);
+    }
+
+    fn read_supplement(&mut self, label: &str, number: u8, make: impl MakesSupplement) {
         let expect = refused_or_fine(number);
         self.add(format!("read_supplement: {label}"), expect, move |r| {
             let (draft, lines) = make(r);
             reading(r, &draft, text_of(&lines))
         });
-        let expect = refused_or_fine(if number == 0 { 0 } else { STORE });
+    }
+
+    fn over_supplement(&mut self, label: &str, number: u8, make: impl MakesSupplement) {
+        let expect = stored_or_fine(number);
         self.add(format!("supplement: {label}"), expect, move |r| {
             let (draft, lines) = make(r);
             let store = stored(r, draft.bytes());
             let supplement = stored_supplement(r, lines.concat());
             over_both(r, store, supplement)
         });
+    }
+
+    fn lay(&mut self, label: &str, number: u8, make: impl MakesSupplement) {
+        let expect = stored_or_fine(number);
         self.add(format!("lay: {label}"), expect, move |r| {
             let (draft, lines) = make(r);
             let store = stored(r, draft.bytes());
@@ -351,6 +389,38 @@ impl Aims {
             let input = [draft.text(), text_of(&lines), sheet].concat();
             printing_by(Program::LowWater, r, input)
         });
+    }
+
+    /// A part of a law, in a domain and in a supplement: before the reader, and
+    /// before one of the other calls. These, and spots for the two, are taken in
+    /// turn.
+    fn part(&mut self, turn: usize, label: &str, number: u8, part: Part) {
+        let spots = part.spots();
+        let in_spot = |at: usize| {
+            let (name, spot) = spots[at % spots.len()];
+            (format!("{label}, {name}"), spot)
+        };
+        // Every sixth turn has the same operands, and should not have the same call.
+        let other = 1 + (turn + turn / 6) % 3;
+        for (call, at) in [(0, 2 * turn), (other, 2 * turn + 1)] {
+            let (label, spot) = in_spot(at);
+            let lines = move |r: &mut Random| part.in_domain(r, spot);
+            let text = move |r: &mut Random| text_of(&lines(r));
+            match call {
+                0 => self.read_domain(&label, number, text),
+                1 => self.program(&label, number, text),
+                2 => self.low_water_over(&label, number, text),
+                _ => self.store(&label, number, lines),
+            }
+            let (label, spot) = in_spot(at + 2);
+            let make = move |r: &mut Random| part.in_supplement(r, spot);
+            match call {
+                0 => self.read_supplement(&label, number, make),
+                1 => self.over_supplement(&label, number, make),
+                2 => self.lay(&label, number, make),
+                _ => self.low_water(&label, number, make),
+            }
+        }
     }
 
     /// A trial, before the judge, as a session and as a program's input; and
@@ -421,6 +491,11 @@ impl Aims {
     }
 }
 
+/// Makes a domain's text.
+trait MakesText: Fn(&mut Random) -> Vec<u8> + Copy + 'static {}
+
+impl<F: Fn(&mut Random) -> Vec<u8> + Copy + 'static> MakesText for F {}
+
 /// Makes a domain and a supplement's lines for it.
 trait MakesSupplement: Fn(&mut Random) -> (Draft, Lines) + Copy + 'static {}
 
@@ -433,12 +508,7 @@ pub fn aims() -> Vec<Aim> {
         aims.domain_text(label, number, move |r| text_of(&lines(r)));
         // A frame of kind 00 at the end of a store is just zeros.
         if label != "kind 00" {
-            let expect = refused_or_fine(if number == 0 { 0 } else { STORE });
-            aims.add(format!("store: {label}"), expect, move |r| {
-                let bytes = lines(r).concat();
-                let store = stored(r, bytes);
-                over_store(r, store)
-            });
+            aims.store(label, number, lines);
         }
     }
     for &(label, spoil) in CHARACTER_FAULTS {
@@ -471,6 +541,9 @@ pub fn aims() -> Vec<Aim> {
     for &(label, number, make) in supplements::WHOLE {
         aims.supplement(label, number, make);
         aims.low_water(label, number, make);
+    }
+    for (turn, (label, number, part)) in codes::parts().into_iter().enumerate() {
+        aims.part(turn, &label, number, part);
     }
     for &(label, spoil) in CHARACTER_FAULTS {
         aims.add(

@@ -22,7 +22,8 @@ pub fn roomy(r: &mut Random) -> Draft {
     }
 }
 
-fn plus(r: &mut Random, make: impl Fn(&mut Random, &Draft) -> Vec<u8>) -> Lines {
+/// A random domain with one frame more.
+pub fn plus(r: &mut Random, make: impl Fn(&mut Random, &Draft) -> Vec<u8>) -> Lines {
     let mut draft = roomy(r);
     let added = make(r, &draft);
     draft.insert(added).frames.clone()

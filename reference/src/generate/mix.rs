@@ -357,7 +357,7 @@ fn under(r: &mut Random) -> Case {
 
 /// A session whose sheet some aim gave to the judge.
 fn verdict(r: &mut Random, aims: &[Aim]) -> Case {
-    for _ in 0..8 {
+    for _ in 0..12 {
         let aim = r.pick(aims);
         if let Case::Judge {
             store,

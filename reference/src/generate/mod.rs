@@ -3,6 +3,7 @@
 pub mod aims;
 pub mod calls;
 pub mod case;
+pub mod codes;
 pub mod coverage;
 pub mod draft;
 pub mod faults;

@@ -160,7 +160,7 @@ pub fn with_line(
     r: &mut Random,
     place: Place,
     kind: u8,
-    line: fn(&mut Random, &Draft, usize) -> Vec<u8>,
+    line: impl Fn(&mut Random, &Draft, usize) -> Vec<u8>,
 ) -> (Draft, Lines) {
     let (draft, number) = with_kind(r, kind);
     let mut others = shuffled(r, draft.laws());

@@ -24,7 +24,7 @@ use Rattle.bmap.specs.Code.{Code, Parsed, Parser, codeOf, made, second, operand
 use Rattle.bmap.specs.Domain.{has}
 use Rattle.law.specs.declared.table.Node.the-variants.{Expression, Constraint}
 use Rattle.law.specs.declared.table.Pair.the-variants.{Bytes, Short}
-use Rattle.law.specs.Table.{opened, pairOf, sortIn, countIn, operatorIn, operationAt, singleAt, comparisonAt, junctionAt}
+use Rattle.law.specs.Table.{opened, pairOf, followsIn, operatorIn, operationAt, singleAt, comparisonAt, junctionAt}
 use Rattle.law.specs.Names.{namesOnly}
 use Rattle.law.specs.Check.{Test, allowed, in-mask, nextOf, endOf, passesE, passesC, leafIn}
 use Rattle.law.proofs.Trees.{at-constant, at-fluent, at-reified, at-one, at-two, at-truth, at-occurrence, at-negation, at-junction, at-comparison, pair-short, pair-long, no-pair, a-pair}
@@ -179,7 +179,7 @@ module _ (t : Test) (s : List ℕ) (at d : ℕ) (ne : d ≡ 0 → ⊥) (lt : at 
   part-c m = endOf (passesC t) m (parseC (d - 1) (drop m s))
 
   module _ {row : ℕ} (p : Expression row ≡ opened code) where
-    pub check-leaf : sortIn row ≡ 1 → endOf (passesE t) at (twoBytes (leafIn row) (drop (at + 1) s)) ≡ whole-e
+    pub check-leaf : followsIn row ≡ 9 → endOf (passesE t) at (twoBytes (leafIn row) (drop (at + 1) s)) ≡ whole-e
     check-leaf q = go (eqb (operatorIn row) 0) refl
       where
         by : Bool → Answer ℕ
@@ -189,54 +189,53 @@ module _ (t : Test) (s : List ℕ) (at d : ℕ) (ne : d ≡ 0 → ⊥) (lt : at 
         go true e = rw (at-constant s at d ne lt p q (eqb-true (operatorIn row) 0 e))
         go false e = rw (at-fluent s at d ne lt p q (eqb-false (operatorIn row) 0 e))
 
-    pub check-reified : sortIn row ≡ 3 → part-c (at + 1) ≡ whole-e
+    pub check-reified : followsIn row ≡ 7 → part-c (at + 1) ≡ whole-e
     check-reified q = rw (at-reified s at d ne lt p q) (one-checked (passesC t) (passesE t) reified (passes-reified t) at 1 (parseC (d - 1) (drop (at + 1) s)))
 
-    module _ (q : sortIn row ≡ 1 → ⊥) (r : sortIn row ≡ 3 → ⊥) where
-      abbrev single : Single
-      single = singleAt (operatorIn row)
+    abbrev single : Single
+    single = singleAt (operatorIn row)
 
+    pub check-one : followsIn row ≡ 6 → part-e (at + 1) ≡ whole-e
+    check-one q = rw (at-one s at d ne lt p q) (one-checked (passesE t) (passesE t) (one single) (passes-one t single) at 1 (parseE (d - 1) (drop (at + 1) s)))
+
+    module _ (q : followsIn row ≡ 9 → ⊥) (r : followsIn row ≡ 7 → ⊥) (n : followsIn row ≡ 6 → ⊥) where
       abbrev operation : Operation
       operation = operationAt (operatorIn row)
 
-      pub check-one : countIn row ≡ 1 → part-e (at + 1) ≡ whole-e
-      check-one n = rw (at-one s at d ne lt p q r n) (one-checked (passesE t) (passesE t) (one single) (passes-one t single) at 1 (parseE (d - 1) (drop (at + 1) s)))
+      pub check-two : {m : ℕ} → got m ≡ part-e (at + 1) → part-e m ≡ whole-e
+      check-two e = rw (at-two s at d ne lt p q r n) (then-second (passesE t) (passesE t) (two operation) (passes-two t operation) (parseE (d - 1)) s at e)
 
-      pub check-two : {m : ℕ} → (countIn row ≡ 1 → ⊥) → got m ≡ part-e (at + 1) → part-e m ≡ whole-e
-      check-two n e = rw (at-two s at d ne lt p q r n) (then-second (passesE t) (passesE t) (two operation) (passes-two t operation) (parseE (d - 1)) s at e)
-
-      pub check-first : (countIn row ≡ 1 → ⊥) → refused 4 ≡ part-e (at + 1) → refused 4 ≡ whole-e
-      check-first n e = rw (at-two s at d ne lt p q r n) (first-refused (passesE t) (passesE t) (two operation) (passes-two t operation) (parseE (d - 1)) s at e)
+      pub check-first : refused 4 ≡ part-e (at + 1) → refused 4 ≡ whole-e
+      check-first e = rw (at-two s at d ne lt p q r n) (first-refused (passesE t) (passesE t) (two operation) (passes-two t operation) (parseE (d - 1)) s at e)
 
   module _ {row : ℕ} (p : Constraint row ≡ opened code) where
     abbrev comparison : Comparison
     comparison = comparisonAt (operatorIn row)
 
-    pub check-compared : {m : ℕ} → sortIn row ≡ 2 → got m ≡ part-e (at + 1) → part-e m ≡ whole-c
+    pub check-compared : {m : ℕ} → followsIn row ≡ 10 → got m ≡ part-e (at + 1) → part-e m ≡ whole-c
     check-compared q e = rw (at-comparison s at d ne lt p q) (then-second (passesE t) (passesC t) (compared comparison) (passes-compared t comparison) (parseE (d - 1)) s at e)
 
-    pub check-first-e : sortIn row ≡ 2 → refused 4 ≡ part-e (at + 1) → refused 4 ≡ whole-c
+    pub check-first-e : followsIn row ≡ 10 → refused 4 ≡ part-e (at + 1) → refused 4 ≡ whole-c
     check-first-e q e = rw (at-comparison s at d ne lt p q) (first-refused (passesE t) (passesC t) (compared comparison) (passes-compared t comparison) (parseE (d - 1)) s at e)
 
-    pub check-occurrence : sortIn row ≡ 1 → endOf (passesC t) at (twoBytes occurs (drop (at + 1) s)) ≡ whole-c
+    pub check-occurrence : followsIn row ≡ 9 → endOf (passesC t) at (twoBytes occurs (drop (at + 1) s)) ≡ whole-c
     check-occurrence q = rw (at-occurrence s at d ne lt p q)
 
-    pub check-truth : countIn row ≡ 0 → nextOf (at + 1) ≡ whole-c
+    pub check-truth : followsIn row ≡ 0 → nextOf (at + 1) ≡ whole-c
     check-truth n = rw (at-truth s at d ne lt p n, passes-always t) (past at 1 (omega arith))
 
-    module _ (q : sortIn row ≡ 2 → ⊥) (r : sortIn row ≡ 1 → ⊥) where
+    pub check-negation : followsIn row ≡ 7 → part-c (at + 1) ≡ whole-c
+    check-negation q = rw (at-negation s at d ne lt p q) (one-checked (passesC t) (passesC t) negated (passes-negated t) at 1 (parseC (d - 1) (drop (at + 1) s)))
+
+    module _ (q : followsIn row ≡ 10 → ⊥) (r : followsIn row ≡ 9 → ⊥) (m : followsIn row ≡ 0 → ⊥) (n : followsIn row ≡ 7 → ⊥) where
       abbrev junction : Junction
       junction = junctionAt (operatorIn row)
 
-      pub check-negation : countIn row ≡ 1 → part-c (at + 1) ≡ whole-c
-      check-negation n = rw (at-negation s at d ne lt p q r n) (one-checked (passesC t) (passesC t) negated (passes-negated t) at 1 (parseC (d - 1) (drop (at + 1) s)))
+      pub check-junction : {k : ℕ} → got k ≡ part-c (at + 1) → part-c k ≡ whole-c
+      check-junction e = rw (at-junction s at d ne lt p q r m n) (then-second (passesC t) (passesC t) (joined junction) (passes-joined t junction) (parseC (d - 1)) s at e)
 
-      module _ (m : countIn row ≡ 0 → ⊥) (n : countIn row ≡ 1 → ⊥) where
-        pub check-junction : {k : ℕ} → got k ≡ part-c (at + 1) → part-c k ≡ whole-c
-        check-junction e = rw (at-junction s at d ne lt p q r m n) (then-second (passesC t) (passesC t) (joined junction) (passes-joined t junction) (parseC (d - 1)) s at e)
-
-        pub check-first-c : refused 4 ≡ part-c (at + 1) → refused 4 ≡ whole-c
-        check-first-c e = rw (at-junction s at d ne lt p q r m n) (first-refused (passesC t) (passesC t) (joined junction) (passes-joined t junction) (parseC (d - 1)) s at e)
+      pub check-first-c : refused 4 ≡ part-c (at + 1) → refused 4 ≡ whole-c
+      check-first-c e = rw (at-junction s at d ne lt p q r m n) (first-refused (passesC t) (passesC t) (joined junction) (passes-joined t junction) (parseC (d - 1)) s at e)
 
 -- What the place after a tree says of the fluents that it names.
 pub names-known : (mask at n : ℕ) (o : Option (Parsed Con)) → nextOf n ≡ endOf (passesC (in-mask mask)) at o → not (eqb n 0) ≡ namesOnly mask o

@@ -19,7 +19,7 @@ use Rattle.bmap.specs.Tree.{Expr, Con, constant, fluent, two, one, reified, com
 use Rattle.bmap.specs.Meaning.{evalE, evalC}
 use Rattle.bmap.specs.Code.{Code, Parsed, Parser, codeOf, made, second, operand, operands, twoBytes, parseE, parseC}
 use Rattle.law.specs.declared.table.Node.the-variants.{Expression, Constraint}
-use Rattle.law.specs.Table.{opened, sortIn, countIn, operatorIn, operationAt, singleAt, comparisonAt, junctionAt}
+use Rattle.law.specs.Table.{opened, followsIn, operatorIn, operationAt, singleAt, comparisonAt, junctionAt}
 use Rattle.law.specs.Evaluate.{Meant, malformed, gives, meant, onward, rowSize, cellAt, marked, inStep, leafOf, historyOf, valueAt, truthAt}
 use Rattle.law.proofs.Trees.{at-constant, at-fluent, at-reified, at-one, at-two, at-truth, at-occurrence, at-negation, at-junction, at-comparison, pair-short, pair-long, no-pair, a-pair}
 
@@ -120,57 +120,56 @@ module _ (s : List ℕ) (at d : ℕ) (l : List ℤ) (j : ℕ) (ne : d ≡ 0 → 
   part-c m = truthAt (d - 1) s m l j
 
   module _ {row : ℕ} (p : Expression row ≡ opened code) where
-    pub eval-leaf : sortIn row ≡ 1 → meant (λ v. v) at (twoBytes (leafOf row l j) (drop (at + 1) s)) ≡ whole-e
+    pub eval-leaf : followsIn row ≡ 9 → meant (λ v. v) at (twoBytes (leafOf row l j) (drop (at + 1) s)) ≡ whole-e
     unfolding evalE
     eval-leaf q = elim (ℕ-discrete (operatorIn row) 0) [
       | yes e ↦ leaf-same (leafOf row l j) (λ a b. value (signedWord a b)) (λ a b. rw (eq-eqb (operatorIn row) 0 e)) at (drop (at + 1) s) ∙ rw (at-constant s at d ne lt p q e) (leaf-meant fe (λ hi lo. constant (signedWord hi lo)) at (drop (at + 1) s))
       | no n ↦ leaf-same (leafOf row l j) (λ a b. value (cellAt l (j - b) a)) (λ a b. rw (ne-eqb (operatorIn row) 0 n)) at (drop (at + 1) s) ∙ rw (at-fluent s at d ne lt p q n) (leaf-meant fe fluent at (drop (at + 1) s))
     ]
 
-    pub eval-reified : sortIn row ≡ 3 → onward (with1 (λ b. value (flag b))) (part-c (at + 1)) ≡ whole-e
+    pub eval-reified : followsIn row ≡ 7 → onward (with1 (λ b. value (flag b))) (part-c (at + 1)) ≡ whole-e
     unfolding evalE
     eval-reified q = rw (at-reified s at d ne lt p q) (one-meant fc fe pc s at reified (with1 (λ b. value (flag b))) (λ a. refl))
 
-    module _ (q : sortIn row ≡ 1 → ⊥) (r : sortIn row ≡ 3 → ⊥) where
-      pub eval-one : countIn row ≡ 1 → onward (with1 (change (singleAt (operatorIn row)))) (part-e (at + 1)) ≡ whole-e
-      unfolding evalE
-      eval-one n = rw (at-one s at d ne lt p q r n) (one-meant fe fe pe s at (one (singleAt (operatorIn row))) (with1 (change (singleAt (operatorIn row)))) (λ a. refl))
+    pub eval-one : followsIn row ≡ 6 → onward (with1 (change (singleAt (operatorIn row)))) (part-e (at + 1)) ≡ whole-e
+    unfolding evalE
+    eval-one q = rw (at-one s at d ne lt p q) (one-meant fe fe pe s at (one (singleAt (operatorIn row))) (with1 (change (singleAt (operatorIn row)))) (λ a. refl))
 
-      pub eval-two : {v : Valued ℤ} {m : ℕ} → (countIn row ≡ 1 → ⊥) → gives v m ≡ part-e (at + 1) → onward (with2 (operate (operationAt (operatorIn row))) v) (part-e m) ≡ whole-e
+    module _ (q : followsIn row ≡ 9 → ⊥) (r : followsIn row ≡ 7 → ⊥) (n : followsIn row ≡ 6 → ⊥) where
+      pub eval-two : {v : Valued ℤ} {m : ℕ} → gives v m ≡ part-e (at + 1) → onward (with2 (operate (operationAt (operatorIn row))) v) (part-e m) ≡ whole-e
       unfolding evalE
-      eval-two n e = rw (at-two s at d ne lt p q r n) (then-second fe fe pe s at (two (operationAt (operatorIn row))) (with2 (operate (operationAt (operatorIn row)))) (λ a b. refl) e)
+      eval-two e = rw (at-two s at d ne lt p q r n) (then-second fe fe pe s at (two (operationAt (operatorIn row))) (with2 (operate (operationAt (operatorIn row)))) (λ a b. refl) e)
 
-      pub eval-first : (countIn row ≡ 1 → ⊥) → malformed ≡ part-e (at + 1) → malformed ≡ whole-e
+      pub eval-first : malformed ≡ part-e (at + 1) → malformed ≡ whole-e
       unfolding evalE
-      eval-first n e = rw (at-two s at d ne lt p q r n) (first-none fe fe pe s at (two (operationAt (operatorIn row))) (with2 (operate (operationAt (operatorIn row)))) (λ a b. refl) e)
+      eval-first e = rw (at-two s at d ne lt p q r n) (first-none fe fe pe s at (two (operationAt (operatorIn row))) (with2 (operate (operationAt (operatorIn row)))) (λ a b. refl) e)
 
   module _ {row : ℕ} (p : Constraint row ≡ opened code) where
-    pub eval-compared : {v : Valued ℤ} {m : ℕ} → sortIn row ≡ 2 → gives v m ≡ part-e (at + 1) → onward (with2 (λ x y. value (compare (comparisonAt (operatorIn row)) x y)) v) (part-e m) ≡ whole-c
+    pub eval-compared : {v : Valued ℤ} {m : ℕ} → followsIn row ≡ 10 → gives v m ≡ part-e (at + 1) → onward (with2 (λ x y. value (compare (comparisonAt (operatorIn row)) x y)) v) (part-e m) ≡ whole-c
     unfolding evalC
     eval-compared q e = rw (at-comparison s at d ne lt p q) (then-second fe fc pe s at (compared (comparisonAt (operatorIn row))) (with2 (λ x y. value (compare (comparisonAt (operatorIn row)) x y))) (λ a b. refl) e)
 
-    pub eval-first-e : sortIn row ≡ 2 → malformed ≡ part-e (at + 1) → malformed ≡ whole-c
+    pub eval-first-e : followsIn row ≡ 10 → malformed ≡ part-e (at + 1) → malformed ≡ whole-c
     unfolding evalC
     eval-first-e q e = rw (at-comparison s at d ne lt p q) (first-none fe fc pe s at (compared (comparisonAt (operatorIn row))) (with2 (λ x y. value (compare (comparisonAt (operatorIn row)) x y))) (λ a b. refl) e)
 
-    pub eval-occurrence : sortIn row ≡ 1 → meant (λ v. v) at (twoBytes (λ e t. value (both (leb t j) (inStep l e (j + 1 - t)))) (drop (at + 1) s)) ≡ whole-c
+    pub eval-occurrence : followsIn row ≡ 9 → meant (λ v. v) at (twoBytes (λ e t. value (both (leb t j) (inStep l e (j + 1 - t)))) (drop (at + 1) s)) ≡ whole-c
     unfolding evalC
     eval-occurrence q = rw (at-occurrence s at d ne lt p q) (leaf-meant fc occurs at (drop (at + 1) s))
 
-    pub eval-truth : countIn row ≡ 0 → gives (value true) (at + 1) ≡ whole-c
+    pub eval-truth : followsIn row ≡ 0 → gives (value true) (at + 1) ≡ whole-c
     unfolding evalC
     eval-truth n = rw (at-truth s at d ne lt p n)
 
-    module _ (q : sortIn row ≡ 2 → ⊥) (r : sortIn row ≡ 1 → ⊥) where
-      pub eval-negation : countIn row ≡ 1 → onward (with1 (λ x. value (not x))) (part-c (at + 1)) ≡ whole-c
+    pub eval-negation : followsIn row ≡ 7 → onward (with1 (λ x. value (not x))) (part-c (at + 1)) ≡ whole-c
+    unfolding evalC
+    eval-negation q = rw (at-negation s at d ne lt p q) (one-meant fc fc pc s at negated (with1 (λ x. value (not x))) (λ a. refl))
+
+    module _ (q : followsIn row ≡ 10 → ⊥) (r : followsIn row ≡ 9 → ⊥) (m : followsIn row ≡ 0 → ⊥) (n : followsIn row ≡ 7 → ⊥) where
+      pub eval-junction : {v : Valued Bool} {k : ℕ} → gives v k ≡ part-c (at + 1) → onward (with2 (λ x y. value (join (junctionAt (operatorIn row)) x y)) v) (part-c k) ≡ whole-c
       unfolding evalC
-      eval-negation n = rw (at-negation s at d ne lt p q r n) (one-meant fc fc pc s at negated (with1 (λ x. value (not x))) (λ a. refl))
+      eval-junction e = rw (at-junction s at d ne lt p q r m n) (then-second fc fc pc s at (joined (junctionAt (operatorIn row))) (with2 (λ x y. value (join (junctionAt (operatorIn row)) x y))) (λ a b. refl) e)
 
-      module _ (m : countIn row ≡ 0 → ⊥) (n : countIn row ≡ 1 → ⊥) where
-        pub eval-junction : {v : Valued Bool} {k : ℕ} → gives v k ≡ part-c (at + 1) → onward (with2 (λ x y. value (join (junctionAt (operatorIn row)) x y)) v) (part-c k) ≡ whole-c
-        unfolding evalC
-        eval-junction e = rw (at-junction s at d ne lt p q r m n) (then-second fc fc pc s at (joined (junctionAt (operatorIn row))) (with2 (λ x y. value (join (junctionAt (operatorIn row)) x y))) (λ a b. refl) e)
-
-        pub eval-first-c : malformed ≡ part-c (at + 1) → malformed ≡ whole-c
-        unfolding evalC
-        eval-first-c e = rw (at-junction s at d ne lt p q r m n) (first-none fc fc pc s at (joined (junctionAt (operatorIn row))) (with2 (λ x y. value (join (junctionAt (operatorIn row)) x y))) (λ a b. refl) e)
+      pub eval-first-c : malformed ≡ part-c (at + 1) → malformed ≡ whole-c
+      unfolding evalC
+      eval-first-c e = rw (at-junction s at d ne lt p q r m n) (first-none fc fc pc s at (joined (junctionAt (operatorIn row))) (with2 (λ x y. value (join (junctionAt (operatorIn row)) x y))) (λ a b. refl) e)

@@ -2,7 +2,7 @@
 use mathlib.Core.Path.{_≡_, refl, sym, ap, _∙_}
 use mathlib.Core.Bool.{Bool, true, false}
 use mathlib.Core.List.{List, [], _∷_}
-use Prim.Native.Nat.{ℕ, _+_, _-_, _≤_, _<_}
+use Prim.Native.Nat.{ℕ, _+_, _-_, _/_, _≤_, _<_}
 use native.Mathlib.Omega.{arith}
 use types.Run.{OneOf, hit}
 use denote.Enum.Declared.{tagOf}
@@ -14,7 +14,7 @@ use Rattle.bmap.specs.Tree.{occurs}
 use Rattle.bmap.specs.Code.{Code, expression, constraint, no-code, a-constant, a-fluent, of-two, of-one, a-reified, of-comparison, of-junction, a-negation, an-occurrence, a-truth, codeOf}
 use Rattle.law.specs.declared.table.Node.the-variants.{Expression, Constraint}
 use Rattle.law.specs.declared.table.Pair.the-variants.{Bytes, Short}
-use Rattle.law.specs.Table.{rowOf, sortIn, countIn, opened, pairOf}
+use Rattle.law.specs.Table.{rowOf, followsIn, sortIn, countIn, opened, pairOf}
 use Rattle.law.specs.Check.{Test, nextOf, passesE, passesC, leafIn, treeEnd, rowFor, pairPasses}
 use Rattle.law.proofs.Trees.{deep-e, deep-c, end-e, end-c, no-expression, no-constraint}
 use Rattle.law.proofs.CheckLaws.{no-tree, leaf-short, leaf-passes, leaf-fails, check-leaf, check-reified, check-one, check-two, check-first}
@@ -27,7 +27,7 @@ by-test false f g = g refl
 
 -- What the rows say beside what the tests of the code ask.
 module _ {row : ℕ} where
-  some-operands : (c : Code) → Expression row ≡ opened c → countIn row ≡ 0 → ⊥
+  some-operands : (c : Code) → Expression row ≡ opened c → followsIn row ≡ 0 → ⊥
   some-operands (expression a-constant) p n = let z : row ≡ rowOf (expression a-constant) = cc in omega arith
   some-operands (expression a-fluent) p n = let z : row ≡ rowOf (expression a-fluent) = cc in omega arith
   some-operands (expression (of-two o)) p n = let z : row ≡ rowOf (expression (of-two o)) = cc in omega arith
@@ -45,16 +45,25 @@ module _ {row : ℕ} where
   one-constraint (constraint c) p q = cc
   one-constraint no-code p q = cc
 
-  of-constraint : (c : Code) → Constraint row ≡ opened c → (sortIn row ≡ 1 → ⊥) → countIn row ≡ 1 → sortIn row ≡ 3
-  of-constraint (constraint (of-comparison o)) p q n = let z : row ≡ rowOf (constraint (of-comparison o)) = cc in omega arith
-  of-constraint (constraint (of-junction o)) p q n = let z : row ≡ rowOf (constraint (of-junction o)) = cc in omega arith
-  of-constraint (constraint a-negation) p q n = let z : row ≡ rowOf (constraint a-negation) = cc in omega arith
-  of-constraint (constraint an-occurrence) p q n = let z : row ≡ rowOf (constraint an-occurrence) = cc in omega arith
-  of-constraint (constraint a-truth) p q n = let z : row ≡ rowOf (constraint a-truth) = cc in omega arith
-  of-constraint (expression c) p q n = cc
-  of-constraint no-code p q n = cc
+  one-expression : (c : Code) → Expression row ≡ opened c → (sortIn row ≡ 3 → ⊥) → countIn row ≡ 1 → followsIn row ≡ 6
+  one-expression (expression a-constant) p r n = let z : row ≡ rowOf (expression a-constant) = cc in omega arith
+  one-expression (expression a-fluent) p r n = let z : row ≡ rowOf (expression a-fluent) = cc in omega arith
+  one-expression (expression (of-two o)) p r n = let z : row ≡ rowOf (expression (of-two o)) = cc in omega arith
+  one-expression (expression (of-one o)) p r n = let z : row ≡ rowOf (expression (of-one o)) = cc in omega arith
+  one-expression (expression a-reified) p r n = let z : row ≡ rowOf (expression a-reified) = cc in absurd (r (rw z))
+  one-expression (constraint c) p r n = cc
+  one-expression no-code p r n = cc
 
-  of-expressions : (c : Code) → Constraint row ≡ opened c → (sortIn row ≡ 1 → ⊥) → (sortIn row ≡ 3 → ⊥) → (countIn row ≡ 0 → ⊥) → sortIn row ≡ 2
+  of-constraint : (c : Code) → Constraint row ≡ opened c → countIn row ≡ 1 → sortIn row ≡ 3
+  of-constraint (constraint (of-comparison o)) p n = let z : row ≡ rowOf (constraint (of-comparison o)) = cc in omega arith
+  of-constraint (constraint (of-junction o)) p n = let z : row ≡ rowOf (constraint (of-junction o)) = cc in omega arith
+  of-constraint (constraint a-negation) p n = let z : row ≡ rowOf (constraint a-negation) = cc in omega arith
+  of-constraint (constraint an-occurrence) p n = let z : row ≡ rowOf (constraint an-occurrence) = cc in omega arith
+  of-constraint (constraint a-truth) p n = let z : row ≡ rowOf (constraint a-truth) = cc in omega arith
+  of-constraint (expression c) p n = cc
+  of-constraint no-code p n = cc
+
+  of-expressions : (c : Code) → Constraint row ≡ opened c → (followsIn row ≡ 9 → ⊥) → (sortIn row ≡ 3 → ⊥) → (followsIn row ≡ 0 → ⊥) → followsIn row ≡ 10
   of-expressions (constraint (of-comparison o)) p q r m = let z : row ≡ rowOf (constraint (of-comparison o)) = cc in omega arith
   of-expressions (constraint (of-junction o)) p q r m = let z : row ≡ rowOf (constraint (of-junction o)) = cc in absurd (r (omega arith))
   of-expressions (constraint a-negation) p q r m = let z : row ≡ rowOf (constraint a-negation) = cc in absurd (r (omega arith))
@@ -115,11 +124,11 @@ module _ (w : ℕ) (t : Test) (s : List ℕ) (at d : ℕ) where
       expr : eqb w 3 ≡ false → Expression row ≡ opened code
       expr f = row-e code w f e is
 
-      pub long-truth : countIn row ≡ 0 → nextOf (at + 1) ≡ treeEnd w t d s at
+      pub long-truth : followsIn row ≡ 0 → nextOf (at + 1) ≡ treeEnd w t d s at
       long-truth n = by-test (eqb w 3) (λ f. rw f (check-truth t s at d ne lt (con f) n)) (λ f. absurd (some-operands code (expr f) n))
 
       -- a leaf
-      module _ (q : sortIn row ≡ 1) where
+      module _ (q : followsIn row ≡ 9) where
         pub long-short : Short ≡ pairOf (drop (at + 1) s) → refused 4 ≡ treeEnd w t d s at
         long-short p = by-test (eqb w 3)
             (λ f. rw f (leaf-short (passesC t) occurs s at p ∙ check-occurrence t s at d ne lt (con f) q))
@@ -137,43 +146,49 @@ module _ (w : ℕ) (t : Test) (s : List ℕ) (at d : ℕ) where
               (λ f. rw f (leaf-fails (passesE t) (leafIn row) s at p (rw f at h) ∙ check-leaf t s at d ne lt (expr f) q))
 
       -- operands of the sort k
-      module _ {k : ℕ} (sort : k ≡ sortIn row) (q : k ≡ 1 → ⊥) where
-        not-bytes : sortIn row ≡ 1 → ⊥
-        not-bytes z = q (sort ∙ z)
-
+      module _ {k : ℕ} (sort : k ≡ sortIn row) where
         constraints : eqb k 3 ≡ true → sortIn row ≡ 3
         constraints g = sym sort ∙ eqb-true k 3 g
 
         others : eqb k 3 ≡ false → sortIn row ≡ 3 → ⊥
         others g z = eqb-false k 3 g (sort ∙ z)
 
-        no-expressions : eqb k 3 ≡ true → sortIn row ≡ 2 → ⊥
-        no-expressions g z = omega (arith, constraints g)
+        one-of : eqb k 3 ≡ true → countIn row ≡ 1 → followsIn row ≡ 7
+        one-of g n = omega (arith, constraints g)
 
         pub long-one : countIn row ≡ 1 → treeEnd k t (d - 1) s (at + 1) ≡ treeEnd w t d s at
         long-one n = by-test (eqb w 3)
             (λ f. by-test (eqb k 3)
-            (λ g. rw (f, g) (check-negation t s at d ne lt (con f) (no-expressions g) not-bytes n))
-            (λ g. absurd (others g (of-constraint code (con f) not-bytes n))))
+            (λ g. rw (f, g) (check-negation t s at d ne lt (con f) (one-of g n)))
+            (λ g. absurd (others g (of-constraint code (con f) n))))
             (λ f. by-test (eqb k 3)
-            (λ g. rw (f, g) (check-reified t s at d ne lt (expr f) (constraints g)))
-            (λ g. rw (f, g) (check-one t s at d ne lt (expr f) not-bytes (others g) n)))
+            (λ g. rw (f, g) (check-reified t s at d ne lt (expr f) (one-of g n)))
+            (λ g. rw (f, g) (check-one t s at d ne lt (expr f) (one-expression code (expr f) (others g) n))))
 
-        module _ (m : countIn row ≡ 0 → ⊥) (n : countIn row ≡ 1 → ⊥) where
+        module _ (m : followsIn row ≡ 0 → ⊥) (q : followsIn row ≡ 9 → ⊥) (n : countIn row ≡ 1 → ⊥) where
+          no-expressions : eqb k 3 ≡ true → followsIn row ≡ 10 → ⊥
+          no-expressions g z = omega (arith, constraints g)
+
+          not-one : (x : ℕ) → x / 4 ≡ 1 → followsIn row ≡ x → ⊥
+          not-one x e z = n (omega arith)
+
+          no-constraints : eqb k 3 ≡ false → followsIn row ≡ 7 → ⊥
+          no-constraints g z = others g (omega arith)
+
           pub long-two : {next : ℕ} → got next ≡ treeEnd k t (d - 1) s (at + 1) → treeEnd k t (d - 1) s next ≡ treeEnd w t d s at
           long-two h = by-test (eqb w 3)
               (λ f. by-test (eqb k 3)
-              (λ g. rw (f, g) (check-junction t s at d ne lt (con f) (no-expressions g) not-bytes m n (rw g at h)))
-              (λ g. rw (f, g) (check-compared t s at d ne lt (con f) (of-expressions code (con f) not-bytes (others g) m) (rw g at h))))
+              (λ g. rw (f, g) (check-junction t s at d ne lt (con f) (no-expressions g) q m (not-one 7 refl) (rw g at h)))
+              (λ g. rw (f, g) (check-compared t s at d ne lt (con f) (of-expressions code (con f) q (others g) m) (rw g at h))))
               (λ f. by-test (eqb k 3)
               (λ g. absurd (n (one-constraint code (expr f) (constraints g))))
-              (λ g. rw (f, g) (check-two t s at d ne lt (expr f) not-bytes (others g) n (rw g at h))))
+              (λ g. rw (f, g) (check-two t s at d ne lt (expr f) q (no-constraints g) (not-one 6 refl) (rw g at h))))
 
           pub long-first : refused 4 ≡ treeEnd k t (d - 1) s (at + 1) → refused 4 ≡ treeEnd w t d s at
           long-first h = by-test (eqb w 3)
               (λ f. by-test (eqb k 3)
-              (λ g. rw f (check-first-c t s at d ne lt (con f) (no-expressions g) not-bytes m n (rw g at h)))
-              (λ g. rw f (check-first-e t s at d ne lt (con f) (of-expressions code (con f) not-bytes (others g) m) (rw g at h))))
+              (λ g. rw f (check-first-c t s at d ne lt (con f) (no-expressions g) q m (not-one 7 refl) (rw g at h)))
+              (λ g. rw f (check-first-e t s at d ne lt (con f) (of-expressions code (con f) q (others g) m) (rw g at h))))
               (λ f. by-test (eqb k 3)
               (λ g. absurd (n (one-constraint code (expr f) (constraints g))))
-              (λ g. rw f (check-first t s at d ne lt (expr f) not-bytes (others g) n (rw g at h))))
+              (λ g. rw f (check-first t s at d ne lt (expr f) q (no-constraints g) (not-one 6 refl) (rw g at h))))

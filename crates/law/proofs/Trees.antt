@@ -18,7 +18,7 @@ use Rattle.bmap.specs.Code.{codeOf, parsed, twoBytes, operand, operands, exprAf
 use Rattle.law.specs.declared.table.Node.{Node}
 use Rattle.law.specs.declared.table.Node.the-variants.{Expression, Constraint}
 use Rattle.law.specs.declared.table.Pair.the-variants.{Bytes, Short}
-use Rattle.law.specs.Table.{sortOf, countOf, operatorOf, rowOf, sortIn, countIn, operatorIn, opened, pairOf}
+use Rattle.law.specs.Table.{sortOf, countOf, operatorOf, rowOf, followsIn, operatorIn, opened, pairOf}
 use Rattle.law.specs.Table.{operationNumber, operationAt, singleNumber, singleAt, comparisonNumber, comparisonAt, junctionNumber, junctionAt}
 use Rattle.bmap.specs.declared.Operation.{Operation}
 use Rattle.bmap.specs.declared.Operation.the-variants.{Sum, Difference, Product, Quotient, Remainder}
@@ -30,12 +30,9 @@ use Rattle.bmap.specs.declared.Junction.{Junction}
 use Rattle.bmap.specs.declared.Junction.the-variants.{And, Or}
 use Rattle.law.proofs.table.Node as node-type
 
--- What a row says: each of its three numbers is read back.
-read-sort : (s n o : ℕ) → s < 4 → sortIn (s + 4 * n + 16 * o) ≡ s
-read-sort s n o h = omega arith
-
-read-count : (s n o : ℕ) → s < 4 → n < 4 → countIn (s + 4 * n + 16 * o) ≡ n
-read-count s n o h k = omega arith
+-- What a row says is read back: what follows the code, and the operator.
+read-follows : (s n o : ℕ) → s < 4 → n < 4 → followsIn (s + 4 * n + 16 * o) ≡ s + 4 * n
+read-follows s n o h k = omega arith
 
 read-operator : (s n o : ℕ) → s < 4 → n < 4 → operatorIn (s + 4 * n + 16 * o) ≡ o
 read-operator s n o h k = omega arith
@@ -67,14 +64,12 @@ few-operands (constraint a-truth) = omega arith
 few-operands no-code = omega arith
 
 record Reads (row : ℕ) (c : Code) : Type 0 where
-  sort : sortIn row ≡ sortOf c
-  count : countIn row ≡ countOf c
+  follows : followsIn row ≡ sortOf c + 4 * countOf c
   operator : operatorIn row ≡ operatorOf c
 
 reads : (row : ℕ) (c : Code) → row ≡ rowOf c → Reads row c
 reads row c e = record {
-  sort = rw e (read-sort (sortOf c) (countOf c) (operatorOf c) (few-sorts c));
-  count = rw e (read-count (sortOf c) (countOf c) (operatorOf c) (few-sorts c) (few-operands c));
+  follows = rw e (read-follows (sortOf c) (countOf c) (operatorOf c) (few-sorts c) (few-operands c));
   operator = rw e (read-operator (sortOf c) (countOf c) (operatorOf c) (few-sorts c) (few-operands c));
 }
 
@@ -103,93 +98,93 @@ junction-back Or = refl
 
 -- and they decide the code
 module _ {row : ℕ} where
-  is-constant : (c : Code) → Expression row ≡ opened c → sortIn row ≡ 1 → operatorIn row ≡ 0 → c ≡ expression a-constant
+  is-constant : (c : Code) → Expression row ≡ opened c → followsIn row ≡ 9 → operatorIn row ≡ 0 → c ≡ expression a-constant
   is-constant (expression a-constant) p q r = refl
   is-constant (expression a-fluent) p q r = let w = reads row (expression a-fluent) cc in absurd (omega (arith, w .operator, r))
-  is-constant (expression (of-two o)) p q r = let w = reads row (expression (of-two o)) cc in absurd (omega (arith, w .sort, q))
-  is-constant (expression (of-one o)) p q r = let w = reads row (expression (of-one o)) cc in absurd (omega (arith, w .sort, q))
-  is-constant (expression a-reified) p q r = let w = reads row (expression a-reified) cc in absurd (omega (arith, w .sort, q))
+  is-constant (expression (of-two o)) p q r = let w = reads row (expression (of-two o)) cc in absurd (omega (arith, w .follows, q))
+  is-constant (expression (of-one o)) p q r = let w = reads row (expression (of-one o)) cc in absurd (omega (arith, w .follows, q))
+  is-constant (expression a-reified) p q r = let w = reads row (expression a-reified) cc in absurd (omega (arith, w .follows, q))
   is-constant (constraint c) p q r = cc
   is-constant no-code p q r = cc
 
-  is-fluent : (c : Code) → Expression row ≡ opened c → sortIn row ≡ 1 → (operatorIn row ≡ 0 → ⊥) → c ≡ expression a-fluent
+  is-fluent : (c : Code) → Expression row ≡ opened c → followsIn row ≡ 9 → (operatorIn row ≡ 0 → ⊥) → c ≡ expression a-fluent
   is-fluent (expression a-constant) p q r = let w = reads row (expression a-constant) cc in absurd (r (w .operator))
   is-fluent (expression a-fluent) p q r = refl
-  is-fluent (expression (of-two o)) p q r = let w = reads row (expression (of-two o)) cc in absurd (omega (arith, w .sort, q))
-  is-fluent (expression (of-one o)) p q r = let w = reads row (expression (of-one o)) cc in absurd (omega (arith, w .sort, q))
-  is-fluent (expression a-reified) p q r = let w = reads row (expression a-reified) cc in absurd (omega (arith, w .sort, q))
+  is-fluent (expression (of-two o)) p q r = let w = reads row (expression (of-two o)) cc in absurd (omega (arith, w .follows, q))
+  is-fluent (expression (of-one o)) p q r = let w = reads row (expression (of-one o)) cc in absurd (omega (arith, w .follows, q))
+  is-fluent (expression a-reified) p q r = let w = reads row (expression a-reified) cc in absurd (omega (arith, w .follows, q))
   is-fluent (constraint c) p q r = cc
   is-fluent no-code p q r = cc
 
-  is-reified : (c : Code) → Expression row ≡ opened c → sortIn row ≡ 3 → c ≡ expression a-reified
-  is-reified (expression a-constant) p q = let w = reads row (expression a-constant) cc in absurd (omega (arith, w .sort, q))
-  is-reified (expression a-fluent) p q = let w = reads row (expression a-fluent) cc in absurd (omega (arith, w .sort, q))
-  is-reified (expression (of-two o)) p q = let w = reads row (expression (of-two o)) cc in absurd (omega (arith, w .sort, q))
-  is-reified (expression (of-one o)) p q = let w = reads row (expression (of-one o)) cc in absurd (omega (arith, w .sort, q))
+  is-reified : (c : Code) → Expression row ≡ opened c → followsIn row ≡ 7 → c ≡ expression a-reified
+  is-reified (expression a-constant) p q = let w = reads row (expression a-constant) cc in absurd (omega (arith, w .follows, q))
+  is-reified (expression a-fluent) p q = let w = reads row (expression a-fluent) cc in absurd (omega (arith, w .follows, q))
+  is-reified (expression (of-two o)) p q = let w = reads row (expression (of-two o)) cc in absurd (omega (arith, w .follows, q))
+  is-reified (expression (of-one o)) p q = let w = reads row (expression (of-one o)) cc in absurd (omega (arith, w .follows, q))
   is-reified (expression a-reified) p q = refl
   is-reified (constraint c) p q = cc
   is-reified no-code p q = cc
 
-  is-one : (c : Code) → Expression row ≡ opened c → (sortIn row ≡ 1 → ⊥) → (sortIn row ≡ 3 → ⊥) → countIn row ≡ 1 → c ≡ expression (of-one (singleAt (operatorIn row)))
-  is-one (expression a-constant) p q r n = let w = reads row (expression a-constant) cc in absurd (q (w .sort))
-  is-one (expression a-fluent) p q r n = let w = reads row (expression a-fluent) cc in absurd (q (w .sort))
-  is-one (expression (of-two o)) p q r n = let w = reads row (expression (of-two o)) cc in absurd (omega (arith, w .count, n))
-  is-one (expression (of-one o)) p q r n = let w = reads row (expression (of-one o)) cc in rw (w .operator, single-back o)
-  is-one (expression a-reified) p q r n = let w = reads row (expression a-reified) cc in absurd (r (w .sort))
-  is-one (constraint c) p q r n = cc
-  is-one no-code p q r n = cc
+  is-one : (c : Code) → Expression row ≡ opened c → followsIn row ≡ 6 → c ≡ expression (of-one (singleAt (operatorIn row)))
+  is-one (expression a-constant) p q = let w = reads row (expression a-constant) cc in absurd (omega (arith, w .follows, q))
+  is-one (expression a-fluent) p q = let w = reads row (expression a-fluent) cc in absurd (omega (arith, w .follows, q))
+  is-one (expression (of-two o)) p q = let w = reads row (expression (of-two o)) cc in absurd (omega (arith, w .follows, q))
+  is-one (expression (of-one o)) p q = let w = reads row (expression (of-one o)) cc in rw (w .operator, single-back o)
+  is-one (expression a-reified) p q = let w = reads row (expression a-reified) cc in absurd (omega (arith, w .follows, q))
+  is-one (constraint c) p q = cc
+  is-one no-code p q = cc
 
-  is-two : (c : Code) → Expression row ≡ opened c → (sortIn row ≡ 1 → ⊥) → (sortIn row ≡ 3 → ⊥) → (countIn row ≡ 1 → ⊥) → c ≡ expression (of-two (operationAt (operatorIn row)))
-  is-two (expression a-constant) p q r n = let w = reads row (expression a-constant) cc in absurd (q (w .sort))
-  is-two (expression a-fluent) p q r n = let w = reads row (expression a-fluent) cc in absurd (q (w .sort))
+  is-two : (c : Code) → Expression row ≡ opened c → (followsIn row ≡ 9 → ⊥) → (followsIn row ≡ 7 → ⊥) → (followsIn row ≡ 6 → ⊥) → c ≡ expression (of-two (operationAt (operatorIn row)))
+  is-two (expression a-constant) p q r n = let w = reads row (expression a-constant) cc in absurd (q (w .follows))
+  is-two (expression a-fluent) p q r n = let w = reads row (expression a-fluent) cc in absurd (q (w .follows))
   is-two (expression (of-two o)) p q r n = let w = reads row (expression (of-two o)) cc in rw (w .operator, operation-back o)
-  is-two (expression (of-one o)) p q r n = let w = reads row (expression (of-one o)) cc in absurd (n (w .count))
-  is-two (expression a-reified) p q r n = let w = reads row (expression a-reified) cc in absurd (r (w .sort))
+  is-two (expression (of-one o)) p q r n = let w = reads row (expression (of-one o)) cc in absurd (n (w .follows))
+  is-two (expression a-reified) p q r n = let w = reads row (expression a-reified) cc in absurd (r (w .follows))
   is-two (constraint c) p q r n = cc
   is-two no-code p q r n = cc
 
-  is-comparison : (c : Code) → Constraint row ≡ opened c → sortIn row ≡ 2 → c ≡ constraint (of-comparison (comparisonAt (operatorIn row)))
+  is-comparison : (c : Code) → Constraint row ≡ opened c → followsIn row ≡ 10 → c ≡ constraint (of-comparison (comparisonAt (operatorIn row)))
   is-comparison (constraint (of-comparison o)) p q = let w = reads row (constraint (of-comparison o)) cc in rw (w .operator, comparison-back o)
-  is-comparison (constraint (of-junction o)) p q = let w = reads row (constraint (of-junction o)) cc in absurd (omega (arith, w .sort, q))
-  is-comparison (constraint a-negation) p q = let w = reads row (constraint a-negation) cc in absurd (omega (arith, w .sort, q))
-  is-comparison (constraint an-occurrence) p q = let w = reads row (constraint an-occurrence) cc in absurd (omega (arith, w .sort, q))
-  is-comparison (constraint a-truth) p q = let w = reads row (constraint a-truth) cc in absurd (omega (arith, w .sort, q))
+  is-comparison (constraint (of-junction o)) p q = let w = reads row (constraint (of-junction o)) cc in absurd (omega (arith, w .follows, q))
+  is-comparison (constraint a-negation) p q = let w = reads row (constraint a-negation) cc in absurd (omega (arith, w .follows, q))
+  is-comparison (constraint an-occurrence) p q = let w = reads row (constraint an-occurrence) cc in absurd (omega (arith, w .follows, q))
+  is-comparison (constraint a-truth) p q = let w = reads row (constraint a-truth) cc in absurd (omega (arith, w .follows, q))
   is-comparison (expression c) p q = cc
   is-comparison no-code p q = cc
 
-  is-occurrence : (c : Code) → Constraint row ≡ opened c → sortIn row ≡ 1 → c ≡ constraint an-occurrence
-  is-occurrence (constraint (of-comparison o)) p q = let w = reads row (constraint (of-comparison o)) cc in absurd (omega (arith, w .sort, q))
-  is-occurrence (constraint (of-junction o)) p q = let w = reads row (constraint (of-junction o)) cc in absurd (omega (arith, w .sort, q))
-  is-occurrence (constraint a-negation) p q = let w = reads row (constraint a-negation) cc in absurd (omega (arith, w .sort, q))
+  is-occurrence : (c : Code) → Constraint row ≡ opened c → followsIn row ≡ 9 → c ≡ constraint an-occurrence
+  is-occurrence (constraint (of-comparison o)) p q = let w = reads row (constraint (of-comparison o)) cc in absurd (omega (arith, w .follows, q))
+  is-occurrence (constraint (of-junction o)) p q = let w = reads row (constraint (of-junction o)) cc in absurd (omega (arith, w .follows, q))
+  is-occurrence (constraint a-negation) p q = let w = reads row (constraint a-negation) cc in absurd (omega (arith, w .follows, q))
   is-occurrence (constraint an-occurrence) p q = refl
-  is-occurrence (constraint a-truth) p q = let w = reads row (constraint a-truth) cc in absurd (omega (arith, w .sort, q))
+  is-occurrence (constraint a-truth) p q = let w = reads row (constraint a-truth) cc in absurd (omega (arith, w .follows, q))
   is-occurrence (expression c) p q = cc
   is-occurrence no-code p q = cc
 
-  is-truth : (c : Code) → Constraint row ≡ opened c → countIn row ≡ 0 → c ≡ constraint a-truth
-  is-truth (constraint (of-comparison o)) p n = let w = reads row (constraint (of-comparison o)) cc in absurd (omega (arith, w .count, n))
-  is-truth (constraint (of-junction o)) p n = let w = reads row (constraint (of-junction o)) cc in absurd (omega (arith, w .count, n))
-  is-truth (constraint a-negation) p n = let w = reads row (constraint a-negation) cc in absurd (omega (arith, w .count, n))
-  is-truth (constraint an-occurrence) p n = let w = reads row (constraint an-occurrence) cc in absurd (omega (arith, w .count, n))
+  is-truth : (c : Code) → Constraint row ≡ opened c → followsIn row ≡ 0 → c ≡ constraint a-truth
+  is-truth (constraint (of-comparison o)) p n = let w = reads row (constraint (of-comparison o)) cc in absurd (omega (arith, w .follows, n))
+  is-truth (constraint (of-junction o)) p n = let w = reads row (constraint (of-junction o)) cc in absurd (omega (arith, w .follows, n))
+  is-truth (constraint a-negation) p n = let w = reads row (constraint a-negation) cc in absurd (omega (arith, w .follows, n))
+  is-truth (constraint an-occurrence) p n = let w = reads row (constraint an-occurrence) cc in absurd (omega (arith, w .follows, n))
   is-truth (constraint a-truth) p n = refl
   is-truth (expression c) p n = cc
   is-truth no-code p n = cc
 
-  is-negation : (c : Code) → Constraint row ≡ opened c → (sortIn row ≡ 2 → ⊥) → (sortIn row ≡ 1 → ⊥) → countIn row ≡ 1 → c ≡ constraint a-negation
-  is-negation (constraint (of-comparison o)) p q r n = let w = reads row (constraint (of-comparison o)) cc in absurd (q (w .sort))
-  is-negation (constraint (of-junction o)) p q r n = let w = reads row (constraint (of-junction o)) cc in absurd (omega (arith, w .count, n))
-  is-negation (constraint a-negation) p q r n = refl
-  is-negation (constraint an-occurrence) p q r n = let w = reads row (constraint an-occurrence) cc in absurd (r (w .sort))
-  is-negation (constraint a-truth) p q r n = let w = reads row (constraint a-truth) cc in absurd (omega (arith, w .count, n))
-  is-negation (expression c) p q r n = cc
-  is-negation no-code p q r n = cc
+  is-negation : (c : Code) → Constraint row ≡ opened c → followsIn row ≡ 7 → c ≡ constraint a-negation
+  is-negation (constraint (of-comparison o)) p q = let w = reads row (constraint (of-comparison o)) cc in absurd (omega (arith, w .follows, q))
+  is-negation (constraint (of-junction o)) p q = let w = reads row (constraint (of-junction o)) cc in absurd (omega (arith, w .follows, q))
+  is-negation (constraint a-negation) p q = refl
+  is-negation (constraint an-occurrence) p q = let w = reads row (constraint an-occurrence) cc in absurd (omega (arith, w .follows, q))
+  is-negation (constraint a-truth) p q = let w = reads row (constraint a-truth) cc in absurd (omega (arith, w .follows, q))
+  is-negation (expression c) p q = cc
+  is-negation no-code p q = cc
 
-  is-junction : (c : Code) → Constraint row ≡ opened c → (sortIn row ≡ 2 → ⊥) → (sortIn row ≡ 1 → ⊥) → (countIn row ≡ 0 → ⊥) → (countIn row ≡ 1 → ⊥) → c ≡ constraint (of-junction (junctionAt (operatorIn row)))
-  is-junction (constraint (of-comparison o)) p q r m n = let w = reads row (constraint (of-comparison o)) cc in absurd (q (w .sort))
+  is-junction : (c : Code) → Constraint row ≡ opened c → (followsIn row ≡ 10 → ⊥) → (followsIn row ≡ 9 → ⊥) → (followsIn row ≡ 0 → ⊥) → (followsIn row ≡ 7 → ⊥) → c ≡ constraint (of-junction (junctionAt (operatorIn row)))
+  is-junction (constraint (of-comparison o)) p q r m n = let w = reads row (constraint (of-comparison o)) cc in absurd (q (w .follows))
   is-junction (constraint (of-junction o)) p q r m n = let w = reads row (constraint (of-junction o)) cc in rw (w .operator, junction-back o)
-  is-junction (constraint a-negation) p q r m n = let w = reads row (constraint a-negation) cc in absurd (n (w .count))
-  is-junction (constraint an-occurrence) p q r m n = let w = reads row (constraint an-occurrence) cc in absurd (r (w .sort))
-  is-junction (constraint a-truth) p q r m n = let w = reads row (constraint a-truth) cc in absurd (m (w .count))
+  is-junction (constraint a-negation) p q r m n = let w = reads row (constraint a-negation) cc in absurd (n (w .follows))
+  is-junction (constraint an-occurrence) p q r m n = let w = reads row (constraint an-occurrence) cc in absurd (r (w .follows))
+  is-junction (constraint a-truth) p q r m n = let w = reads row (constraint a-truth) cc in absurd (m (w .follows))
   is-junction (expression c) p q r m n = cc
   is-junction no-code p q r m n = cc
 
@@ -252,35 +247,35 @@ module _ (s : List ℕ) (at d : ℕ) (ne : d ≡ 0 → ⊥) (lt : at < length s)
       go no-code is h = after-c no-code is
 
   module _ {row : ℕ} (p : Expression row ≡ opened code) where
-    pub at-constant : sortIn row ≡ 1 → operatorIn row ≡ 0 → parseE d (drop at s) ≡ twoBytes (λ hi lo. constant (signedWord hi lo)) rest
+    pub at-constant : followsIn row ≡ 9 → operatorIn row ≡ 0 → parseE d (drop at s) ≡ twoBytes (λ hi lo. constant (signedWord hi lo)) rest
     at-constant q r = after-e (expression a-constant) (is-constant code p q r)
 
-    pub at-fluent : sortIn row ≡ 1 → (operatorIn row ≡ 0 → ⊥) → parseE d (drop at s) ≡ twoBytes fluent rest
+    pub at-fluent : followsIn row ≡ 9 → (operatorIn row ≡ 0 → ⊥) → parseE d (drop at s) ≡ twoBytes fluent rest
     at-fluent q r = after-e (expression a-fluent) (is-fluent code p q r)
 
-    pub at-reified : sortIn row ≡ 3 → parseE d (drop at s) ≡ operand reified (parseC (d - 1)) rest
+    pub at-reified : followsIn row ≡ 7 → parseE d (drop at s) ≡ operand reified (parseC (d - 1)) rest
     at-reified q = after-e (expression a-reified) (is-reified code p q)
 
-    pub at-one : (sortIn row ≡ 1 → ⊥) → (sortIn row ≡ 3 → ⊥) → countIn row ≡ 1 → parseE d (drop at s) ≡ operand (one (singleAt (operatorIn row))) (parseE (d - 1)) rest
-    at-one q r n = after-e (expression (of-one (singleAt (operatorIn row)))) (is-one code p q r n)
+    pub at-one : followsIn row ≡ 6 → parseE d (drop at s) ≡ operand (one (singleAt (operatorIn row))) (parseE (d - 1)) rest
+    at-one q = after-e (expression (of-one (singleAt (operatorIn row)))) (is-one code p q)
 
-    pub at-two : (sortIn row ≡ 1 → ⊥) → (sortIn row ≡ 3 → ⊥) → (countIn row ≡ 1 → ⊥) → parseE d (drop at s) ≡ operands (two (operationAt (operatorIn row))) (parseE (d - 1)) rest
+    pub at-two : (followsIn row ≡ 9 → ⊥) → (followsIn row ≡ 7 → ⊥) → (followsIn row ≡ 6 → ⊥) → parseE d (drop at s) ≡ operands (two (operationAt (operatorIn row))) (parseE (d - 1)) rest
     at-two q r n = after-e (expression (of-two (operationAt (operatorIn row)))) (is-two code p q r n)
 
   module _ {row : ℕ} (p : Constraint row ≡ opened code) where
-    pub at-comparison : sortIn row ≡ 2 → parseC d (drop at s) ≡ operands (compared (comparisonAt (operatorIn row))) (parseE (d - 1)) rest
+    pub at-comparison : followsIn row ≡ 10 → parseC d (drop at s) ≡ operands (compared (comparisonAt (operatorIn row))) (parseE (d - 1)) rest
     at-comparison q = after-c (constraint (of-comparison (comparisonAt (operatorIn row)))) (is-comparison code p q)
 
-    pub at-occurrence : sortIn row ≡ 1 → parseC d (drop at s) ≡ twoBytes occurs rest
+    pub at-occurrence : followsIn row ≡ 9 → parseC d (drop at s) ≡ twoBytes occurs rest
     at-occurrence q = after-c (constraint an-occurrence) (is-occurrence code p q)
 
-    pub at-truth : countIn row ≡ 0 → parseC d (drop at s) ≡ parsed always 1
+    pub at-truth : followsIn row ≡ 0 → parseC d (drop at s) ≡ parsed always 1
     at-truth n = after-c (constraint a-truth) (is-truth code p n)
 
-    pub at-negation : (sortIn row ≡ 2 → ⊥) → (sortIn row ≡ 1 → ⊥) → countIn row ≡ 1 → parseC d (drop at s) ≡ operand negated (parseC (d - 1)) rest
-    at-negation q r n = after-c (constraint a-negation) (is-negation code p q r n)
+    pub at-negation : followsIn row ≡ 7 → parseC d (drop at s) ≡ operand negated (parseC (d - 1)) rest
+    at-negation q = after-c (constraint a-negation) (is-negation code p q)
 
-    pub at-junction : (sortIn row ≡ 2 → ⊥) → (sortIn row ≡ 1 → ⊥) → (countIn row ≡ 0 → ⊥) → (countIn row ≡ 1 → ⊥) → parseC d (drop at s) ≡ operands (joined (junctionAt (operatorIn row))) (parseC (d - 1)) rest
+    pub at-junction : (followsIn row ≡ 10 → ⊥) → (followsIn row ≡ 9 → ⊥) → (followsIn row ≡ 0 → ⊥) → (followsIn row ≡ 7 → ⊥) → parseC d (drop at s) ≡ operands (joined (junctionAt (operatorIn row))) (parseC (d - 1)) rest
     at-junction q r m n = after-c (constraint (of-junction (junctionAt (operatorIn row)))) (is-junction code p q r m n)
 
 -- The two bytes after a code.

@@ -17,7 +17,7 @@ use Rattle.law.specs.declared.checks.Checked.{Checked}
 use Rattle.law.specs.declared.checks.Checked.the-variants.{Next, Refused}
 use Rattle.law.specs.declared.table.Node.{Node}
 use Rattle.law.specs.declared.table.Node.the-variants as node
-use Rattle.law.specs.Table.{sortIn, operatorIn, opened}
+use Rattle.law.specs.Table.{followsIn, operatorIn, opened}
 
 -- the code's type: a place, or refusal 4, "payload not as described"
 abbrev pub checkedOf : Checked → Answer ℕ
@@ -96,7 +96,7 @@ pub record Inner (s : List ℕ) (n at depth row : ℕ) : Type 0 where
   pub deep : 1 ≤ depth
   pub inside : at < n
   pub opens : node.Expression row ≡ opened (codeOf (getD s at 0))
-  pub holds : sortIn row ≡ 1 → ⊥
+  pub holds : followsIn row ≡ 9 → ⊥
 
 -- where the expression, or the constraint, at a place of some bytes ends
 abbrev pub exprEnd : Test → ℕ → List ℕ → ℕ → Answer ℕ

@@ -14,7 +14,7 @@ use Rattle.bmap.specs.Code.{Parsed, codeOf, parseE, parseC}
 use lib.Dec.{eqb, leb}
 use lib.Signed.{leZ}
 use Rattle.law.specs.declared.table.Node.the-variants.{Expression}
-use Rattle.law.specs.Table.{opened, sortIn, operatorIn}
+use Rattle.law.specs.Table.{opened, followsIn, operatorIn}
 use Rattle.number.specs.Answer.{valuedOf, truthOf}
 use Rattle.law.specs.declared.eval.Evaluated.{Evaluated}
 use Rattle.law.specs.declared.eval.Evaluated.the-variants as value-as
@@ -90,7 +90,7 @@ pub record NoLeaf (s : List ℕ) (at depth row : ℕ) : Type 0 where
   pub deep : 1 ≤ depth
   pub inside : at < heldSize
   pub opens : Expression row ≡ opened (codeOf (getD s at 0))
-  pub tree : sortIn row ≡ 1 → ⊥
+  pub tree : followsIn row ≡ 9 → ⊥
 
 -- the expression, or the constraint, at a place of some bytes, read at position j
 abbrev pub valueAt : ℕ → List ℕ → ℕ → List ℤ → ℕ → Meant (Valued ℤ)

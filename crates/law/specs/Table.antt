@@ -99,6 +99,10 @@ operatorOf no-code = 0
 abbrev pub rowOf : Code → ℕ
 rowOf c = sortOf c + 4 * countOf c + 16 * operatorOf c
 
+-- sort and count in one: two bytes 9, an expression 6, two 10, a constraint 7, two 11; nothing 0
+abbrev pub followsIn : ℕ → ℕ
+followsIn row = row % 16
+
 abbrev pub sortIn : ℕ → ℕ
 sortIn row = row % 4
 

@@ -12,14 +12,17 @@ use crate::long::tree_in;
 use crate::may::allowed_in;
 use crate::may::entry_passes;
 use crate::may::leaf_passes;
-use crate::table::BYTES;
 use crate::table::CONSTRAINT;
 use crate::table::EXPRESSION;
+use crate::table::EXPRESSIONS;
+use crate::table::NOTHING;
 use crate::table::Node;
+use crate::table::ONE_CONSTRAINT;
+use crate::table::ONE_EXPRESSION;
+use crate::table::PAIR;
 use crate::table::ROWS;
-use crate::table::count;
+use crate::table::follows;
 use crate::table::opens;
-use crate::table::sort;
 use crate::table::table;
 use bmap::Context;
 
@@ -83,7 +86,7 @@ fn expression_in(
     let Node::Expression(row) = opens(table, s[at]) else {
         return REFUSED;
     };
-    if sort(row) == BYTES {
+    if follows(row) == PAIR {
         return leaf_at(s, n, at, may, row);
     }
     inner_in(s, n, at, depth, may, table, row)
@@ -102,11 +105,12 @@ fn inner_in(
     requires { ⌜ LawIn (now s) n × ((now table ≡ rows) × Inner (now s) n at depth row) ⌝ }
     ensures { λ r. ⌜ ((t : Test) → Asks may t → nextOf r ≡ exprEnd t depth (take n (now (s .entry))) at) ⌝ }
 {
-    if sort(row) == CONSTRAINT {
+    let operands = follows(row);
+    if operands == ONE_CONSTRAINT {
         return constraint_in(s, n, at + 1, depth - 1, may, table);
     }
     let middle = expression_in(s, n, at + 1, depth - 1, may, table);
-    if count(row) == 1 {
+    if operands == ONE_EXPRESSION {
         return middle;
     }
     if middle == REFUSED {
@@ -135,21 +139,22 @@ fn constraint_in(
     let Node::Constraint(row) = opens(table, s[at]) else {
         return REFUSED;
     };
-    if sort(row) == EXPRESSION {
+    let operands = follows(row);
+    if operands == EXPRESSIONS {
         let middle = expression_in(s, n, at + 1, depth - 1, may, table);
         if middle == REFUSED {
             return REFUSED;
         }
         return expression_in(s, n, middle, depth - 1, may, table);
     }
-    if sort(row) == BYTES {
+    if operands == PAIR {
         return entry_at(s, n, at, may);
     }
-    if count(row) == 0 {
+    if operands == NOTHING {
         return at + 1;
     }
     let middle = constraint_in(s, n, at + 1, depth - 1, may, table);
-    if count(row) == 1 {
+    if operands == ONE_CONSTRAINT {
         return middle;
     }
     if middle == REFUSED {

@@ -18,19 +18,20 @@ use crate::packed::truth_of;
 use crate::packed::value_of;
 use crate::packed::with_truth;
 use crate::packed::with_value;
-use crate::table::BYTES;
-use crate::table::CONSTRAINT;
-use crate::table::EXPRESSION;
+use crate::table::EXPRESSIONS;
+use crate::table::NOTHING;
 use crate::table::Node;
+use crate::table::ONE_CONSTRAINT;
+use crate::table::ONE_EXPRESSION;
+use crate::table::PAIR;
 use crate::table::ROWS;
 use crate::table::comparison;
-use crate::table::count;
+use crate::table::follows;
 use crate::table::junction;
 use crate::table::opens;
 use crate::table::operation;
 use crate::table::operator;
 use crate::table::single;
-use crate::table::sort;
 use crate::table::table;
 use bmap::Comparison;
 use bmap::Counts;
@@ -223,7 +224,7 @@ fn value_in(
     let Node::Expression(row) = opens(table, s[at]) else {
         return MALFORMED;
     };
-    if sort(row) == BYTES {
+    if follows(row) == PAIR {
         return leaf_in(s, at, history, j, row);
     }
     inner_value(s, at, depth, history, j, table, row)
@@ -242,11 +243,12 @@ fn inner_value(
     requires { ⌜ (Lent (now s) (now history) j × (now table ≡ rows)) × NoLeaf (now s) at depth row ⌝ }
     ensures { λ r. ⌜ evaluatedIn r ≡ valueAt depth (now (s .entry)) at (now (history .entry)) j ⌝ }
 {
-    if sort(row) == CONSTRAINT {
+    let operands = follows(row);
+    if operands == ONE_CONSTRAINT {
         return reified_of(truth_in(s, at + 1, depth - 1, history, j, table));
     }
     let a = value_in(s, at + 1, depth - 1, history, j, table);
-    if count(row) == 1 {
+    if operands == ONE_EXPRESSION {
         return changed_of(single(operator(row)), a);
     }
     let next = end_of(a);
@@ -281,7 +283,8 @@ fn truth_in(
     let Node::Constraint(row) = opens(table, s[at]) else {
         return MALFORMED;
     };
-    if sort(row) == EXPRESSION {
+    let operands = follows(row);
+    if operands == EXPRESSIONS {
         let a = value_in(s, at + 1, depth - 1, history, j, table);
         let next = end_of(a);
         if next == 0 {
@@ -293,14 +296,14 @@ fn truth_in(
             value_in(s, next, depth - 1, history, j, table),
         );
     }
-    if sort(row) == BYTES {
+    if operands == PAIR {
         return occurrence_in(s, at, history, j);
     }
-    if count(row) == 0 {
+    if operands == NOTHING {
         return with_truth(Truth::Is(true), at + 1);
     }
     let a = truth_in(s, at + 1, depth - 1, history, j, table);
-    if count(row) == 1 {
+    if operands == ONE_CONSTRAINT {
         return negated_of(a);
     }
     let next = end_of(a);

@@ -8,12 +8,14 @@ ghost use Rattle.law.specs.Check.{nextOf, Test, Asks, rowFor, pairPasses
 use crate::checks::REFUSED;
 use crate::may::entry_passes;
 use crate::may::leaf_passes;
-use crate::table::BYTES;
 use crate::table::CONSTRAINT;
+use crate::table::NOTHING;
 use crate::table::Node;
+use crate::table::PAIR;
 use crate::table::Pair;
 use crate::table::ROWS;
 use crate::table::count;
+use crate::table::follows;
 use crate::table::opens;
 use crate::table::pair_after;
 use crate::table::sort;
@@ -62,11 +64,10 @@ pub(crate) fn tree_in(
     if row == NONE {
         return REFUSED;
     }
-    if count(row) == 0 {
+    if follows(row) == NOTHING {
         return at + 1;
     }
-    let operands = sort(row);
-    if operands == BYTES {
+    if follows(row) == PAIR {
         let Pair::Bytes(a, b) = pair_after(s, at) else {
             return REFUSED;
         };
@@ -75,6 +76,7 @@ pub(crate) fn tree_in(
         }
         return REFUSED;
     }
+    let operands = sort(row);
     let middle = tree_in(s, at + 1, depth - 1, may, operands, table);
     if count(row) == 1 {
         return middle;

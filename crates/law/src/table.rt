@@ -1,12 +1,12 @@
 // "The number of operands of each code is kept as one table, code by code": what the operands of a code are, how many there
 // are, and which operator is made of them. The checker, the evaluator and the search for fluents take the three from a row,
-// the leaves 10 and 11 too, and look at no code a second time. Where the sort of the operands leaves one count only (two bytes,
-// two expressions of a constraint, one constraint of an expression), no count is asked.
+// the leaves 10 and 11 too, and look at no code a second time. Sort and count are asked in one, so that no code passes by its
+// sort alone.
 ghost use mathlib.Core.Path.{_≡_};
 ghost use Prim.Native.Nat.{_+_, _≤_, _<_};
 ghost use lib.ListN.{drop};
 ghost use Rattle.bmap.specs.Code.{codeOf};
-ghost use Rattle.law.specs.Table.{opened, pairOf, rowOf, rows, sortIn, countIn, operatorIn, operationAt, singleAt, comparisonAt, junctionAt};
+ghost use Rattle.law.specs.Table.{opened, pairOf, rowOf, rows, followsIn, sortIn, countIn, operatorIn, operationAt, singleAt, comparisonAt, junctionAt};
 use bmap::Comparison;
 use bmap::Junction;
 use bmap::Operation;
@@ -26,11 +26,25 @@ pub(crate) const EXPRESSION: u8 = 2;
 
 pub(crate) const CONSTRAINT: u8 = 3;
 
-// How many; and a step from an operator's number to the next.
+// How many.
 const ONE: u8 = 4;
 
 const TWO: u8 = 8;
 
+// The two in one, as they occur.
+pub(crate) const NOTHING: u8 = 0;
+
+pub(crate) const PAIR: u8 = BYTES + TWO;
+
+pub(crate) const ONE_EXPRESSION: u8 = EXPRESSION + ONE;
+
+pub(crate) const EXPRESSIONS: u8 = EXPRESSION + TWO;
+
+pub(crate) const ONE_CONSTRAINT: u8 = CONSTRAINT + ONE;
+
+const CONSTRAINTS: u8 = CONSTRAINT + TWO;
+
+// A step from an operator's number to the next.
 const NEXT: u8 = 16;
 
 pub(crate) const FIRST: u8 = 0x10;
@@ -40,33 +54,33 @@ pub(crate) const ROWS: usize = 32;
 // Code by code, from the first. A use copies the table, so who reads many rows keeps a copy and lends it; numbers, since an
 // array of an enum or a struct cannot be lent.
 pub(crate) const TABLE: [u8; ROWS] = [
-    BYTES + TWO, // 10 constant
-    BYTES + TWO + NEXT, // 11 fluent, lag
-    EXPRESSION + TWO, // 12 sum
-    EXPRESSION + TWO + NEXT, // 13 difference
-    EXPRESSION + TWO + 2 * NEXT, // 14 product
-    EXPRESSION + TWO + 3 * NEXT, // 15 quotient
-    EXPRESSION + TWO + 4 * NEXT, // 16 remainder
-    EXPRESSION + ONE, // 17 negation
-    EXPRESSION + ONE + NEXT, // 18 absolute value
-    CONSTRAINT + ONE, // 19 reified constraint
+    PAIR, // 10 constant
+    PAIR + NEXT, // 11 fluent, lag
+    EXPRESSIONS, // 12 sum
+    EXPRESSIONS + NEXT, // 13 difference
+    EXPRESSIONS + 2 * NEXT, // 14 product
+    EXPRESSIONS + 3 * NEXT, // 15 quotient
+    EXPRESSIONS + 4 * NEXT, // 16 remainder
+    ONE_EXPRESSION, // 17 negation
+    ONE_EXPRESSION + NEXT, // 18 absolute value
+    ONE_CONSTRAINT, // 19 reified constraint
     0, // 1A no code
     0, // 1B no code
     0, // 1C no code
     0, // 1D no code
     0, // 1E no code
     0, // 1F no code
-    EXPRESSION + TWO, // 20 =
-    EXPRESSION + TWO + NEXT, // 21 ≠
-    EXPRESSION + TWO + 2 * NEXT, // 22 <
-    EXPRESSION + TWO + 3 * NEXT, // 23 ≤
-    EXPRESSION + TWO + 4 * NEXT, // 24 >
-    EXPRESSION + TWO + 5 * NEXT, // 25 ≥
-    CONSTRAINT + TWO, // 26 and
-    CONSTRAINT + TWO + NEXT, // 27 or
-    CONSTRAINT + ONE, // 28 not
-    BYTES + TWO, // 29 entry, lag
-    0, // 2A true
+    EXPRESSIONS, // 20 =
+    EXPRESSIONS + NEXT, // 21 ≠
+    EXPRESSIONS + 2 * NEXT, // 22 <
+    EXPRESSIONS + 3 * NEXT, // 23 ≤
+    EXPRESSIONS + 4 * NEXT, // 24 >
+    EXPRESSIONS + 5 * NEXT, // 25 ≥
+    CONSTRAINTS, // 26 and
+    CONSTRAINTS + NEXT, // 27 or
+    ONE_CONSTRAINT, // 28 not
+    PAIR, // 29 entry, lag
+    NOTHING, // 2A true
     0, // 2B no code
     0, // 2C no code
     0, // 2D no code
@@ -99,6 +113,13 @@ pub(crate) fn opens(table: &[u8; ROWS], code: u8) -> Node
         0x20..=0x2A => Node::Constraint(row_of(table, code)),
         _ => Node::Refused,
     }
+}
+
+// What follows the code: of what sort, and how many.
+pub(crate) fn follows(row: u8) -> u8
+    ensures { λ r. ⌜ r ≡ followsIn row ⌝ }
+{
+    row % 16
 }
 
 pub(crate) fn sort(row: u8) -> u8

@@ -11,7 +11,7 @@ use lib.ListN.{length, take, getD}
 use Rattle.bmap.specs.Code.{codeOf}
 use Rattle.law.specs.declared.table.Node.the-variants.{Expression, Constraint}
 use Rattle.law.specs.Check.{passesE, passesC}
-use Rattle.law.specs.Table.{opened, sortIn, countIn}
+use Rattle.law.specs.Table.{opened, followsIn}
 use Rattle.law.proofs.Trees.{deep-e, deep-c, end-e, end-c, no-expression, no-constraint}
 use Rattle.law.proofs.CheckLaws.{nowhere, there, no-tree, inside, outside, code-at, check-leaf, check-reified, check-one, check-two, check-first}
 use Rattle.law.proofs.CheckLaws.{check-compared, check-first-e, check-occurrence, check-truth, check-negation, check-junction, check-first-c}
@@ -26,9 +26,8 @@ use Rattle.law.proofs.checks.inner_in.Kinds as inner-in-kinds
 use Rattle.law.proofs.checks.+constraint_in+expression_in+inner_in.Lts-inner_in as inner-in-lts
 use Rattle.law.proofs.checks.entry_at.Reads as entry-at-reads
 use Rattle.law.proofs.checks.leaf_at.Reads as leaf-at-reads
-use Rattle.law.proofs.table.count.Reads as count-reads
+use Rattle.law.proofs.table.follows.Reads as follows-reads
 use Rattle.law.proofs.table.opens.Reads as opens-reads
-use Rattle.law.proofs.table.sort.Reads as sort-reads
 use Rattle.law.proofs.checks.+constraint_in+expression_in+inner_in.{statement}
 use Rattle.law.proofs.checks.+constraint_in+expression_in+inner_in.Tie.{close}
 
@@ -62,13 +61,13 @@ module _ (t : ℕ) where
   inner-in-below = and 2 inner-in-kinds.ps (falls 2 inner-in-kinds.ps _<_ μ-inner-in t) inner-in.Pre
 
   abbrev by-constraint-in : constraint-in-lts.Claims
-  by-constraint-in = (opens-reads.Asked, opens-reads.Learnt, sort-reads.Asked, sort-reads.Learnt, expression-in-below, expression-in.Post, entry-at-reads.Asked, entry-at-reads.Learnt, count-reads.Asked, count-reads.Learnt, constraint-in-below, constraint-in.Post)
+  by-constraint-in = (opens-reads.Asked, opens-reads.Learnt, follows-reads.Asked, follows-reads.Learnt, expression-in-below, expression-in.Post, entry-at-reads.Asked, entry-at-reads.Learnt, constraint-in-below, constraint-in.Post)
 
   abbrev by-expression-in : expression-in-lts.Claims
-  by-expression-in = (opens-reads.Asked, opens-reads.Learnt, sort-reads.Asked, sort-reads.Learnt, leaf-at-reads.Asked, leaf-at-reads.Learnt, inner-in-below, inner-in.Post)
+  by-expression-in = (opens-reads.Asked, opens-reads.Learnt, follows-reads.Asked, follows-reads.Learnt, leaf-at-reads.Asked, leaf-at-reads.Learnt, inner-in-below, inner-in.Post)
 
   abbrev by-inner-in : inner-in-lts.Claims
-  by-inner-in = (sort-reads.Asked, sort-reads.Learnt, constraint-in-below, constraint-in.Post, expression-in-below, expression-in.Post, count-reads.Asked, count-reads.Learnt)
+  by-inner-in = (follows-reads.Asked, follows-reads.Learnt, constraint-in-below, constraint-in.Post, expression-in-below, expression-in.Post)
 
   abbrev Start-c : Type 0
   Start-c = constraint-in-lts.Start by-constraint-in constraint-in-at constraint-in.Post
@@ -79,27 +78,30 @@ module _ (t : ℕ) where
   fits-c : (k : Start-c) → k .args .n ≤ length (k .args .s .now)
   fits-c k = omega (arith, k .pre .1 .0 .room, k .pre .1 .0 .few)
 
-  -- where the row of the code is known
+  -- where it is known what follows the code
   abbrev Row-c : Type 0
-  Row-c = constraint-in-lts.After-known-told by-constraint-in constraint-in-at constraint-in.Post
+  Row-c = constraint-in-lts.After-follows by-constraint-in constraint-in-at constraint-in.Post
 
   abbrev start-c : Row-c → Start-c
-  start-c k = k .before .before .before .before .before .before .before
+  start-c k = k .before .before .before .before .before .before .before .before
 
   some-c : (k : Row-c) → start-c k .args .depth ≡ 0 → ⊥
-  some-c k = k .before .before .before .before .before .before .if1 .left
+  some-c k = k .before .before .before .before .before .before .before .if1 .left
 
   below-c : (k : Row-c) → start-c k .args .at < start-c k .args .n
-  below-c k = k .before .before .before .before .before .if2 .left
+  below-c k = k .before .before .before .before .before .before .if2 .left
 
   inside-c : (k : Row-c) → start-c k .args .at < length (law-c (start-c k))
   inside-c k = let i = start-c k in inside (i .args .s .now) (i .args .n) (fits-c i) (below-c k)
 
   abbrev row-c : Row-c → ℕ
-  row-c k = k .before .row .given .0 .0
+  row-c k = k .before .before .row .given .0 .0
+
+  told-c : (k : Row-c) → k .follows .result ≡ followsIn (row-c k)
+  told-c k = k .follows .ensures
 
   read-c : (k : Row-c) → Constraint (row-c k) ≡ opened (codeOf (getD (start-c k .args .s .now) (start-c k .args .at) 0))
-  read-c k = sym (k .before .row .given .1) ∙ k .before .before .before .opens .ensures
+  read-c k = sym (k .before .before .row .given .1) ∙ k .before .before .before .before .opens .ensures
 
   opens-c : (k : Row-c) → Constraint (row-c k) ≡ opened (codeOf (getD (law-c (start-c k)) (start-c k .args .at) 0))
   opens-c k = let i = start-c k in code-at (i .args .s .now) (i .args .n) (fits-c i) (λ b. opened (codeOf b)) (i .args .at) (below-c k) (read-c k)
@@ -131,27 +133,30 @@ module _ (t : ℕ) where
   fits-e : (k : Start-e) → k .args .n ≤ length (k .args .s .now)
   fits-e k = omega (arith, k .pre .1 .0 .room, k .pre .1 .0 .few)
 
-  -- where the row of the code is known
+  -- where it is known what follows the code
   abbrev Row-e : Type 0
-  Row-e = expression-in-lts.After-known-told by-expression-in expression-in-at expression-in.Post
+  Row-e = expression-in-lts.After-follows by-expression-in expression-in-at expression-in.Post
 
   abbrev start-e : Row-e → Start-e
-  start-e k = k .before .before .before .before .before .before .before
+  start-e k = k .before .before .before .before .before .before .before .before
 
   some-e : (k : Row-e) → start-e k .args .depth ≡ 0 → ⊥
-  some-e k = k .before .before .before .before .before .before .if1 .left
+  some-e k = k .before .before .before .before .before .before .before .if1 .left
 
   below-e : (k : Row-e) → start-e k .args .at < start-e k .args .n
-  below-e k = k .before .before .before .before .before .if2 .left
+  below-e k = k .before .before .before .before .before .before .if2 .left
 
   inside-e : (k : Row-e) → start-e k .args .at < length (law-e (start-e k))
   inside-e k = let i = start-e k in inside (i .args .s .now) (i .args .n) (fits-e i) (below-e k)
 
   abbrev row-e : Row-e → ℕ
-  row-e k = k .before .row .given .0 .0
+  row-e k = k .before .before .row .given .0 .0
+
+  told-e : (k : Row-e) → k .follows .result ≡ followsIn (row-e k)
+  told-e k = k .follows .ensures
 
   read-e : (k : Row-e) → Expression (row-e k) ≡ opened (codeOf (getD (start-e k .args .s .now) (start-e k .args .at) 0))
-  read-e k = sym (k .before .row .given .1) ∙ k .before .before .before .opens .ensures
+  read-e k = sym (k .before .before .row .given .1) ∙ k .before .before .before .before .opens .ensures
 
   opens-e : (k : Row-e) → Expression (row-e k) ≡ opened (codeOf (getD (law-e (start-e k)) (start-e k .args .at) 0))
   opens-e k = let i = start-e k in code-at (i .args .s .now) (i .args .n) (fits-e i) (λ b. opened (codeOf b)) (i .args .at) (below-e k) (read-e k)
@@ -176,67 +181,72 @@ module _ (t : ℕ) where
 
   constraint-in-returns-4 : constraint-in-lts.Need-returns-4 by-constraint-in constraint-in-at constraint-in.Post
   constraint-in-returns-4 c = λ g asks.
-      let k = c .before .before .before .before in
+      let k = c .before .before .before in
       let i = start-c k in
-      let q : sortIn (row-c k) ≡ 2 = sym (c .before .before .before .sort .ensures) ∙ c .before .before .if3 .taken in
-      check-first-e g (law-c i) (i .args .at) (i .args .depth) (some-c k) (inside-c k) (opens-c k) q (nowhere (c .if4 .taken) ∙ c .before .expression-in .ensures g asks)
+      check-first-e g (law-c i) (i .args .at) (i .args .depth) (some-c k) (inside-c k) (opens-c k) (sym (told-c k) ∙ c .before .before .if3 .taken) (nowhere (c .if4 .taken) ∙ c .before .expression-in .ensures g asks)
 
   constraint-in-returns-5 : constraint-in-lts.Need-returns-5 by-constraint-in constraint-in-at constraint-in.Post
   constraint-in-returns-5 c = λ g asks.
-      let k = c .before .before .before .before .before in
+      let k = c .before .before .before .before in
       let i = start-c k in
-      let q : sortIn (row-c k) ≡ 2 = sym (c .before .before .before .before .sort .ensures) ∙ c .before .before .before .if3 .taken in
-      c .expression-in2 .ensures g asks ∙ check-compared g (law-c i) (i .args .at) (i .args .depth) (some-c k) (inside-c k) (opens-c k) q (there _ (c .before .if4 .left) ∙ c .before .before .expression-in .ensures g asks)
+      c .expression-in2 .ensures g asks ∙ check-compared g (law-c i) (i .args .at) (i .args .depth) (some-c k) (inside-c k) (opens-c k) (sym (told-c k) ∙ c .before .before .before .if3 .taken) (there _ (c .before .if4 .left) ∙ c .before .before .expression-in .ensures g asks)
 
   constraint-in-returns-6 : constraint-in-lts.Need-returns-6 by-constraint-in constraint-in-at constraint-in.Post
   constraint-in-returns-6 c = λ g asks.
-      let k = c .before .before .before .before .before in
+      let k = c .before .before .before in
       let i = start-c k in
-      let q : sortIn (row-c k) ≡ 1 = sym (c .before .before .sort2 .ensures) ∙ c .before .if5 .taken in
-      c .entry-at .ensures g asks ∙ check-occurrence g (law-c i) (i .args .at) (i .args .depth) (some-c k) (inside-c k) (opens-c k) q
+      c .entry-at .ensures g asks ∙ check-occurrence g (law-c i) (i .args .at) (i .args .depth) (some-c k) (inside-c k) (opens-c k) (sym (told-c k) ∙ c .before .if5 .taken)
 
   constraint-in-returns-7 : constraint-in-lts.Need-returns-7 by-constraint-in constraint-in-at constraint-in.Post
   constraint-in-returns-7 c = λ g asks.
-      let k = c .before .before .before .before .before .before in
+      let k = c .before .before .before in
       let i = start-c k in
-      let n : countIn (row-c k) ≡ 0 = sym (c .before .count .ensures) ∙ c .if6 .taken in
-      check-truth g (law-c i) (i .args .at) (i .args .depth) (some-c k) (inside-c k) (opens-c k) n
+      check-truth g (law-c i) (i .args .at) (i .args .depth) (some-c k) (inside-c k) (opens-c k) (sym (told-c k) ∙ c .if6 .taken)
 
   constraint-in-returns-8 : constraint-in-lts.Need-returns-8 by-constraint-in constraint-in-at constraint-in.Post
   constraint-in-returns-8 c = λ g asks.
-      let k = c .before .before .before .before .before .before .before .before .before in
+      let k = c .before .before .before .before .before in
       let i = start-c k in
-      let q : sortIn (row-c k) ≡ 2 → ⊥ = λ e. c .before .before .before .before .before .before .before .if3 .left (c .before .before .before .before .before .before .before .before .sort .ensures ∙ e) in
-      let r : sortIn (row-c k) ≡ 1 → ⊥ = λ e. c .before .before .before .before .before .if5 .left (c .before .before .before .before .before .before .sort2 .ensures ∙ e) in
-      let n : countIn (row-c k) ≡ 1 = sym (c .before .count2 .ensures) ∙ c .if7 .taken in
-      c .before .before .constraint-in .ensures g asks ∙ check-negation g (law-c i) (i .args .at) (i .args .depth) (some-c k) (inside-c k) (opens-c k) q r n
+      c .before .constraint-in .ensures g asks ∙ check-negation g (law-c i) (i .args .at) (i .args .depth) (some-c k) (inside-c k) (opens-c k) (sym (told-c k) ∙ c .if7 .taken)
+
+  -- where two constraints follow
+  abbrev Two-c : Type 0
+  Two-c = constraint-in-lts.Else7 by-constraint-in constraint-in-at constraint-in.Post
+
+  abbrev row-of : Two-c → Row-c
+  row-of c = c .before .before .before .before .before
+
+  no-expressions : (c : Two-c) → followsIn (row-c (row-of c)) ≡ 10 → ⊥
+  no-expressions c e = c .before .before .before .before .if3 .left (told-c (row-of c) ∙ e)
+
+  no-pair : (c : Two-c) → followsIn (row-c (row-of c)) ≡ 9 → ⊥
+  no-pair c e = c .before .before .before .if5 .left (told-c (row-of c) ∙ e)
+
+  not-nothing : (c : Two-c) → followsIn (row-c (row-of c)) ≡ 0 → ⊥
+  not-nothing c e = c .before .before .if6 .left (told-c (row-of c) ∙ e)
+
+  not-one : (c : Two-c) → followsIn (row-c (row-of c)) ≡ 7 → ⊥
+  not-one c e = c .if7 .left (told-c (row-of c) ∙ e)
 
   constraint-in-returns-9 : constraint-in-lts.Need-returns-9 by-constraint-in constraint-in-at constraint-in.Post
   constraint-in-returns-9 c = λ g asks.
-      let k = c .before .before .before .before .before .before .before .before .before .before in
+      let w = c .before in
+      let k = row-of w in
       let i = start-c k in
-      let q : sortIn (row-c k) ≡ 2 → ⊥ = λ e. c .before .before .before .before .before .before .before .before .if3 .left (c .before .before .before .before .before .before .before .before .before .sort .ensures ∙ e) in
-      let r : sortIn (row-c k) ≡ 1 → ⊥ = λ e. c .before .before .before .before .before .before .if5 .left (c .before .before .before .before .before .before .before .sort2 .ensures ∙ e) in
-      let m : countIn (row-c k) ≡ 0 → ⊥ = λ e. c .before .before .before .before .if6 .left (c .before .before .before .before .before .count .ensures ∙ e) in
-      let n : countIn (row-c k) ≡ 1 → ⊥ = λ e. c .before .if7 .left (c .before .before .count2 .ensures ∙ e) in
-      check-first-c g (law-c i) (i .args .at) (i .args .depth) (some-c k) (inside-c k) (opens-c k) q r m n (nowhere (c .if8 .taken) ∙ c .before .before .before .constraint-in .ensures g asks)
+      check-first-c g (law-c i) (i .args .at) (i .args .depth) (some-c k) (inside-c k) (opens-c k) (no-expressions w) (no-pair w) (not-nothing w) (not-one w) (nowhere (c .if8 .taken) ∙ w .before .constraint-in .ensures g asks)
 
   constraint-in-returns-10 : constraint-in-lts.Need-returns-10 by-constraint-in constraint-in-at constraint-in.Post
   constraint-in-returns-10 c = λ g asks.
-      let k = c .before .before .before .before .before .before .before .before .before .before .before in
+      let w = c .before .before in
+      let k = row-of w in
       let i = start-c k in
-      let q : sortIn (row-c k) ≡ 2 → ⊥ = λ e. c .before .before .before .before .before .before .before .before .before .if3 .left (c .before .before .before .before .before .before .before .before .before .before .sort .ensures ∙ e) in
-      let r : sortIn (row-c k) ≡ 1 → ⊥ = λ e. c .before .before .before .before .before .before .before .if5 .left (c .before .before .before .before .before .before .before .before .sort2 .ensures ∙ e) in
-      let m : countIn (row-c k) ≡ 0 → ⊥ = λ e. c .before .before .before .before .before .if6 .left (c .before .before .before .before .before .before .count .ensures ∙ e) in
-      let n : countIn (row-c k) ≡ 1 → ⊥ = λ e. c .before .before .if7 .left (c .before .before .before .count2 .ensures ∙ e) in
-      c .constraint-in2 .ensures g asks ∙ check-junction g (law-c i) (i .args .at) (i .args .depth) (some-c k) (inside-c k) (opens-c k) q r m n (there _ (c .before .if8 .left) ∙ c .before .before .before .before .constraint-in .ensures g asks)
+      c .constraint-in2 .ensures g asks ∙ check-junction g (law-c i) (i .args .at) (i .args .depth) (some-c k) (inside-c k) (opens-c k) (no-expressions w) (no-pair w) (not-nothing w) (not-one w) (there _ (c .before .if8 .left) ∙ w .before .constraint-in .ensures g asks)
 
   expression-in-returns-4 : expression-in-lts.Need-returns-4 by-expression-in expression-in-at expression-in.Post
   expression-in-returns-4 c = λ g asks.
-      let k = c .before .before .before in
+      let k = c .before .before in
       let i = start-e k in
-      let q : sortIn (row-e k) ≡ 1 = sym (c .before .before .sort .ensures) ∙ c .before .if3 .taken in
-      c .leaf-at .ensures g asks ∙ check-leaf g (law-e i) (i .args .at) (i .args .depth) (some-e k) (inside-e k) (opens-e k) q
+      c .leaf-at .ensures g asks ∙ check-leaf g (law-e i) (i .args .at) (i .args .depth) (some-e k) (inside-e k) (opens-e k) (sym (told-e k) ∙ c .before .if3 .taken)
 
   expression-in-returns-5 : expression-in-lts.Need-returns-5 by-expression-in expression-in-at expression-in.Post
   expression-in-returns-5 c = λ g asks. c .inner-in .ensures g asks
@@ -262,29 +272,37 @@ module _ (t : ℕ) where
   inner-in-returns : inner-in-lts.Need-returns by-inner-in inner-in-at inner-in.Post
   inner-in-returns c = λ g asks.
       let i = c .before .before .before in
-      let q : sortIn (i .args .row) ≡ 3 = sym (c .before .before .sort .ensures) ∙ c .before .if1 .taken in
-      c .constraint-in .ensures g asks ∙ check-reified g (law-i i) (i .args .at) (i .args .depth) (some-i i) (inside-i i) (opens-i i) q
+      c .constraint-in .ensures g asks ∙ check-reified g (law-i i) (i .args .at) (i .args .depth) (some-i i) (inside-i i) (opens-i i) (sym (c .before .before .follows .ensures) ∙ c .before .if1 .taken)
 
   inner-in-returns-2 : inner-in-lts.Need-returns-2 by-inner-in inner-in-at inner-in.Post
   inner-in-returns-2 c = λ g asks.
-      let i = c .before .before .before .before .before in
-      let r : sortIn (i .args .row) ≡ 3 → ⊥ = λ e. c .before .before .before .if1 .left (c .before .before .before .before .sort .ensures ∙ e) in
-      let n : countIn (i .args .row) ≡ 1 = sym (c .before .count .ensures) ∙ c .if2 .taken in
-      c .before .before .expression-in .ensures g asks ∙ check-one g (law-i i) (i .args .at) (i .args .depth) (some-i i) (inside-i i) (opens-i i) (i .pre .1 .1 .1 .holds) r n
+      let i = c .before .before .before .before in
+      c .before .expression-in .ensures g asks ∙ check-one g (law-i i) (i .args .at) (i .args .depth) (some-i i) (inside-i i) (opens-i i) (sym (c .before .before .before .follows .ensures) ∙ c .if2 .taken)
+
+  -- where two expressions follow
+  abbrev Two-i : Type 0
+  Two-i = inner-in-lts.Else2 by-inner-in inner-in-at inner-in.Post
+
+  abbrev start-of : Two-i → Start-i
+  start-of c = c .before .before .before .before
+
+  no-constraint-i : (c : Two-i) → followsIn (start-of c .args .row) ≡ 7 → ⊥
+  no-constraint-i c e = c .before .before .if1 .left (c .before .before .before .follows .ensures ∙ e)
+
+  not-one-i : (c : Two-i) → followsIn (start-of c .args .row) ≡ 6 → ⊥
+  not-one-i c e = c .if2 .left (c .before .before .before .follows .ensures ∙ e)
 
   inner-in-returns-3 : inner-in-lts.Need-returns-3 by-inner-in inner-in-at inner-in.Post
   inner-in-returns-3 c = λ g asks.
-      let i = c .before .before .before .before .before .before in
-      let r : sortIn (i .args .row) ≡ 3 → ⊥ = λ e. c .before .before .before .before .if1 .left (c .before .before .before .before .before .sort .ensures ∙ e) in
-      let n : countIn (i .args .row) ≡ 1 → ⊥ = λ e. c .before .if2 .left (c .before .before .count .ensures ∙ e) in
-      check-first g (law-i i) (i .args .at) (i .args .depth) (some-i i) (inside-i i) (opens-i i) (i .pre .1 .1 .1 .holds) r n (nowhere (c .if3 .taken) ∙ c .before .before .before .expression-in .ensures g asks)
+      let w = c .before in
+      let i = start-of w in
+      check-first g (law-i i) (i .args .at) (i .args .depth) (some-i i) (inside-i i) (opens-i i) (i .pre .1 .1 .1 .holds) (no-constraint-i w) (not-one-i w) (nowhere (c .if3 .taken) ∙ w .before .expression-in .ensures g asks)
 
   inner-in-returns-4 : inner-in-lts.Need-returns-4 by-inner-in inner-in-at inner-in.Post
   inner-in-returns-4 c = λ g asks.
-      let i = c .before .before .before .before .before .before .before in
-      let r : sortIn (i .args .row) ≡ 3 → ⊥ = λ e. c .before .before .before .before .before .if1 .left (c .before .before .before .before .before .before .sort .ensures ∙ e) in
-      let n : countIn (i .args .row) ≡ 1 → ⊥ = λ e. c .before .before .if2 .left (c .before .before .before .count .ensures ∙ e) in
-      c .expression-in2 .ensures g asks ∙ check-two g (law-i i) (i .args .at) (i .args .depth) (some-i i) (inside-i i) (opens-i i) (i .pre .1 .1 .1 .holds) r n (there _ (c .before .if3 .left) ∙ c .before .before .before .before .expression-in .ensures g asks)
+      let w = c .before .before in
+      let i = start-of w in
+      c .expression-in2 .ensures g asks ∙ check-two g (law-i i) (i .args .at) (i .args .depth) (some-i i) (inside-i i) (opens-i i) (i .pre .1 .1 .1 .holds) (no-constraint-i w) (not-one-i w) (there _ (c .before .if3 .left) ∙ w .before .expression-in .ensures g asks)
 
 pub +constraint-in+expression-in+inner-in-spec : {M : Type 1} → statement M
 +constraint-in+expression-in+inner-in-spec =
@@ -299,25 +317,22 @@ pub +constraint-in+expression-in+inner-in-spec : {M : Type 1} → statement M
     (λ c κs. search needs)
     (λ c. search needs)
     (λ c. search needs)
-    (λ c κs. (omega arith, c .before .before .before .before .before .before .before .before .before .pre .1))
+    (λ c κs. (omega arith, start-c t (c .before) .pre .1))
     (constraint-in-returns-4 t)
     (λ c. search needs)
-    (λ c κs. (omega arith, c .before .before .before .before .before .before .before .before .before .before .before .pre .1))
+    (λ c κs. (omega arith, start-c t (c .before .before .before) .pre .1))
     (constraint-in-returns-5 t)
-    (λ c κs. search needs)
-    (λ c κs. (c .before .before .before .before .before .before .before .before .before .before .before .pre .1 .0, c .before .before .before .before .before .before .before .before .before .if2 .left))
+    (λ c κs. let k = c .before .before in (start-c t k .pre .1 .0, below-c t k))
     (constraint-in-returns-6 t)
-    (λ c κs. search needs)
     (λ c. search needs)
     (constraint-in-returns-7 t)
     (λ c. search needs)
     (λ c. search needs)
-    (λ c κs. (omega arith, c .before .before .before .before .before .before .before .before .before .before .before .before .before .pre .1))
-    (λ c κs. search needs)
+    (λ c κs. (omega arith, start-c t (c .before .before .before) .pre .1))
     (constraint-in-returns-8 t)
     (constraint-in-returns-9 t)
     (λ c. search needs)
-    (λ c κs. (omega arith, c .before .before .before .before .before .before .before .before .before .before .before .before .before .before .before .before .before .pre .1))
+    (λ c κs. (omega arith, start-c t (row-of t (c .before)) .pre .1))
     (constraint-in-returns-10 t))
     (λ t. expression-in-lts.spec (by-expression-in t) (expression-in-at t) expression-in.Post
     (expression-in-returns t)
@@ -327,11 +342,11 @@ pub +constraint-in+expression-in+inner-in-spec : {M : Type 1} → statement M
     (λ c. search needs)
     (expression-in-returns-3 t)
     (λ c κs. search needs)
-    (λ c κs. (c .before .before .before .before .before .before .before .before .before .pre .1 .0, c .before .before .before .before .before .before .before .if2 .left))
+    (λ c κs. let k = c .before in (start-e t k .pre .1 .0, below-e t k))
     (expression-in-returns-4 t)
-    (λ c κs. let k = c .before .before in
+    (λ c κs. let k = c .before in
     let p = start-e t k .pre .1 in
-    (omega arith, (p .0, (p .1, record { deep = omega arith; inside = below-e t k; opens = read-e t k; holds = λ e. c .if3 .left (c .before .sort .ensures ∙ e) }))))
+    (omega arith, (p .0, (p .1, record { deep = omega arith; inside = below-e t k; opens = read-e t k; holds = λ e. c .if3 .left (told-e t k ∙ e) }))))
     (expression-in-returns-5 t))
     (λ t. inner-in-lts.spec (by-inner-in t) (inner-in-at t) inner-in.Post
     (λ c κs. search needs)
@@ -342,9 +357,8 @@ pub +constraint-in+expression-in+inner-in-spec : {M : Type 1} → statement M
     (λ c. search needs)
     (λ c. search needs)
     (λ c κs. let p = c .before .before .pre .1 in (omega (arith, p .1 .1 .deep), (p .0, p .1 .0)))
-    (λ c κs. search needs)
     (inner-in-returns-2 t)
     (inner-in-returns-3 t)
     (λ c. search needs)
-    (λ c κs. let p = c .before .before .before .before .before .before .pre .1 in (omega (arith, p .1 .1 .deep), (p .0, p .1 .0)))
+    (λ c κs. let p = start-of t (c .before) .pre .1 in (omega (arith, p .1 .1 .deep), (p .0, p .1 .0)))
     (inner-in-returns-4 t))

@@ -12,7 +12,7 @@ use Rattle.bmap.specs.Code.{codeOf}
 use Rattle.law.specs.declared.table.Node.the-variants.{Expression, Constraint}
 use Rattle.law.specs.Evaluate.{NoLeaf, onward, historyOf}
 use Rattle.law.specs.Packed.{valueIn, truthIn}
-use Rattle.law.specs.Table.{opened, sortIn, countIn}
+use Rattle.law.specs.Table.{opened, followsIn}
 use Rattle.law.proofs.Trees.{deep-e, deep-c, end-e, end-c, no-expression, no-constraint}
 use Rattle.law.proofs.PackedLaws.{ends-nowhere, ends-there}
 use Rattle.law.proofs.Evals.{nothing-there, eval-leaf, eval-reified, eval-one, eval-two, eval-first}
@@ -37,13 +37,12 @@ use Rattle.law.proofs.eval.reified_of.Reads as reified-of-reads
 use Rattle.law.proofs.packed.end_of.Reads as end-of-reads
 use Rattle.law.proofs.packed.with_truth.Reads as with-truth-reads
 use Rattle.law.proofs.table.comparison.Reads as comparison-reads
-use Rattle.law.proofs.table.count.Reads as count-reads
+use Rattle.law.proofs.table.follows.Reads as follows-reads
 use Rattle.law.proofs.table.junction.Reads as junction-reads
 use Rattle.law.proofs.table.opens.Reads as opens-reads
 use Rattle.law.proofs.table.operation.Reads as operation-reads
 use Rattle.law.proofs.table.operator.Reads as operator-reads
 use Rattle.law.proofs.table.single.Reads as single-reads
-use Rattle.law.proofs.table.sort.Reads as sort-reads
 use Rattle.law.proofs.eval.+inner_value+truth_in+value_in.{statement}
 use Rattle.law.proofs.eval.+inner_value+truth_in+value_in.Tie.{close}
 
@@ -77,32 +76,35 @@ module _ (t : ℕ) where
   value-in-below = and 3 value-in-kinds.ps (falls 3 value-in-kinds.ps _<_ μ-value-in t) value-in.Pre
 
   abbrev by-inner-value : inner-value-lts.Claims
-  by-inner-value = (sort-reads.Asked, sort-reads.Learnt, truth-in-below, truth-in.Post, reified-of-reads.Asked, reified-of-reads.Learnt, value-in-below, value-in.Post, count-reads.Asked, count-reads.Learnt, operator-reads.Asked, operator-reads.Learnt, single-reads.Asked, single-reads.Learnt, changed-of-reads.Asked, changed-of-reads.Learnt, end-of-reads.Asked, end-of-reads.Learnt, operation-reads.Asked, operation-reads.Learnt, operated-of-reads.Asked, operated-of-reads.Learnt)
+  by-inner-value = (follows-reads.Asked, follows-reads.Learnt, truth-in-below, truth-in.Post, reified-of-reads.Asked, reified-of-reads.Learnt, value-in-below, value-in.Post, operator-reads.Asked, operator-reads.Learnt, single-reads.Asked, single-reads.Learnt, changed-of-reads.Asked, changed-of-reads.Learnt, end-of-reads.Asked, end-of-reads.Learnt, operation-reads.Asked, operation-reads.Learnt, operated-of-reads.Asked, operated-of-reads.Learnt)
 
   abbrev by-truth-in : truth-in-lts.Claims
-  by-truth-in = (opens-reads.Asked, opens-reads.Learnt, sort-reads.Asked, sort-reads.Learnt, value-in-below, value-in.Post, end-of-reads.Asked, end-of-reads.Learnt, operator-reads.Asked, operator-reads.Learnt, comparison-reads.Asked, comparison-reads.Learnt, compared-of-reads.Asked, compared-of-reads.Learnt, occurrence-in-reads.Asked, occurrence-in-reads.Learnt, count-reads.Asked, count-reads.Learnt, with-truth-reads.Asked, with-truth-reads.Learnt, truth-in-below, truth-in.Post, negated-of-reads.Asked, negated-of-reads.Learnt, junction-reads.Asked, junction-reads.Learnt, joined-of-reads.Asked, joined-of-reads.Learnt)
+  by-truth-in = (opens-reads.Asked, opens-reads.Learnt, follows-reads.Asked, follows-reads.Learnt, value-in-below, value-in.Post, end-of-reads.Asked, end-of-reads.Learnt, operator-reads.Asked, operator-reads.Learnt, comparison-reads.Asked, comparison-reads.Learnt, compared-of-reads.Asked, compared-of-reads.Learnt, occurrence-in-reads.Asked, occurrence-in-reads.Learnt, with-truth-reads.Asked, with-truth-reads.Learnt, truth-in-below, truth-in.Post, negated-of-reads.Asked, negated-of-reads.Learnt, junction-reads.Asked, junction-reads.Learnt, joined-of-reads.Asked, joined-of-reads.Learnt)
 
   abbrev by-value-in : value-in-lts.Claims
-  by-value-in = (opens-reads.Asked, opens-reads.Learnt, sort-reads.Asked, sort-reads.Learnt, leaf-in-reads.Asked, leaf-in-reads.Learnt, inner-value-below, inner-value.Post)
+  by-value-in = (opens-reads.Asked, opens-reads.Learnt, follows-reads.Asked, follows-reads.Learnt, leaf-in-reads.Asked, leaf-in-reads.Learnt, inner-value-below, inner-value.Post)
 
-  -- where the row of the code is known
+  -- where it is known what follows the code
   abbrev Row-c : Type 0
-  Row-c = truth-in-lts.After-known-told by-truth-in truth-in-at truth-in.Post
+  Row-c = truth-in-lts.After-follows by-truth-in truth-in-at truth-in.Post
 
   abbrev start-c : Row-c → truth-in-lts.Start by-truth-in truth-in-at truth-in.Post
-  start-c k = k .before .before .before .before .before .before .before
+  start-c k = k .before .before .before .before .before .before .before .before
 
   some-c : (k : Row-c) → start-c k .args .depth ≡ 0 → ⊥
-  some-c k = k .before .before .before .before .before .before .if1 .left
+  some-c k = k .before .before .before .before .before .before .before .if1 .left
 
   inside-c : (k : Row-c) → start-c k .args .at < length (start-c k .args .s .now)
-  inside-c k = omega (arith, start-c k .pre .1 .0 .held, k .before .before .before .before .before .if2 .left)
+  inside-c k = omega (arith, start-c k .pre .1 .0 .held, k .before .before .before .before .before .before .if2 .left)
 
   abbrev row-c : Row-c → ℕ
-  row-c k = k .before .row .given .0 .0
+  row-c k = k .before .before .row .given .0 .0
+
+  told-c : (k : Row-c) → k .follows .result ≡ followsIn (row-c k)
+  told-c k = k .follows .ensures
 
   opens-c : (k : Row-c) → Constraint (row-c k) ≡ opened (codeOf (getD (start-c k .args .s .now) (start-c k .args .at) 0))
-  opens-c k = sym (k .before .row .given .1) ∙ k .before .before .before .opens .ensures
+  opens-c k = sym (k .before .before .row .given .1) ∙ k .before .before .before .before .opens .ensures
 
   truth-in-returns : truth-in-lts.Need-returns by-truth-in truth-in-at truth-in.Post
   truth-in-returns c =
@@ -123,24 +125,27 @@ module _ (t : ℕ) where
       let lt : a .at < length (a .s .now) = omega (arith, k .pre .1 .0 .held, c .before .before .before .if2 .left) in
       nothing-there (λ t. evalC t (historyOf (a .history .now)) (a .j)) (a .at) (no-constraint (a .s .now) (a .at) (a .depth) (c .before .before .before .before .if1 .left) lt _ (c .before .opens .ensures) (c .match .keys2))
 
-  -- where the row of the code is known
+  -- where it is known what follows the code
   abbrev Row-e : Type 0
-  Row-e = value-in-lts.After-known-told by-value-in value-in-at value-in.Post
+  Row-e = value-in-lts.After-follows by-value-in value-in-at value-in.Post
 
   abbrev start-e : Row-e → value-in-lts.Start by-value-in value-in-at value-in.Post
-  start-e k = k .before .before .before .before .before .before .before
+  start-e k = k .before .before .before .before .before .before .before .before
 
   some-e : (k : Row-e) → start-e k .args .depth ≡ 0 → ⊥
-  some-e k = k .before .before .before .before .before .before .if1 .left
+  some-e k = k .before .before .before .before .before .before .before .if1 .left
 
   inside-e : (k : Row-e) → start-e k .args .at < length (start-e k .args .s .now)
-  inside-e k = omega (arith, start-e k .pre .1 .0 .held, k .before .before .before .before .before .if2 .left)
+  inside-e k = omega (arith, start-e k .pre .1 .0 .held, k .before .before .before .before .before .before .if2 .left)
 
   abbrev row-e : Row-e → ℕ
-  row-e k = k .before .row .given .0 .0
+  row-e k = k .before .before .row .given .0 .0
+
+  told-e : (k : Row-e) → k .follows .result ≡ followsIn (row-e k)
+  told-e k = k .follows .ensures
 
   opens-e : (k : Row-e) → Expression (row-e k) ≡ opened (codeOf (getD (start-e k .args .s .now) (start-e k .args .at) 0))
-  opens-e k = sym (k .before .row .given .1) ∙ k .before .before .before .opens .ensures
+  opens-e k = sym (k .before .before .row .given .1) ∙ k .before .before .before .before .opens .ensures
 
   value-in-returns : value-in-lts.Need-returns by-value-in value-in-at value-in.Post
   value-in-returns c =
@@ -176,106 +181,121 @@ module _ (t : ℕ) where
 
   truth-in-returns-4 : truth-in-lts.Need-returns-4 by-truth-in truth-in-at truth-in.Post
   truth-in-returns-4 c =
-      let k = c .before .before .before .before .before in
+      let k = c .before .before .before .before in
       let a = start-c k .args in
-      let q : sortIn (row-c k) ≡ 2 = sym (c .before .before .before .before .sort .ensures) ∙ c .before .before .before .if3 .taken in
-      eval-first-e (a .s .now) (a .at) (a .depth) (a .history .now) (a .j) (some-c k) (inside-c k) (opens-c k) q (ends-nowhere (valueIn (c .before .before .value-in .result)) (c .before .end-of .ensures) (c .if4 .taken) ∙ c .before .before .value-in .ensures)
+      eval-first-e (a .s .now) (a .at) (a .depth) (a .history .now) (a .j) (some-c k) (inside-c k) (opens-c k) (sym (told-c k) ∙ c .before .before .before .if3 .taken) (ends-nowhere (valueIn (c .before .before .value-in .result)) (c .before .end-of .ensures) (c .if4 .taken) ∙ c .before .before .value-in .ensures)
 
   truth-in-returns-5 : truth-in-lts.Need-returns-5 by-truth-in truth-in-at truth-in.Post
   truth-in-returns-5 c =
-      let k = c .before .before .before .before .before .before .before .before .before in
+      let v = c .before .before .before .before .before .before in
+      let k = v .before .before in
       let a = start-c k .args in
-      let q : sortIn (row-c k) ≡ 2 = sym (c .before .before .before .before .before .before .before .before .sort .ensures) ∙ c .before .before .before .before .before .before .before .if3 .taken in
-      c .compared-of .ensures ∙ ap (onward _) (c .before .value-in2 .ensures) ∙ rw (c .before .before .comparison .ensures, c .before .before .before .operator .ensures) (eval-compared (a .s .now) (a .at) (a .depth) (a .history .now) (a .j) (some-c k) (inside-c k) (opens-c k) q (ends-there (valueIn (c .before .before .before .before .before .before .value-in .result)) (c .before .before .before .before .before .end-of .ensures) (c .before .before .before .before .if4 .left) ∙ c .before .before .before .before .before .before .value-in .ensures))
+      c .compared-of .ensures ∙ ap (onward _) (c .before .value-in2 .ensures) ∙ rw (c .before .before .comparison .ensures, c .before .before .before .operator .ensures) (eval-compared (a .s .now) (a .at) (a .depth) (a .history .now) (a .j) (some-c k) (inside-c k) (opens-c k) (sym (told-c k) ∙ v .before .if3 .taken) (ends-there (valueIn (v .value-in .result)) (c .before .before .before .before .before .end-of .ensures) (c .before .before .before .before .if4 .left) ∙ v .value-in .ensures))
 
   truth-in-returns-6 : truth-in-lts.Need-returns-6 by-truth-in truth-in-at truth-in.Post
   truth-in-returns-6 c =
-      let k = c .before .before .before .before .before in
+      let k = c .before .before .before in
       let a = start-c k .args in
-      let q : sortIn (row-c k) ≡ 1 = sym (c .before .before .sort2 .ensures) ∙ c .before .if5 .taken in
-      c .occurrence-in .ensures ∙ eval-occurrence (a .s .now) (a .at) (a .depth) (a .history .now) (a .j) (some-c k) (inside-c k) (opens-c k) q
+      c .occurrence-in .ensures ∙ eval-occurrence (a .s .now) (a .at) (a .depth) (a .history .now) (a .j) (some-c k) (inside-c k) (opens-c k) (sym (told-c k) ∙ c .before .if5 .taken)
 
   truth-in-returns-7 : truth-in-lts.Need-returns-7 by-truth-in truth-in-at truth-in.Post
   truth-in-returns-7 c =
-      let k = c .before .before .before .before .before .before .before in
+      let k = c .before .before .before .before in
       let a = start-c k .args in
-      let n : countIn (row-c k) ≡ 0 = sym (c .before .before .count .ensures) ∙ c .before .if6 .taken in
-      c .with-truth .ensures ∙ eval-truth (a .s .now) (a .at) (a .depth) (a .history .now) (a .j) (some-c k) (inside-c k) (opens-c k) n
+      c .with-truth .ensures ∙ eval-truth (a .s .now) (a .at) (a .depth) (a .history .now) (a .j) (some-c k) (inside-c k) (opens-c k) (sym (told-c k) ∙ c .before .if6 .taken)
 
   truth-in-returns-8 : truth-in-lts.Need-returns-8 by-truth-in truth-in-at truth-in.Post
   truth-in-returns-8 c =
-      let k = c .before .before .before .before .before .before .before .before .before .before in
+      let k = c .before .before .before .before .before .before in
       let a = start-c k .args in
-      let q : sortIn (row-c k) ≡ 2 → ⊥ = λ e. c .before .before .before .before .before .before .before .before .if3 .left (c .before .before .before .before .before .before .before .before .before .sort .ensures ∙ e) in
-      let r : sortIn (row-c k) ≡ 1 → ⊥ = λ e. c .before .before .before .before .before .before .if5 .left (c .before .before .before .before .before .before .before .sort2 .ensures ∙ e) in
-      let n : countIn (row-c k) ≡ 1 = sym (c .before .before .count2 .ensures) ∙ c .before .if7 .taken in
-      c .negated-of .ensures ∙ ap (onward _) (c .before .before .before .truth-in .ensures) ∙ eval-negation (a .s .now) (a .at) (a .depth) (a .history .now) (a .j) (some-c k) (inside-c k) (opens-c k) q r n
+      c .negated-of .ensures ∙ ap (onward _) (c .before .before .truth-in .ensures) ∙ eval-negation (a .s .now) (a .at) (a .depth) (a .history .now) (a .j) (some-c k) (inside-c k) (opens-c k) (sym (told-c k) ∙ c .before .if7 .taken)
+
+  -- where two constraints follow
+  abbrev Two-c : Type 0
+  Two-c = truth-in-lts.Else7 by-truth-in truth-in-at truth-in.Post
+
+  abbrev row-of : Two-c → Row-c
+  row-of c = c .before .before .before .before .before
+
+  no-expressions : (c : Two-c) → followsIn (row-c (row-of c)) ≡ 10 → ⊥
+  no-expressions c e = c .before .before .before .before .if3 .left (told-c (row-of c) ∙ e)
+
+  no-pair : (c : Two-c) → followsIn (row-c (row-of c)) ≡ 9 → ⊥
+  no-pair c e = c .before .before .before .if5 .left (told-c (row-of c) ∙ e)
+
+  not-nothing : (c : Two-c) → followsIn (row-c (row-of c)) ≡ 0 → ⊥
+  not-nothing c e = c .before .before .if6 .left (told-c (row-of c) ∙ e)
+
+  not-one : (c : Two-c) → followsIn (row-c (row-of c)) ≡ 7 → ⊥
+  not-one c e = c .if7 .left (told-c (row-of c) ∙ e)
 
   truth-in-returns-9 : truth-in-lts.Need-returns-9 by-truth-in truth-in-at truth-in.Post
   truth-in-returns-9 c =
-      let k = c .before .before .before .before .before .before .before .before .before .before .before in
+      let w = c .before .before in
+      let k = row-of w in
       let a = start-c k .args in
-      let q : sortIn (row-c k) ≡ 2 → ⊥ = λ e. c .before .before .before .before .before .before .before .before .before .if3 .left (c .before .before .before .before .before .before .before .before .before .before .sort .ensures ∙ e) in
-      let r : sortIn (row-c k) ≡ 1 → ⊥ = λ e. c .before .before .before .before .before .before .before .if5 .left (c .before .before .before .before .before .before .before .before .sort2 .ensures ∙ e) in
-      let m : countIn (row-c k) ≡ 0 → ⊥ = λ e. c .before .before .before .before .before .if6 .left (c .before .before .before .before .before .before .count .ensures ∙ e) in
-      let n : countIn (row-c k) ≡ 1 → ⊥ = λ e. c .before .before .if7 .left (c .before .before .before .count2 .ensures ∙ e) in
-      eval-first-c (a .s .now) (a .at) (a .depth) (a .history .now) (a .j) (some-c k) (inside-c k) (opens-c k) q r m n (ends-nowhere (truthIn (c .before .before .before .before .truth-in .result)) (c .before .end-of2 .ensures) (c .if8 .taken) ∙ c .before .before .before .before .truth-in .ensures)
+      eval-first-c (a .s .now) (a .at) (a .depth) (a .history .now) (a .j) (some-c k) (inside-c k) (opens-c k) (no-expressions w) (no-pair w) (not-nothing w) (not-one w) (ends-nowhere (truthIn (w .before .truth-in .result)) (c .before .end-of2 .ensures) (c .if8 .taken) ∙ w .before .truth-in .ensures)
 
   truth-in-returns-10 : truth-in-lts.Need-returns-10 by-truth-in truth-in-at truth-in.Post
   truth-in-returns-10 c =
-      let k = c .before .before .before .before .before .before .before .before .before .before .before .before .before .before .before in
+      let w = c .before .before .before .before .before .before in
+      let k = row-of w in
       let a = start-c k .args in
-      let q : sortIn (row-c k) ≡ 2 → ⊥ = λ e. c .before .before .before .before .before .before .before .before .before .before .before .before .before .if3 .left (c .before .before .before .before .before .before .before .before .before .before .before .before .before .before .sort .ensures ∙ e) in
-      let r : sortIn (row-c k) ≡ 1 → ⊥ = λ e. c .before .before .before .before .before .before .before .before .before .before .before .if5 .left (c .before .before .before .before .before .before .before .before .before .before .before .before .sort2 .ensures ∙ e) in
-      let m : countIn (row-c k) ≡ 0 → ⊥ = λ e. c .before .before .before .before .before .before .before .before .before .if6 .left (c .before .before .before .before .before .before .before .before .before .before .count .ensures ∙ e) in
-      let n : countIn (row-c k) ≡ 1 → ⊥ = λ e. c .before .before .before .before .before .before .if7 .left (c .before .before .before .before .before .before .before .count2 .ensures ∙ e) in
-      c .joined-of .ensures ∙ ap (onward _) (c .before .truth-in2 .ensures) ∙ rw (c .before .before .junction .ensures, c .before .before .before .operator2 .ensures) (eval-junction (a .s .now) (a .at) (a .depth) (a .history .now) (a .j) (some-c k) (inside-c k) (opens-c k) q r m n (ends-there (truthIn (c .before .before .before .before .before .before .before .before .truth-in .result)) (c .before .before .before .before .before .end-of2 .ensures) (c .before .before .before .before .if8 .left) ∙ c .before .before .before .before .before .before .before .before .truth-in .ensures))
+      c .joined-of .ensures ∙ ap (onward _) (c .before .truth-in2 .ensures) ∙ rw (c .before .before .junction .ensures, c .before .before .before .operator2 .ensures) (eval-junction (a .s .now) (a .at) (a .depth) (a .history .now) (a .j) (some-c k) (inside-c k) (opens-c k) (no-expressions w) (no-pair w) (not-nothing w) (not-one w) (ends-there (truthIn (w .before .truth-in .result)) (c .before .before .before .before .before .end-of2 .ensures) (c .before .before .before .before .if8 .left) ∙ w .before .truth-in .ensures))
 
   value-in-returns-4 : value-in-lts.Need-returns-4 by-value-in value-in-at value-in.Post
   value-in-returns-4 c =
-      let k = c .before .before .before in
+      let k = c .before .before in
       let a = start-e k .args in
-      let q : sortIn (row-e k) ≡ 1 = sym (c .before .before .sort .ensures) ∙ c .before .if3 .taken in
-      c .leaf-in .ensures ∙ eval-leaf (a .s .now) (a .at) (a .depth) (a .history .now) (a .j) (some-e k) (inside-e k) (opens-e k) q
+      c .leaf-in .ensures ∙ eval-leaf (a .s .now) (a .at) (a .depth) (a .history .now) (a .j) (some-e k) (inside-e k) (opens-e k) (sym (told-e k) ∙ c .before .if3 .taken)
 
   value-in-returns-5 : value-in-lts.Need-returns-5 by-value-in value-in-at value-in.Post
   value-in-returns-5 c = c .inner-value .ensures
 
-  no-leaf : (c : value-in-lts.Else3 by-value-in value-in-at value-in.Post) → (let k = c .before .before in let a = start-e k .args in NoLeaf (a .s .now) (a .at) (a .depth) (row-e k))
+  no-leaf : (c : value-in-lts.Else3 by-value-in value-in-at value-in.Post) → (let k = c .before in let a = start-e k .args in NoLeaf (a .s .now) (a .at) (a .depth) (row-e k))
   no-leaf c =
-      let k = c .before .before in
-      record { deep = omega (arith, some-e k); inside = k .before .before .before .before .before .if2 .left; opens = opens-e k; tree = λ e. c .if3 .left (c .before .sort .ensures ∙ e) }
+      let k = c .before in
+      record { deep = omega (arith, some-e k); inside = k .before .before .before .before .before .before .if2 .left; opens = opens-e k; tree = λ e. c .if3 .left (told-e k ∙ e) }
 
   inner-value-returns : inner-value-lts.Need-returns by-inner-value inner-value-at inner-value.Post
   inner-value-returns c =
       let k = c .before .before .before .before in
       let a = k .args in
-      let q : sortIn (a .row) ≡ 3 = sym (c .before .before .before .sort .ensures) ∙ c .before .before .if1 .taken in
-      c .reified-of .ensures ∙ ap (onward _) (c .before .truth-in .ensures) ∙ eval-reified (a .s .now) (a .at) (a .depth) (a .history .now) (a .j) (some k) (inside k) (seen k .opens) q
+      c .reified-of .ensures ∙ ap (onward _) (c .before .truth-in .ensures) ∙ eval-reified (a .s .now) (a .at) (a .depth) (a .history .now) (a .j) (some k) (inside k) (seen k .opens) (sym (c .before .before .before .follows .ensures) ∙ c .before .before .if1 .taken)
 
   inner-value-returns-2 : inner-value-lts.Need-returns-2 by-inner-value inner-value-at inner-value.Post
   inner-value-returns-2 c =
-      let k = c .before .before .before .before .before .before .before .before in
+      let v = c .before .before .before .before in
+      let k = v .before .before .before in
       let a = k .args in
-      let r : sortIn (a .row) ≡ 3 → ⊥ = λ e. c .before .before .before .before .before .before .if1 .left (c .before .before .before .before .before .before .before .sort .ensures ∙ e) in
-      let n : countIn (a .row) ≡ 1 = sym (c .before .before .before .before .count .ensures) ∙ c .before .before .before .if2 .taken in
-      c .changed-of .ensures ∙ ap (onward _) (c .before .before .before .before .before .value-in .ensures) ∙ rw (c .before .single .ensures, c .before .before .operator .ensures) (eval-one (a .s .now) (a .at) (a .depth) (a .history .now) (a .j) (some k) (inside k) (seen k .opens) (seen k .tree) r n)
+      c .changed-of .ensures ∙ ap (onward _) (v .value-in .ensures) ∙ rw (c .before .single .ensures, c .before .before .operator .ensures) (eval-one (a .s .now) (a .at) (a .depth) (a .history .now) (a .j) (some k) (inside k) (seen k .opens) (sym (v .before .before .follows .ensures) ∙ c .before .before .before .if2 .taken))
+
+  -- where two expressions follow
+  abbrev Two-i : Type 0
+  Two-i = inner-value-lts.Else2 by-inner-value inner-value-at inner-value.Post
+
+  abbrev start-of : Two-i → Tree
+  start-of c = c .before .before .before .before
+
+  no-constraint-i : (c : Two-i) → followsIn (start-of c .args .row) ≡ 7 → ⊥
+  no-constraint-i c e = c .before .before .if1 .left (c .before .before .before .follows .ensures ∙ e)
+
+  not-one-i : (c : Two-i) → followsIn (start-of c .args .row) ≡ 6 → ⊥
+  not-one-i c e = c .if2 .left (c .before .before .before .follows .ensures ∙ e)
 
   inner-value-returns-3 : inner-value-lts.Need-returns-3 by-inner-value inner-value-at inner-value.Post
   inner-value-returns-3 c =
-      let k = c .before .before .before .before .before .before .before in
+      let w = c .before .before in
+      let k = start-of w in
       let a = k .args in
-      let r : sortIn (a .row) ≡ 3 → ⊥ = λ e. c .before .before .before .before .before .if1 .left (c .before .before .before .before .before .before .sort .ensures ∙ e) in
-      let n : countIn (a .row) ≡ 1 → ⊥ = λ e. c .before .before .if2 .left (c .before .before .before .count .ensures ∙ e) in
-      eval-first (a .s .now) (a .at) (a .depth) (a .history .now) (a .j) (some k) (inside k) (seen k .opens) (seen k .tree) r n (ends-nowhere (valueIn (c .before .before .before .before .value-in .result)) (c .before .end-of .ensures) (c .if3 .taken) ∙ c .before .before .before .before .value-in .ensures)
+      eval-first (a .s .now) (a .at) (a .depth) (a .history .now) (a .j) (some k) (inside k) (seen k .opens) (seen k .tree) (no-constraint-i w) (not-one-i w) (ends-nowhere (valueIn (w .before .value-in .result)) (c .before .end-of .ensures) (c .if3 .taken) ∙ w .before .value-in .ensures)
 
   inner-value-returns-4 : inner-value-lts.Need-returns-4 by-inner-value inner-value-at inner-value.Post
   inner-value-returns-4 c =
-      let k = c .before .before .before .before .before .before .before .before .before .before .before in
+      let w = c .before .before .before .before .before .before in
+      let k = start-of w in
       let a = k .args in
-      let r : sortIn (a .row) ≡ 3 → ⊥ = λ e. c .before .before .before .before .before .before .before .before .before .if1 .left (c .before .before .before .before .before .before .before .before .before .before .sort .ensures ∙ e) in
-      let n : countIn (a .row) ≡ 1 → ⊥ = λ e. c .before .before .before .before .before .before .if2 .left (c .before .before .before .before .before .before .before .count .ensures ∙ e) in
-      c .operated-of .ensures ∙ ap (onward _) (c .before .value-in2 .ensures) ∙ rw (c .before .before .operation .ensures, c .before .before .before .operator2 .ensures) (eval-two (a .s .now) (a .at) (a .depth) (a .history .now) (a .j) (some k) (inside k) (seen k .opens) (seen k .tree) r n (ends-there (valueIn (c .before .before .before .before .before .before .before .before .value-in .result)) (c .before .before .before .before .before .end-of .ensures) (c .before .before .before .before .if3 .left) ∙ c .before .before .before .before .before .before .before .before .value-in .ensures))
+      c .operated-of .ensures ∙ ap (onward _) (c .before .value-in2 .ensures) ∙ rw (c .before .before .operation .ensures, c .before .before .before .operator2 .ensures) (eval-two (a .s .now) (a .at) (a .depth) (a .history .now) (a .j) (some k) (inside k) (seen k .opens) (seen k .tree) (no-constraint-i w) (not-one-i w) (ends-there (valueIn (w .before .value-in .result)) (c .before .before .before .before .before .end-of .ensures) (c .before .before .before .before .if3 .left) ∙ w .before .value-in .ensures))
 
 pub +inner-value+truth-in+value-in-spec : {M : Type 1} → statement M
 +inner-value+truth-in+value-in-spec =
@@ -293,14 +313,13 @@ pub +inner-value+truth-in+value-in-spec : {M : Type 1} → statement M
     (λ c κs. search needs)
     (λ c κs. search needs)
     (λ c κs. search needs)
-    (λ c κs. search needs)
     (inner-value-returns-2 t)
     (λ c κs. search needs)
     (inner-value-returns-3 t)
     (λ c κs. search needs)
     (λ c κs. search needs)
-    (λ c. omega (arith, c .before .before .before .before .before .before .before .before .before .pre .1 .1 .deep))
-    (λ c κs. (omega (arith, c .before .before .before .before .before .before .before .before .before .pre .1 .1 .deep), c .before .before .before .before .before .before .before .before .before .pre .1 .0))
+    (λ c. omega (arith, start-of t (c .before .before .before .before) .pre .1 .1 .deep))
+    (λ c κs. let p = start-of t (c .before .before .before .before) .pre .1 in (omega (arith, p .1 .deep), p .0))
     (λ c κs. search needs)
     (inner-value-returns-4 t))
     (λ t. truth-in-lts.spec (by-truth-in t) (truth-in-at t) truth-in.Post
@@ -313,26 +332,23 @@ pub +inner-value+truth-in+value-in-spec : {M : Type 1} → statement M
     (λ c κs. search needs)
     (λ c. search needs)
     (λ c. search needs)
-    (λ c κs. (omega arith, c .before .before .before .before .before .before .before .before .before .pre .1))
+    (λ c κs. (omega arith, start-c t (c .before) .pre .1))
     (λ c κs. search needs)
     (truth-in-returns-4 t)
     (λ c κs. search needs)
     (λ c κs. search needs)
     (λ c. search needs)
-    (λ c κs. (omega arith, c .before .before .before .before .before .before .before .before .before .before .before .before .before .before .pre .1))
+    (λ c κs. (omega arith, start-c t (c .before .before .before .before .before .before) .pre .1))
     (λ c κs. search needs)
     (truth-in-returns-5 t)
     (λ c κs. search needs)
-    (λ c κs. search needs)
     (truth-in-returns-6 t)
-    (λ c κs. search needs)
     (λ c. search needs)
     (λ c κs. search needs)
     (truth-in-returns-7 t)
     (λ c. search needs)
     (λ c. search needs)
-    (λ c κs. (omega arith, c .before .before .before .before .before .before .before .before .before .before .before .before .before .pre .1))
-    (λ c κs. search needs)
+    (λ c κs. (omega arith, start-c t (c .before .before .before) .pre .1))
     (λ c κs. search needs)
     (truth-in-returns-8 t)
     (λ c κs. search needs)
@@ -340,7 +356,7 @@ pub +inner-value+truth-in+value-in-spec : {M : Type 1} → statement M
     (λ c κs. search needs)
     (λ c κs. search needs)
     (λ c. search needs)
-    (λ c κs. (omega arith, c .before .before .before .before .before .before .before .before .before .before .before .before .before .before .before .before .before .before .before .before .pre .1))
+    (λ c κs. (omega arith, start-c t (row-of t (c .before .before .before .before)) .pre .1))
     (λ c κs. search needs)
     (truth-in-returns-10 t))
     (λ t. value-in-lts.spec (by-value-in t) (value-in-at t) value-in.Post
@@ -353,5 +369,5 @@ pub +inner-value+truth-in+value-in-spec : {M : Type 1} → statement M
     (λ c κs. search needs)
     (λ c κs. search needs)
     (value-in-returns-4 t)
-    (λ c κs. (omega arith, (c .before .before .before .before .before .before .before .before .before .pre .1, no-leaf t c)))
+    (λ c κs. (omega arith, (start-e t (c .before) .pre .1, no-leaf t c)))
     (value-in-returns-5 t))

@@ -1,26 +1,20 @@
 -- The laws that the proofs share, over plain numbers. `omega` does not read ℤ, so a bound on z is one on `mag z`, a natural number.
 use mathlib.Core.Path.{_≡_, refl, sym, ap, subst, _∙_}
 use mathlib.Core.Bool.{Bool, true, false, not, cond}
-use mathlib.Core.List.{List, [], _∷_}
 use Prim.Native.Nat.{ℕ, zero, suc, _+_, _-_, _*_, _/_, _%_, _^_, _≤_, _<_, zero-le}
 use native.Mathlib.Nat.{le-refl, le-trans, le-suc, mul-le-mul, div-le-self, lt-of-le-of-lt}
-use native.Mathlib.Decide.{decLt}
 use native.Mathlib.Omega.{arith}
 use lib.IntN.{ℤ, pos, negsuc, negℤ, natAbs, subℕ, _+ℤ_, _-ℤ_, _*ℤ_, +ℤ-idl}
-use lib.Bits.{bitAnd}
 use lib.Dec.{T, ltb, leb, eqb, lit<, ltb→lt}
 use lib.Signed.{mag, leZ, ltZ, quotZ, remZ, mag-rem, nonNeg}
-use borrow.Author.Tests.{leb-true, leb-false, le-leb, lt-leb, lt-ltb, le-ltb, eqb-true, eq-eqb, ne-eqb}
+use borrow.Author.Tests.{leb-true, leb-false, le-leb, lt-ltb, le-ltb, eqb-true, eq-eqb, ne-eqb}
 use borrow.Author.Needs.{needs, sfits-of}
 use mir.Syntax.{Width, w16, w32, w64}
 use mir.Val.{Fits, SFits, hbits, toZ, ofZ}
 use mir.Facts.{sfits-widen, toZ-ofZ, toZ-pos, fits-natAbs}
-use types.Run.{OneOf, miss}
-use denote.Enum.Declared.{tagOf}
-use Rattle.bmap.specs.Plain.{both, if-else}
+use Rattle.bmap.specs.Plain.{both}
 use Rattle.bmap.proofs.PlainLaws.{both-true}
-use Rattle.bmap.proofs.Operation as operation-type
-use Rattle.bmap.specs.Number.{Valued, value, no-value, with1, with2, inBounds, bounded, unlessZero, operate, change, same, compare, flag, signedWord, bytesOf, bits}
+use Rattle.bmap.specs.Number.{Valued, value, no-value, with1, with2, bounded, unlessZero, operate, change, same, compare, flag, signedWord, bytesOf, bits}
 use Rattle.bmap.specs.declared.Operation.{Operation}
 use Rattle.bmap.specs.declared.Operation.the-variants.{Sum, Difference, Product, Quotient, Remainder}
 use Rattle.bmap.specs.declared.Single.{Single}
@@ -32,7 +26,6 @@ use Rattle.number.specs.declared.Value.the-variants.{Number}
 use Rattle.number.specs.declared.Truth.{Truth}
 use Rattle.number.specs.declared.Truth.the-variants.{Is}
 use Rattle.number.specs.Answer.{valuedOf, truthOf}
-use Rattle.number.specs.Choice.{divides, zeroDivisor, orderOf, Compares}
 
 -- ---- the size of a result
 
@@ -84,49 +77,20 @@ wide-fits f = rw (toZ-ofZ f) (sfits-widen tt f)
 wide-is : {z : ℤ} → SFits w32 z → wide z ≡ z
 wide-is f = rw (toZ-ofZ f) (toZ-ofZ (sfits-widen tt f))
 
--- a number made in 64 bits, and what it is
-made-is : {z z′ : ℤ} → SFits w64 z → z ≡ z′ → bounded (back w64 z) ≡ bounded z′
-made-is f e = ap bounded (toZ-ofZ f ∙ e)
-
-pub made-back : {z : ℤ} → SFits w64 z → bounded (back w64 z) ≡ bounded z
-made-back f = made-is f refl
-
--- ---- two numbers are equal where their bits are
-
-alike : (a b : Bool) → (a ≡ true → b ≡ true) → (b ≡ true → a ≡ true) → a ≡ b
-alike true b f g = sym (f refl)
-alike false true f g = g refl
-alike false false f g = refl
-
--- m and n are equal where a and b are, which is: where neither is less
-equal-as : (m n a b : ℕ) → (m ≡ n → a ≡ b) → (a ≡ b → m ≡ n) → eqb m n ≡ both (leb a b) (leb b a)
-equal-as m n a b f g =
-    alike (eqb m n) (both (leb a b) (leb b a))
-    (λ h. let e : a ≡ b = f (eqb-true m n h) in rw (le-leb a b (omega arith), le-leb b a (omega arith)))
-    (λ h. let t = both-true (leb a b) (leb b a) h in eq-eqb m n (g (omega (arith, leb-true a b (t .0), leb-true b a (t .1)))))
-
-equal-bits : (x y : ℤ) → SFits w32 x → SFits w32 y → eqb (ofZ w32 x) (ofZ w32 y) ≡ same x y
-equal-bits (pos a) (pos b) f g = equal-as a b a b (λ e. e) (λ e. e)
-equal-bits (pos a) (negsuc b) f g = ne-eqb a (2 ^ 32 - suc b) (λ e. omega arith)
-equal-bits (negsuc a) (pos b) f g = ne-eqb (2 ^ 32 - suc a) b (λ e. omega arith)
-equal-bits (negsuc a) (negsuc b) f g = equal-as (2 ^ 32 - suc a) (2 ^ 32 - suc b) b a (λ e. omega arith) (λ e. omega arith)
+kept-is : {z z′ : ℤ} {r : Valued ℤ} → r ≡ bounded (back w64 z) → SFits w64 z → z ≡ z′ → r ≡ bounded z′
+kept-is e f h = e ∙ ap bounded (toZ-ofZ f ∙ h)
 
 -- ---- a number tested against zero: a divisor by its bits, a sign by what is read back
 
-zero-none : (y : ℤ) (v : Valued ℤ) → same y (pos 0) ≡ true → no-value ≡ unlessZero y v
-zero-none (pos zero) v h = refl
-zero-none (pos (suc n)) v h = absurd (omega (arith, leb-true (suc n) 0 (both-true _ _ h .0)))
-zero-none (negsuc n) v h = cc
+zero-divisor : {y : ℤ} (v : Valued ℤ) → SFits w32 y → ofZ w64 (back w32 y) ≡ 0 → no-value ≡ unlessZero y v
+zero-divisor {y = pos zero} v f e = refl
+zero-divisor {y = pos (suc n)} v f e = let h : suc n ≡ 0 = rw (toZ-ofZ f) at e in absurd (omega arith)
+zero-divisor {y = negsuc n} v f e = let h : 2 ^ 64 - suc n ≡ 0 = rw (toZ-ofZ f) at e in absurd (omega (arith, f .sfits))
 
-divisor : (y : ℤ) (v : Valued ℤ) → same y (pos 0) ≡ false → v ≡ unlessZero y v
-divisor (pos zero) v h = cc
-divisor (pos (suc n)) v h = refl
-divisor (negsuc n) v h = refl
-
-divisor-bits : (y : ℤ) → SFits w32 y → same y (pos 0) ≡ false → 0 < ofZ w64 y
-divisor-bits (pos zero) f h = let z : _≡_ {A = ℕ} 0 1 = cc in omega arith
-divisor-bits (pos (suc n)) f h = omega arith
-divisor-bits (negsuc n) f h = omega (arith, f .sfits)
+divisor : (y : ℤ) {r v : Valued ℤ} → (ofZ w64 y ≡ 0 → ⊥) → r ≡ v → r ≡ unlessZero y v
+divisor (pos zero) h e = absurd (h refl)
+divisor (pos (suc n)) h e = e
+divisor (negsuc n) h e = e
 
 below-zero : (x : ℤ) → ltZ x (pos 0) ≡ true → negℤ x ≡ pos (natAbs x)
 below-zero (pos n) h = absurd (omega (arith, leb-true (suc n) 0 h))
@@ -135,25 +99,6 @@ below-zero (negsuc n) h = refl
 above-zero : (x : ℤ) → ltZ x (pos 0) ≡ false → x ≡ pos (natAbs x)
 above-zero (pos n) h = refl
 above-zero (negsuc n) h = absurd (subst T h tt)
-
--- ---- which operator an arm stands for that names none
-
-abbrev Among : List ℕ → Operation → Type 0
-Among ks op = OneOf ks (tagOf operation-type.the-type op)
-
-the-product : (op : Operation) → Among (2 ∷ 3 ∷ 4 ∷ []) op → divides op ≡ false → op ≡ Product
-the-product Sum k d = absurd (miss (2 ∷ 3 ∷ 4 ∷ []) 0 tt k)
-the-product Difference k d = absurd (miss (2 ∷ 3 ∷ 4 ∷ []) 1 tt k)
-the-product Product k d = refl
-the-product Quotient k d = cc
-the-product Remainder k d = cc
-
-the-remainder : (op : Operation) → Among (0 ∷ 1 ∷ 2 ∷ 4 ∷ []) op → divides op ≡ true → op ≡ Remainder
-the-remainder Sum k d = cc
-the-remainder Difference k d = cc
-the-remainder Product k d = cc
-the-remainder Quotient k d = absurd (miss (0 ∷ 1 ∷ 2 ∷ 4 ∷ []) 3 tt k)
-the-remainder Remainder k d = refl
 
 -- ---- an operator on two numbers of 32 bits: what the machine makes of them fits 64 bits and is what the definition says
 
@@ -173,54 +118,28 @@ module _ {x y : ℤ} (f : SFits w32 x) (g : SFits w32 y) where
   pub remainder-fits : SFits w64 (remZ (wide x) (wide y))
   remainder-fits = rw (wide-is f, wide-is g) (record { sfits = omega (arith, mag-rem x y) })
 
-  module _ {op : Operation} where
-    pub sum-is : op ≡ Sum → bounded (back w64 (wide x +ℤ wide y)) ≡ operate op x y
-    sum-is p = rw p (made-is sum-fits (rw (wide-is f, wide-is g)))
+  module _ {op : Operation} {r : Valued ℤ} where
+    pub sum-is : op ≡ Sum → r ≡ bounded (back w64 (wide x +ℤ wide y)) → r ≡ operate op x y
+    sum-is p e = rw p (kept-is e sum-fits (rw (wide-is f, wide-is g)))
 
-    pub difference-is : op ≡ Difference → bounded (back w64 (wide x -ℤ wide y)) ≡ operate op x y
-    difference-is p = rw p (made-is difference-fits (rw (wide-is f, wide-is g)))
+    pub difference-is : op ≡ Difference → r ≡ bounded (back w64 (wide x -ℤ wide y)) → r ≡ operate op x y
+    difference-is p e = rw p (kept-is e difference-fits (rw (wide-is f, wide-is g)))
 
-  pub product-is : (op : Operation) → Among (2 ∷ 3 ∷ 4 ∷ []) op → divides op ≡ false → bounded (back w64 (wide x *ℤ wide y)) ≡ operate op x y
-  product-is op k d = rw (the-product op k d) (made-is product-fits (rw (wide-is f, wide-is g)))
+    pub product-is : op ≡ Product → r ≡ bounded (back w64 (wide x *ℤ wide y)) → r ≡ operate op x y
+    product-is p e = rw p (kept-is e product-fits (rw (wide-is f, wide-is g)))
 
-  module _ (op : Operation) (d : divides op ≡ true) (h : zeroDivisor op y ≡ false) where
-    not-zero : same y (pos 0) ≡ false
-    not-zero = rw d at h
+    pub quotient-is : op ≡ Quotient → (ofZ w64 (back w32 y) ≡ 0 → ⊥) → r ≡ bounded (back w64 (quotZ (wide x) (wide y))) → r ≡ operate op x y
+    quotient-is p h e = rw p (divisor y (rw (toZ-ofZ g) at h) (kept-is e quotient-fits (rw (wide-is f, wide-is g))))
 
-    pub divisor-fits : 0 < ofZ w64 (back w32 y)
-    divisor-fits = rw (toZ-ofZ g) (divisor-bits y g not-zero)
+    pub remainder-is : op ≡ Remainder → (ofZ w64 (back w32 y) ≡ 0 → ⊥) → r ≡ bounded (back w64 (remZ (wide x) (wide y))) → r ≡ operate op x y
+    remainder-is p h e = rw p (divisor y (rw (toZ-ofZ g) at h) (kept-is e remainder-fits (rw (wide-is f, wide-is g))))
 
-    pub quotient-is : op ≡ Quotient → bounded (back w64 (quotZ (wide x) (wide y))) ≡ operate op x y
-    quotient-is p = rw p (made-is quotient-fits (rw (wide-is f, wide-is g)) ∙ divisor y _ not-zero)
+module _ {op : Operation} (x : ℤ) {y : ℤ} (g : SFits w32 y) (h : ofZ w64 (back w32 y) ≡ 0) where
+  pub zero-quotient : op ≡ Quotient → no-value ≡ operate op x y
+  zero-quotient p = rw p (zero-divisor (bounded (quotZ x y)) g h)
 
-    pub remainder-is : Among (0 ∷ 1 ∷ 2 ∷ 4 ∷ []) op → bounded (back w64 (remZ (wide x) (wide y))) ≡ operate op x y
-    remainder-is k = rw (the-remainder op k d) (made-is remainder-fits (rw (wide-is f, wide-is g)) ∙ divisor y _ not-zero)
-
--- a zero divisor: the test, and what follows where it holds and where not
-pub zero-test : (op : Operation) {y : ℤ} {d : Bool} → d ≡ divides op → d ≡ true → SFits w32 y → eqb (ofZ w32 y) 0 ≡ zeroDivisor op y
-zero-test op {y} e h g = rw (sym e ∙ h) (equal-bits y (pos 0) g (sfits-of (lit< tt)))
-
-pub no-divisor : (op : Operation) (x : ℤ) {y : ℤ} {b : Bool} → SFits w32 y → b ≡ zeroDivisor op (back w32 y) → b ≡ true → no-value ≡ operate op x y
-no-divisor op x {y} g e h = go op (rw (toZ-ofZ g) at (sym e ∙ h))
-  where
-    go : (o : Operation) → zeroDivisor o y ≡ true → no-value ≡ operate o x y
-    go Sum t = cc
-    go Difference t = cc
-    go Product t = cc
-    go Quotient t = zero-none y _ t
-    go Remainder t = zero-none y _ t
-
-pub test-failed : {b c : Bool} → b ≡ c → b ≡ false → c ≡ false
-test-failed e h = sym e ∙ h
-
--- what a call makes of the numbers that are read back
-module _ (op : Operation) {x y : ℤ} {u v : Valued ℤ} where
-  pub operates : u ≡ operate op (back w32 x) (back w32 y) → SFits w32 x → SFits w32 y → v ≡ u → v ≡ operate op x y
-  operates e f g p = p ∙ rw (toZ-ofZ f, toZ-ofZ g) at e
-
-module _ (op : Single) {x : ℤ} {u v : Valued ℤ} where
-  pub changes : u ≡ change op (back w32 x) → SFits w32 x → v ≡ u → v ≡ change op x
-  changes e f p = p ∙ rw (toZ-ofZ f) at e
+  pub zero-remainder : op ≡ Remainder → no-value ≡ operate op x y
+  zero-remainder p = rw p (zero-divisor (bounded (remZ x y)) g h)
 
 -- ---- an operator on one
 
@@ -228,84 +147,54 @@ module _ {x : ℤ} (f : SFits w32 x) where
   pub negation-fits : SFits w64 (pos 0 -ℤ wide x)
   negation-fits = rw (wide-is f, +ℤ-idl) (record { sfits = omega (arith, mag-negℤ x) })
 
-  module _ {op : Single} where
-    pub negation-is : op ≡ Negation → bounded (back w64 (pos 0 -ℤ wide x)) ≡ change op x
-    negation-is p = rw p (made-is negation-fits (rw (wide-is f, +ℤ-idl)))
+  module _ {op : Single} {r : Valued ℤ} where
+    pub negation-is : op ≡ Negation → r ≡ bounded (back w64 (pos 0 -ℤ wide x)) → r ≡ change op x
+    negation-is p e = rw p (kept-is e negation-fits (rw (wide-is f, +ℤ-idl)))
 
-    pub absolute-below : op ≡ Absolute → ltZ (wide x) (pos 0) ≡ true → bounded (back w64 (pos 0 -ℤ wide x)) ≡ change op x
-    absolute-below p h = rw p (made-is negation-fits (rw (wide-is f, +ℤ-idl) (below-zero x (rw (wide-is f) at h))))
+    pub absolute-below : op ≡ Absolute → ltZ (wide x) (pos 0) ≡ true → r ≡ bounded (back w64 (pos 0 -ℤ wide x)) → r ≡ change op x
+    absolute-below p h e = rw p (kept-is e negation-fits (rw (wide-is f, +ℤ-idl) (below-zero x (rw (wide-is f) at h))))
 
-    pub absolute-above : op ≡ Absolute → ltZ (wide x) (pos 0) ≡ false → bounded (wide x) ≡ change op x
-    absolute-above p h = rw p (ap bounded (wide-is f ∙ above-zero x (rw (wide-is f) at h)))
+    pub absolute-above : op ≡ Absolute → ltZ (wide x) (pos 0) ≡ false → r ≡ bounded (wide x) → r ≡ change op x
+    absolute-above p h e = rw p (e ∙ ap bounded (wide-is f ∙ above-zero x (rw (wide-is f) at h)))
 
--- ---- a comparison: the bit of the order in which two numbers stand
+-- ---- a comparison: tests are of what is read back, and `=` is one of the bits
 
--- less, at most, greater, at least
-data Stands : Bool → Bool → Bool → Bool → Type 0 where
-  is-less : Stands true true false false
-  is-equal : Stands false true false true
-  is-greater : Stands false false true true
+alike : (a b : Bool) → (a ≡ true → b ≡ true) → (b ≡ true → a ≡ true) → a ≡ b
+alike true b f g = sym (f refl)
+alike false true f g = g refl
+alike false false f g = refl
 
-stands-ℕ : (a b : ℕ) → Stands (ltb a b) (leb a b) (ltb b a) (leb b a)
-stands-ℕ a b =
-    elim (decLt a b) [
-      | yes h ↦ rw (lt-ltb a b h, le-leb a b (omega arith), le-ltb b a (omega arith), lt-leb b a h) is-less
-      | no h ↦ elim (decLt b a) [
-        | yes k ↦ rw (le-ltb a b (omega arith), lt-leb a b k, lt-ltb b a k, le-leb b a (omega arith)) is-greater
-        | no k ↦ rw (le-ltb a b (omega arith), le-leb a b (omega arith), le-ltb b a (omega arith), le-leb b a (omega arith)) is-equal
-      ]
-    ]
+-- m and n are equal where a and b are, which is: where neither is less
+equal-as : (m n a b : ℕ) → (m ≡ n → a ≡ b) → (a ≡ b → m ≡ n) → eqb m n ≡ both (leb a b) (leb b a)
+equal-as m n a b f g =
+    alike (eqb m n) (both (leb a b) (leb b a))
+    (λ h. let e : a ≡ b = f (eqb-true m n h) in rw (le-leb a b (omega arith), le-leb b a (omega arith)))
+    (λ h. let t = both-true (leb a b) (leb b a) h in eq-eqb m n (g (omega (arith, leb-true a b (t .0), leb-true b a (t .1)))))
 
-stands : (x y : ℤ) → Stands (ltZ x y) (leZ x y) (ltZ y x) (leZ y x)
-stands (pos a) (pos b) = stands-ℕ a b
-stands (pos a) (negsuc b) = is-greater
-stands (negsuc a) (pos b) = is-less
-stands (negsuc a) (negsuc b) = stands-ℕ b a
+equal-bits : (x y : ℤ) → SFits w32 x → SFits w32 y → eqb (ofZ w32 x) (ofZ w32 y) ≡ same x y
+equal-bits (pos a) (pos b) f g = equal-as a b a b (λ e. e) (λ e. e)
+equal-bits (pos a) (negsuc b) f g = ne-eqb a (2 ^ 32 - suc b) (λ e. omega arith)
+equal-bits (negsuc a) (pos b) f g = ne-eqb (2 ^ 32 - suc a) b (λ e. omega arith)
+equal-bits (negsuc a) (negsuc b) f g = equal-as (2 ^ 32 - suc a) (2 ^ 32 - suc b) b a (λ e. omega arith) (λ e. omega arith)
 
-abbrev met : ℕ → ℕ → Bool
-met bits order = not (eqb (bitAnd bits order) 0)
+module _ {op : Comparison} {x y : ℤ} (f : SFits w32 x) (g : SFits w32 y) where
+  pub equal-is : op ≡ Equal → eqb (ofZ w32 x) (ofZ w32 y) ≡ compare op x y
+  equal-is p = rw p (equal-bits x y f g)
 
--- bits that say of each order what f does
-module _ (bits : ℕ) (f : Bool → Bool → Bool → Bool → Bool) (l : met bits 1 ≡ f true true false false) (e : met bits 2 ≡ f false true false true) (g : met bits 4 ≡ f false false true true) where
-  by-order : {lt le gt ge : Bool} → Stands lt le gt ge → met bits (if-else (both le ge) 2 (if-else lt 1 4)) ≡ f lt le gt ge
-  by-order is-less = l
-  by-order is-equal = e
-  by-order is-greater = g
+  pub unequal-is : op ≡ Unequal → not (eqb (ofZ w32 x) (ofZ w32 y)) ≡ compare op x y
+  unequal-is p = rw p (ap not (equal-bits x y f g))
 
-  in-order : (x y : ℤ) → met bits (orderOf x y) ≡ f (ltZ x y) (leZ x y) (ltZ y x) (leZ y x)
-  in-order x y = by-order (stands x y)
+  pub less-is : op ≡ Less → ltZ (back w32 x) (back w32 y) ≡ compare op x y
+  less-is p = rw (p, toZ-ofZ f, toZ-ofZ g)
 
-module _ {op : Comparison} where
-  pub equal-ways : op ≡ Equal → Compares 2 op
-  equal-ways p = rw p (in-order 2 (λ lt le gt ge. both le ge) refl refl refl)
+  pub at-most-is : op ≡ AtMost → leZ (back w32 x) (back w32 y) ≡ compare op x y
+  at-most-is p = rw (p, toZ-ofZ f, toZ-ofZ g)
 
-  pub unequal-ways : op ≡ Unequal → Compares 5 op
-  unequal-ways p = rw p (in-order 5 (λ lt le gt ge. not (both le ge)) refl refl refl)
+  pub greater-is : op ≡ Greater → ltZ (back w32 y) (back w32 x) ≡ compare op x y
+  greater-is p = rw (p, toZ-ofZ f, toZ-ofZ g)
 
-  pub less-ways : op ≡ Less → Compares 1 op
-  less-ways p = rw p (in-order 1 (λ lt le gt ge. lt) refl refl refl)
-
-  pub at-most-ways : op ≡ AtMost → Compares 3 op
-  at-most-ways p = rw p (in-order 3 (λ lt le gt ge. le) refl refl refl)
-
-  pub greater-ways : op ≡ Greater → Compares 4 op
-  greater-ways p = rw p (in-order 4 (λ lt le gt ge. gt) refl refl refl)
-
-  pub at-least-ways : op ≡ AtLeast → Compares 6 op
-  at-least-ways p = rw p (in-order 6 (λ lt le gt ge. ge) refl refl refl)
-
-module _ {x y : ℤ} (f : SFits w32 x) (g : SFits w32 y) where
-  pub equal-order : ofZ w32 x ≡ ofZ w32 y → 2 ≡ orderOf x y
-  equal-order e = rw (sym (equal-bits x y f g), eq-eqb _ _ e)
-
-  pub less-order : (ofZ w32 x ≡ ofZ w32 y → ⊥) → ltZ (back w32 x) (back w32 y) ≡ true → 1 ≡ orderOf x y
-  less-order n h = rw (sym (equal-bits x y f g), ne-eqb _ _ n, rw (toZ-ofZ f, toZ-ofZ g) at h)
-
-  pub greater-order : (ofZ w32 x ≡ ofZ w32 y → ⊥) → ltZ (back w32 x) (back w32 y) ≡ false → 4 ≡ orderOf x y
-  greater-order n h = rw (sym (equal-bits x y f g), ne-eqb _ _ n, rw (toZ-ofZ f, toZ-ofZ g) at h)
-
-  pub compares : (op : Comparison) (bits order : ℕ) → Compares bits op → order ≡ orderOf (back w32 x) (back w32 y) → not (eqb (bitAnd bits order) 0) ≡ compare op x y
-  compares op bits order h e = rw (e, toZ-ofZ f, toZ-ofZ g) (h x y)
+  pub at-least-is : op ≡ AtLeast → leZ (back w32 y) (back w32 x) ≡ compare op x y
+  at-least-is p = rw (p, toZ-ofZ f, toZ-ofZ g)
 
 -- ---- no value spreads: an arm of a `match` on one part or two returns what the definition says
 
@@ -340,25 +229,17 @@ within w lo hi (pos n) p q s t = record { sfits = lt-of-le-of-lt (leb-true n hi 
 within w lo hi (negsuc n) p q s t = record { sfits = lt-of-le-of-lt (leb-true n lo p) (ltb→lt lo (2 ^ hbits w) s) }
 
 module _ {z : ℤ} (f : SFits w64 z) where
-  pub below-most : leZ (negsuc 999_999_999) (back w64 z) ≡ true → leZ (back w64 z) (pos 1_000_000_000) ≡ inBounds z
-  below-most p = rw (toZ-ofZ f, rw (toZ-ofZ f) at p)
-
-  pub below-least : leZ (negsuc 999_999_999) (back w64 z) ≡ false → leZ (negsuc 999_999_999) (back w64 z) ≡ inBounds z
-  below-least p = rw (toZ-ofZ f, rw (toZ-ofZ f) at p)
-
-  bounded-by : (b : Bool) → b ≡ inBounds (back w64 z) → bounded z ≡ if-else b (value z) no-value
+  pub inside : leZ (negsuc 999_999_999) (back w64 z) ≡ true → leZ (back w64 z) (pos 1_000_000_000) ≡ true → value (back w32 (back w64 z)) ≡ bounded z
   unfolding bounded
-  bounded-by b e = ap (λ (t : Bool). if-else t (value z) no-value) (sym (rw (toZ-ofZ f) at e))
+  inside p q = rw (toZ-ofZ (within w32 999_999_999 1_000_000_000 (back w64 z) p q tt tt)) (rw (toZ-ofZ f) (simp (rw (toZ-ofZ f) at p, rw (toZ-ofZ f) at q)))
 
-  module _ {b : Bool} (e : b ≡ inBounds (back w64 z)) where
-    pub kept-fits : b ≡ true → SFits w32 (back w64 z)
-    kept-fits t = let h = both-true _ _ (sym e ∙ t) in within w32 999_999_999 1_000_000_000 (back w64 z) (h .0) (h .1) tt tt
+  pub under : leZ (negsuc 999_999_999) (back w64 z) ≡ false → no-value ≡ bounded z
+  unfolding bounded
+  under p = simp (rw (toZ-ofZ f) at p)
 
-    pub kept-value : b ≡ true → value (back w32 (back w64 z)) ≡ bounded z
-    kept-value t = rw (toZ-ofZ (kept-fits t), toZ-ofZ f) (sym (rw t at (bounded-by b e)))
-
-    pub kept-none : b ≡ false → no-value ≡ bounded z
-    kept-none t = sym (rw t at (bounded-by b e))
+  pub over : leZ (negsuc 999_999_999) (back w64 z) ≡ true → leZ (back w64 z) (pos 1_000_000_000) ≡ false → no-value ≡ bounded z
+  unfolding bounded
+  over p q = simp (rw (toZ-ofZ f) at p, rw (toZ-ofZ f) at q)
 
 -- ---- two bytes: with the sign bit set the number is -1 - (65,535 - n)
 
@@ -433,17 +314,14 @@ module _ {z : ℤ} {n : ℕ} (f : SFits w16 z) (e : n ≡ bits (back w16 z)) whe
 
 -- ---- what a proof's `search` is handed
 
-pub ruleset operators = (wide-fits, sum-fits, difference-fits, product-fits, divisor-fits, quotient-fits, remainder-fits, negation-fits, sum-is, difference-is, zero-test, negation-is, absolute-below, absolute-above)
+pub ruleset operators = (wide-fits, sum-fits, difference-fits, product-fits, quotient-fits, remainder-fits, negation-fits, sum-is, difference-is, product-is, zero-quotient, quotient-is, zero-remainder, remainder-is, negation-is, absolute-below, absolute-above)
 
-pub ruleset comparisons = (equal-ways, unequal-ways, less-ways, at-most-ways, greater-ways, at-least-ways, equal-order, less-order, greater-order, compares)
+pub ruleset comparisons = (equal-is, unequal-is, less-is, at-most-is, greater-is, at-least-is)
 
 pub ruleset parts = (one-part, two-parts, value-is, true-is-one, false-is-zero, a-number, a-truth)
 
-pub ruleset bounds = (below-most, below-least)
+pub ruleset bounds = (within, inside, under, over)
 
 pub ruleset words = (missing-fits, word-above, word-below, plain-sign, plain-fits, plain-bits, flipped-fits, flipped-sign, flipped-size, flipped-most, flipped-bits, high-is, low-is)
 
 pub ruleset signed = (needs, operators, comparisons, parts, bounds, words)
-
--- to a function that hands on what another made
-pub ruleset calls = (needs, no-divisor, test-failed, operates, changes, made-back, kept-fits, kept-value, kept-none)

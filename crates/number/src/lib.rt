@@ -1,15 +1,14 @@
 // The operators of the law language on numbers and truths that may have no value, and the two bytes of a value.
 // "Everything built on a part without value has none": each function answers for all its arguments, and asks nothing.
 // `law` stands on it for its operators, `domain`, `judge`, `answer` and `river_cases` for values and their bytes.
-ghost use mathlib.Core.Bool.{true, false, not};
+ghost use mathlib.Core.Bool.{not};
 ghost use mathlib.Core.Path.{_≡_};
-ghost use Rattle.bmap.specs.Number.{value, with1, with2, inBounds, bounded, operate, change, compare, join, flag};
+ghost use Rattle.bmap.specs.Number.{value, with1, with2, bounded, operate, change, compare, join, flag};
 ghost use Rattle.bmap.specs.Number.{signedWord, bytesOf, bits};
 ghost use Rattle.bmap.specs.declared.Operation.the-variants.{Sum, Difference, Product, Quotient, Remainder};
 ghost use Rattle.bmap.specs.declared.Single.the-variants.{Negation, Absolute};
 ghost use Rattle.bmap.specs.declared.Comparison.the-variants.{Equal, Unequal, Less, AtMost, Greater, AtLeast};
 ghost use Rattle.number.specs.Answer.{valuedOf, truthOf};
-ghost use Rattle.number.specs.Choice.{divides, zeroDivisor, orderOf, Compares};
 use bmap::Comparison;
 use bmap::Junction;
 use bmap::Operation;
@@ -35,82 +34,40 @@ impl Value {
 
 // "any result outside −1,000,000,000 to 1,000,000,000, gives no value". What is inside fits 32 bits, so what one
 // operator makes of two numbers fits the 64 bits in which it is made.
-fn kept(z: i64) -> bool
-    ensures { λ r. ⌜ r ≡ inBounds z ⌝ }
+fn kept(z: i64) -> Value
+    ensures { λ r. ⌜ valuedOf r ≡ bounded z ⌝ }
 {
-    Value::LEAST <= z && z <= Value::MOST
-}
-
-// A processor guesses where each jump goes, and in a law that mixes operators a jump over all of them at once is mostly
-// guessed wrong. So they are told apart in small steps: what divides, by one division, from what does not.
-fn divides(op: Operation) -> bool
-    ensures { λ r. ⌜ r ≡ divides op ⌝ }
-{
-    match op {
-        Operation::Sum => false,
-        Operation::Difference => false,
-        Operation::Product => false,
-        Operation::Quotient => true,
-        Operation::Remainder => true,
+    if Value::LEAST <= z {
+        if z <= Value::MOST {
+            return Value::Number(z as i32);
+        }
     }
+    Value::NoValue
 }
 
-fn combined(op: Operation, x: i32, y: i32) -> i64
-    requires { ⌜ divides op ≡ false ⌝ }
-    ensures { λ r. ⌜ bounded r ≡ operate op x y ⌝ }
-{
-    let p = x as i64;
-    let q = y as i64;
-    match op {
-        Operation::Sum => p + q,
-        Operation::Difference => p - q,
-        _ => p * q,
-    }
-}
-
-// "Quotient truncates toward zero; the remainder has the dividend's sign": so do `/` and `%`, which are one division.
-fn divided(op: Operation, x: i32, y: i32) -> i64
-    requires { ⌜ (divides op ≡ true) × (zeroDivisor op y ≡ false) ⌝ }
-    ensures { λ r. ⌜ bounded r ≡ operate op x y ⌝ }
-{
-    let p = x as i64;
-    let q = y as i64;
-    let quotient = p / q;
-    let remainder = p % q;
-    match op {
-        Operation::Quotient => quotient,
-        _ => remainder,
-    }
-}
-
-// "A zero divisor, or any result outside … gives no value"
-fn zero_divisor(op: Operation, y: i32) -> bool
-    ensures { λ r. ⌜ r ≡ zeroDivisor op y ⌝ }
-{
-    divides(op) && y == 0
-}
-
-fn made(op: Operation, x: i32, y: i32) -> i64
-    requires { ⌜ zeroDivisor op y ≡ false ⌝ }
-    ensures { λ r. ⌜ bounded r ≡ operate op x y ⌝ }
-{
-    if divides(op) {
-        return divided(op, x, y);
-    }
-    combined(op, x, y)
-}
-
+// "Quotient truncates toward zero; the remainder has the dividend's sign": so do `/` and `%`.
 fn operated(op: Operation, x: i32, y: i32) -> Value
     ensures { λ r. ⌜ valuedOf r ≡ operate op x y ⌝ }
 {
-    if zero_divisor(op, y) {
-        return Value::NoValue;
+    let p = x as i64;
+    let q = y as i64;
+    match op {
+        Operation::Sum => kept(p + q),
+        Operation::Difference => kept(p - q),
+        Operation::Product => kept(p * q),
+        Operation::Quotient => {
+            if q == 0 {
+                return Value::NoValue;
+            }
+            kept(p / q)
+        }
+        Operation::Remainder => {
+            if q == 0 {
+                return Value::NoValue;
+            }
+            kept(p % q)
+        }
     }
-    let z = made(op, x, y);
-    if kept(z) {
-        return Value::Number(z as i32);
-    }
-    Value::NoValue
 }
 
 pub fn operate(op: Operation, a: Value, b: Value) -> Value
@@ -156,25 +113,19 @@ pub fn remainder(a: Value, b: Value) -> Value
     operate(Operation::Remainder, a, b)
 }
 
-fn turned(op: Single, x: i32) -> i64
-    ensures { λ r. ⌜ bounded r ≡ change op x ⌝ }
-{
-    let p = x as i64;
-    let negation = -p;
-    match op {
-        Single::Negation => negation,
-        Single::Absolute => { if p < 0 { negation } else { p } }
-    }
-}
-
 fn changed(op: Single, x: i32) -> Value
     ensures { λ r. ⌜ valuedOf r ≡ change op x ⌝ }
 {
-    let z = turned(op, x);
-    if kept(z) {
-        return Value::Number(z as i32);
+    let p = x as i64;
+    match op {
+        Single::Negation => kept(-p),
+        Single::Absolute => {
+            if p < 0 {
+                return kept(-p);
+            }
+            kept(p)
+        }
     }
-    Value::NoValue
 }
 
 pub fn change(op: Single, a: Value) -> Value
@@ -198,39 +149,17 @@ pub fn absolute(a: Value) -> Value
     change(Single::Absolute, a)
 }
 
-// A comparison is the bits of the orders in which it is true: no jump goes by which it is.
-const LESS: u8 = 1;
-
-const EQUAL: u8 = 2;
-
-const GREATER: u8 = 4;
-
-fn order(x: i32, y: i32) -> u8
-    ensures { λ r. ⌜ r ≡ orderOf x y ⌝ }
-{
-    if x == y {
-        return EQUAL;
-    }
-    if x < y { LESS } else { GREATER }
-}
-
-fn ways(op: Comparison) -> u8
-    ensures { λ r. ⌜ Compares r op ⌝ }
-{
-    match op {
-        Comparison::Equal => EQUAL,
-        Comparison::Unequal => LESS + GREATER,
-        Comparison::Less => LESS,
-        Comparison::AtMost => LESS + EQUAL,
-        Comparison::Greater => GREATER,
-        Comparison::AtLeast => EQUAL + GREATER,
-    }
-}
-
 fn compared(op: Comparison, x: i32, y: i32) -> bool
     ensures { λ r. ⌜ r ≡ compare op x y ⌝ }
 {
-    ways(op) & order(x, y) != 0
+    match op {
+        Comparison::Equal => x == y,
+        Comparison::Unequal => x != y,
+        Comparison::Less => x < y,
+        Comparison::AtMost => x <= y,
+        Comparison::Greater => x > y,
+        Comparison::AtLeast => x >= y,
+    }
 }
 
 pub fn compare(op: Comparison, a: Value, b: Value) -> Truth

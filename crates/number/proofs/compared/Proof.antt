@@ -2,14 +2,55 @@ use Rattle.number.proofs.Laws.{signed}
 use Rattle.number.proofs.compared.Statement.{statement}
 use Rattle.number.proofs.compared.Tie as tie
 
-ways-requires : tie.Need-ways-requires
-ways-requires c κs = search signed
+enum-told : tie.Need-enum-told
+enum-told c = search signed
 
-order-requires : tie.Need-order-requires
-order-requires c κs = search signed
+enum-told-2 : tie.Need-enum-told-2
+enum-told-2 c = search signed
+
+enum-told-3 : tie.Need-enum-told-3
+enum-told-3 c = search signed
+
+enum-told-4 : tie.Need-enum-told-4
+enum-told-4 c = search signed
+
+enum-told-5 : tie.Need-enum-told-5
+enum-told-5 c = search signed
+
+enum-told-6 : tie.Need-enum-told-6
+enum-told-6 c = search signed
 
 returns : tie.Need-returns
 returns c = search signed
 
+returns-2 : tie.Need-returns-2
+returns-2 c = search signed
+
+returns-3 : tie.Need-returns-3
+returns-3 c = search signed
+
+returns-4 : tie.Need-returns-4
+returns-4 c = search signed
+
+returns-5 : tie.Need-returns-5
+returns-5 c = search signed
+
+returns-6 : tie.Need-returns-6
+returns-6 c = search signed
+
 pub compared-spec : {M : Type 1} → statement M
-compared-spec = tie.close (tie.spec ways-requires order-requires returns)
+compared-spec =
+    tie.close
+    (tie.spec
+    enum-told
+    enum-told-2
+    enum-told-3
+    enum-told-4
+    enum-told-5
+    enum-told-6
+    returns
+    returns-2
+    returns-3
+    returns-4
+    returns-5
+    returns-6)

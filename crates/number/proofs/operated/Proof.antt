@@ -1,36 +1,104 @@
-use Rattle.number.proofs.Laws.{calls}
+use Rattle.number.proofs.Laws.{signed}
 use Rattle.number.proofs.operated.Statement.{statement}
 use Rattle.number.proofs.operated.Tie as tie
 
-zero-divisor-requires : tie.Need-zero-divisor-requires
-zero-divisor-requires c κs = search calls
+cast-p : tie.Need-cast-p
+cast-p c = search signed
 
-returns : tie.Need-returns
-returns c = search calls
+cast-q : tie.Need-cast-q
+cast-q c = search signed
 
-made-requires : tie.Need-made-requires
-made-requires c κs = search calls
+enum-told : tie.Need-enum-told
+enum-told c = search signed
+
+add-kept : tie.Need-add-kept
+add-kept c = search signed
 
 kept-requires : tie.Need-kept-requires
-kept-requires c κs = search calls
+kept-requires c κs = search signed
 
-cast-t7 : tie.Need-cast-t7
-cast-t7 c = search calls
+enum-told-2 : tie.Need-enum-told-2
+enum-told-2 c = search signed
+
+sub-kept : tie.Need-sub-kept
+sub-kept c = search signed
+
+kept-requires-2 : tie.Need-kept-requires-2
+kept-requires-2 c κs = search signed
+
+enum-told-3 : tie.Need-enum-told-3
+enum-told-3 c = search signed
+
+mul-kept : tie.Need-mul-kept
+mul-kept c = search signed
+
+kept-requires-3 : tie.Need-kept-requires-3
+kept-requires-3 c κs = search signed
+
+enum-told-4 : tie.Need-enum-told-4
+enum-told-4 c = search signed
+
+returns : tie.Need-returns
+returns c = search signed
+
+div-kept : tie.Need-div-kept
+div-kept c = search signed
+
+kept-requires-4 : tie.Need-kept-requires-4
+kept-requires-4 c κs = search signed
+
+enum-told-5 : tie.Need-enum-told-5
+enum-told-5 c = search signed
 
 returns-2 : tie.Need-returns-2
-returns-2 c = search calls
+returns-2 c = search signed
+
+rem-kept : tie.Need-rem-kept
+rem-kept c = search signed
+
+kept-requires-5 : tie.Need-kept-requires-5
+kept-requires-5 c κs = search signed
 
 returns-3 : tie.Need-returns-3
-returns-3 c = search calls
+returns-3 c = search signed
+
+returns-4 : tie.Need-returns-4
+returns-4 c = search signed
+
+returns-5 : tie.Need-returns-5
+returns-5 c = search signed
+
+returns-6 : tie.Need-returns-6
+returns-6 c = search signed
+
+returns-7 : tie.Need-returns-7
+returns-7 c = search signed
 
 pub operated-spec : {M : Type 1} → statement M
 operated-spec =
     tie.close
     (tie.spec
-    zero-divisor-requires
-    returns
-    made-requires
+    cast-p
+    cast-q
+    enum-told
+    add-kept
     kept-requires
-    cast-t7
+    enum-told-2
+    sub-kept
+    kept-requires-2
+    enum-told-3
+    mul-kept
+    kept-requires-3
+    enum-told-4
+    returns
+    div-kept
+    kept-requires-4
+    enum-told-5
     returns-2
-    returns-3)
+    rem-kept
+    kept-requires-5
+    returns-3
+    returns-4
+    returns-5
+    returns-6
+    returns-7)

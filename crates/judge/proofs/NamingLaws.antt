@@ -138,12 +138,12 @@ take-replicate zero m a h = refl
 take-replicate (suc n) zero a h = absurd (omega arith)
 take-replicate (suc n) (suc m) a h = ap (λ (l : List ℕ). a ∷ l) (take-replicate n m a (omega arith))
 
-pub idle-names : (names : List ℕ) (a : ℕ) → length names ≤ a → ((k : ℕ) → k < a → getD names k 0 ≡ 0) → names ≡ replicate (length names) 0
-idle-names names a h none = ext-getD 0 names (replicate (length names) 0) (sym (length-replicate (length names) 0)) (λ k p. none k (omega arith) ∙ sym (getD-replicate (length names) k 0 0 p))
+pub same-all : (names before : List ℕ) (a : ℕ) → length before ≡ length names → length names ≤ a → ((k : ℕ) → k < a → getD before k 0 ≡ getD names k 0) → before ≡ names
+same-all names before a long h same = ext-getD 0 before names long (λ k p. same k (omega arith))
 
-pub idle-more : (names : List ℕ) (a : ℕ) (idle : Bool) {r : Bool} → (idle ≡ true → (k : ℕ) → k < a → getD names k 0 ≡ 0) → r ≡ both idle (eqb (getD names a 0) 0) → r ≡ true → (k : ℕ) → k < a + 1 → getD names k 0 ≡ 0
-idle-more names a idle before e t k p =
-    let b = both-true idle (eqb (getD names a 0) 0) (sym e ∙ t) in elim (decLt k a) [
-      | yes q ↦ before (b .0) k q
-      | no q ↦ let z : k ≡ a = omega arith in ap (λ (i : ℕ). getD names i 0) z ∙ eqb-true (getD names a 0) 0 (b .1)
+pub same-more : (names before : List ℕ) (a : ℕ) (same : Bool) {r : Bool} → (same ≡ true → (k : ℕ) → k < a → getD before k 0 ≡ getD names k 0) → r ≡ both same (eqb (getD names a 0) (getD before a 0)) → r ≡ true → (k : ℕ) → k < a + 1 → getD before k 0 ≡ getD names k 0
+same-more names before a same so-far e t k p =
+    let b = both-true same (eqb (getD names a 0) (getD before a 0)) (sym e ∙ t) in elim (decLt k a) [
+      | yes q ↦ so-far (b .0) k q
+      | no q ↦ let z : k ≡ a = omega arith in ap (λ (i : ℕ). getD before i 0) z ∙ (sym (eqb-true (getD names a 0) (getD before a 0) (b .1)) ∙ ap (λ (i : ℕ). getD names i 0) (sym z))
     ]

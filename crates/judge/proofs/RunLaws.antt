@@ -1,6 +1,6 @@
 -- The run over the steps of a sheet. Assumes nothing.
 use Prim.Native.Nat.{ℕ, zero, suc, _+_, _-_, _*_, _≤_, _<_}
-use mathlib.Core.Path.{_≡_, refl, sym, ap, _∙_}
+use mathlib.Core.Path.{_≡_, refl, sym, ap, subst, _∙_}
 use mathlib.Core.List.{List, [], _∷_, _++_}
 use mathlib.Core.Bool.{Bool, true, false}
 use native.Mathlib.Numerals.{add-one}
@@ -17,13 +17,17 @@ use Rattle.bmap.proofs.PlainLaws.{both-false}
 use Rattle.bmap.specs.Domain.{Domain, Names, State, Entry, has, follows, occursIn, entryAt}
 use Rattle.bmap.specs.Limits.{mostFluents, mostEntries}
 use Rattle.bmap.specs.Sheet.{rows}
-use Rattle.bmap.specs.Judge.{broken, accepted, carries, step, carried}
-use Rattle.law.specs.Evaluate.{rowSize, marked, inStep}
+use Rattle.bmap.specs.Judge.{Judged, broken, accepted, carries, step, carried}
+use Rattle.law.specs.Evaluate.{rowSize, historySize, marked, inStep}
 use Rattle.judge.specs.Answer.{kindOf}
 use Rattle.judge.specs.Masks.{joins, joinsAt, maskFrom, unionFrom}
-use Rattle.judge.specs.States.{leaving, marksFrom}
-use Rattle.judge.specs.Told.{Occurring, Belonging, Acted}
-use Rattle.judge.specs.Prepared.{Entered}
+use Rattle.judge.specs.States.{stateAt, statesOf, leaving, marksFrom, Blank}
+use Rattle.judge.specs.Landing.{Laid}
+use Rattle.judge.specs.Told.{Occurring, Belonging, Acts, Acted}
+use Rattle.judge.specs.Prepared.{Entered, RanThrough, judgedOf}
+use Rattle.judge.specs.declared.acting.Acting.{Acting}
+use Rattle.judge.specs.declared.steps.Ran.{Ran}
+use Rattle.judge.specs.declared.verdict.Verdict.the-variants.{Broken}
 use Rattle.judge.specs.declared.verdict.Check.{Check}
 use Rattle.judge.specs.declared.verdict.Check.the-variants.{Passed, Failed}
 use Rattle.judge.specs.declared.verdict.Fault.{Fault}
@@ -138,3 +142,29 @@ left-start a n k e = e ∙ ap (λ (m : ℕ). m * a) (let z : n ≡ n - 0 = omega
 -- what is left after a row
 pub rest-is : (a : ℕ) (l : List ℕ) → take (length l - a) (drop a l) ≡ drop a l
 rest-is a l = take-all (length l - a) (drop a l) (omega (arith, length-drop a l))
+
+-- ---- the loop over the steps
+
+-- before the step from state j: the rest of the sheet, and what was not written of the history
+pub record Round (n agents : ℕ) (history levels : List ℤ) (rest : List ℕ) (j : ℕ) : Type 0 where
+  pub within : j ≤ n
+  pub whole : length rest ≡ (n - j) * agents
+  pub room : length history ≡ historySize
+  pub blank : Blank (marksFrom j) history
+  pub wide : length levels ≡ mostFluents
+
+-- and what was done is a domain's: the marks, the steps that are left, the run, the levels of state j, who acted in the step before
+pub record Going (d : Domain) (agents n w : ℕ) (sheet : List Names) (begun : List State) (j : ℕ) (history levels : List ℤ) (acting : Acting) (before rest : List ℕ) : Type 0 where
+  pub acted : Acted d sheet history j
+  pub left : drop j sheet ≡ rows agents (n - j) rest
+  pub run : carried d sheet 0 begun sheet ≡ carried d sheet j (statesOf w (j + 1) history) (rows agents (n - j) rest)
+  pub present : Laid w levels [] (stateAt w history j)
+  pub last : 0 < length before → Acts d before acting
+
+-- a fault at the step from state j
+module _ (j : ℕ) (f : Fault) (m : ℕ) (r : Ran) (e : r ≡ record { verdict = Broken f (j + 1) m; reached = j + 1 }) where
+  pub broken-through : {n : ℕ} {history : List ℤ} → j < n → length history ≡ historySize → RanThrough r n history
+  broken-through {n} {history} h room = subst (λ (t : Ran). RanThrough t n history) (sym e) (record { most = omega arith; all = λ q. absurd (let z : _≡_ {A = ℕ} 0 1 = cc in omega arith); room = room })
+
+  pub broken-judged : (w : ℕ) (history : List ℤ) {run : Judged} → run ≡ record { states = statesOf w (j + 1) history; verdict = broken (kindOf f) (j + 1) m } → judgedOf w r history ≡ run
+  broken-judged w history q = ap (λ (t : Ran). judgedOf w t history) e ∙ sym q

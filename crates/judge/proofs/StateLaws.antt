@@ -55,7 +55,7 @@ part-take (suc p) w zero h q = absurd (omega arith)
 part-take (suc p) w (suc n) [] q = refl
 part-take (suc p) w (suc n) (a ∷ h) q = part-take p w n h (omega arith)
 
-state-kept : (w n k : ℕ) (h h′ : List ℤ) → take n h′ ≡ take n h → rowSize * k + w ≤ n → stateAt w h′ k ≡ stateAt w h k
+pub state-kept : (w n k : ℕ) (h h′ : List ℤ) → take n h′ ≡ take n h → rowSize * k + w ≤ n → stateAt w h′ k ≡ stateAt w h k
 state-kept w n k h h′ e p = sym (part-take (rowSize * k) w n h′ p) ∙ (ap (λ (l : List ℤ). take w (drop (rowSize * k) l)) e ∙ part-take (rowSize * k) w n h p)
 
 pub states-kept : (w n m : ℕ) (h h′ : List ℤ) → take n h′ ≡ take n h → w ≤ mostFluents → rowSize * m ≤ n + mostEntries → statesOf w m h′ ≡ statesOf w m h

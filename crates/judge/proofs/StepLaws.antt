@@ -5,20 +5,23 @@ use mathlib.Core.List.{List, [], _∷_, _++_}
 use mathlib.Core.Bool.{true, false}
 use native.Mathlib.Numerals.{add-one}
 use native.Mathlib.Omega.{arith}
-use lib.IntN.{ℤ}
+use lib.IntN.{ℤ, pos}
 use lib.ListN.{length, getD}
 use Rattle.bmap.specs.Limits.{mostSteps}
 use Rattle.bmap.specs.Domain.{Domain, Names, State, static, concurrency}
-use Rattle.bmap.specs.Judge.{Checked, fine, fault, Pass, pass, next, each, inRange, Setting, settled, stateAfter, history, allHold, placed, mayOccur, step, landed}
+use Rattle.bmap.specs.Meaning.{History}
+use Rattle.bmap.specs.Judge.{Checked, fine, fault, Pass, pass, next, each, inRange, Setting, settled, levelAfter, stateAfter, history, allHold, placed, mayOccur, step, landed}
 use Rattle.law.specs.Evaluate.{cellAt}
 use Rattle.judge.specs.Answer.{passOf, kindOf}
 use Rattle.judge.specs.States.{statesOf, leaving}
-use Rattle.judge.specs.Landing.{ranged}
+use Rattle.judge.specs.Landing.{allowed, Laid, Ranged, ranged}
 use Rattle.judge.specs.Told.{Seen, Acted}
 use Rattle.judge.specs.declared.verdict.Check.{Check}
 use Rattle.judge.specs.declared.verdict.Check.the-variants.{Passed, Failed}
 use Rattle.judge.specs.declared.verdict.Fault.{Fault}
+use Rattle.bmap.proofs.NumbersLaws.{map-at}
 use Rattle.judge.proofs.StateLaws.{level-in}
+use Rattle.judge.proofs.LandingLaws.{levelThen, after-is}
 
 -- ---- the history that the laws read
 
@@ -77,22 +80,44 @@ module _ (d : Domain) (sheet : List Names) (states : List State) (j : ℕ) (name
         ∙ (ap (λ (l : List State). next (allHold static 6 d (history d sheet l) (suc j)) (λ _. fine s)) more
         ∙ (ap lasting (both′ .1) ∙ (both′ .0 ∙ landed-on))))
 
-  -- ---- the six checks
+-- ---- checks 1 to 3
 
-  pub step-agents : {kind n : ℕ} → each (placed d names) names ≡ fault kind n → fault kind n ≡ step d sheet states j names
-  unfolding step
-  step-agents e = rw e
+module _ (d : Domain) (h : History) (j : ℕ) (names : Names) where
+  pub barred-agents : {kind n : ℕ} → each (placed d names) names ≡ fault kind n → fault kind n ≡ allowed d h j names
+  barred-agents e = rw e
 
   module _ (e₁ : each (placed d names) names ≡ pass) where
-    pub step-entries : {kind n : ℕ} → each (mayOccur d (history d sheet states) j names) (d .entries) ≡ fault kind n → fault kind n ≡ step d sheet states j names
-    unfolding step
-    step-entries e = rw (e₁, e)
+    pub barred-entries : {kind n : ℕ} → each (mayOccur d h j names) (d .entries) ≡ fault kind n → fault kind n ≡ allowed d h j names
+    barred-entries e = rw (e₁, e)
 
-    module _ (e₂ : each (mayOccur d (history d sheet states) j names) (d .entries) ≡ pass) where
-      pub step-laws : {kind n : ℕ} → allHold concurrency 3 d (history d sheet states) j ≡ fault kind n → fault kind n ≡ step d sheet states j names
-      unfolding step
-      step-laws e = rw (e₁, e₂, e)
+    pub allowed-laws : {p : Pass} → each (mayOccur d h j names) (d .entries) ≡ pass → p ≡ allHold concurrency 3 d h j → p ≡ allowed d h j names
+    allowed-laws e₂ e = e ∙ rw (e₁, e₂)
 
-      pub step-on : allHold concurrency 3 d (history d sheet states) j ≡ pass → landed d sheet states j names ≡ step d sheet states j names
-      unfolding step
-      step-on e = rw (e₁, e₂, e)
+-- ---- the six checks
+
+three-next : (a b c : Pass) (k : Checked State) → next (next a (λ _. next b (λ _. c))) (λ _. k) ≡ next a (λ _. next b (λ _. next c (λ _. k)))
+three-next (fine u) (fine v) c k = refl
+three-next (fine u) (fault y v) c k = refl
+three-next (fault y u) b c k = refl
+
+module _ (d : Domain) (sheet : List Names) (states : List State) (j : ℕ) (names : Names) (r : Check) (e : passOf r ≡ allowed d (history d sheet states) j names) where
+  step-then : next (passOf r) (λ _. landed d sheet states j names) ≡ step d sheet states j names
+  unfolding step
+  step-then =
+      ap (λ (p : Pass). next p (λ _. landed d sheet states j names)) e
+      ∙ three-next (each (placed d names) names) (each (mayOccur d (history d sheet states) j names) (d .entries)) (allHold concurrency 3 d (history d sheet states) j) (landed d sheet states j names)
+
+  pub step-barred : (s : State) {f : Fault} {n : ℕ} → r ≡ Failed f n → leaving r s ≡ step d sheet states j names
+  step-barred s p = ap (λ (t : Check). leaving t s) p ∙ (ap (λ (t : Check). next (passOf t) (λ _. landed d sheet states j names)) (sym p) ∙ step-then)
+
+  pub step-on : r ≡ Passed → landed d sheet states j names ≡ step d sheet states j names
+  step-on p = ap (λ (t : Check). next (passOf t) (λ _. landed d sheet states j names)) (sym p) ∙ step-then
+
+-- ---- the levels of a state that was stored
+
+pub laid-again : (d : Domain) (settings : List Setting) (old : State) (lowest highest : List ℤ) (w : ℕ) → Ranged d lowest highest w → (r : Check) (s : State) (new : List ℤ)
+    → leaving r s ≡ ranged d (stateAfter d settings old) → r ≡ Passed → Laid w new settings old → Laid w new [] s
+unfolding levelAfter
+laid-again d settings old lowest highest w bounds r s new q p laid f h =
+    let is : s ≡ stateAfter d settings old = passed-fine (each (inRange (stateAfter d settings old)) (d .fluents)) (stateAfter d settings old) (fine s) (ap (λ (t : Check). leaving t s) (sym p) ∙ q) .1 in
+    laid f h ∙ sym (ap (λ (l : State). getD l f (pos 0)) (is ∙ after-is d settings old lowest highest w bounds) ∙ map-at (levelThen settings old) w f (pos 0) h)

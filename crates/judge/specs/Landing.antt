@@ -1,18 +1,27 @@
--- The new state of a step, level by level.
+-- What a step may do, and its new state, level by level.
 use Prim.Native.Nat.{ℕ, _<_}
 use mathlib.Core.Path.{_≡_}
-use mathlib.Core.List.{List}
+use mathlib.Core.List.{List, []}
 use lib.IntN.{ℤ, pos}
 use lib.ListN.{length, getD}
 use lib.Signed.{leZ}
 use Rattle.bmap.specs.Plain.{both, if-else}
-use Rattle.bmap.specs.Domain.{Domain, State}
-use Rattle.bmap.specs.Judge.{Checked, fine, fault, next, each, inRange, Setting, levelAfter}
+use Rattle.bmap.specs.Domain.{Domain, Names, State, concurrency}
+use Rattle.bmap.specs.Meaning.{History}
+use Rattle.bmap.specs.Judge.{Checked, Pass, fine, fault, next, each, placed, mayOccur, allHold, inRange, Setting, levelAfter}
 use Rattle.judge.specs.Answer.{kindOf}
+use Rattle.judge.specs.States.{leaving}
 use Rattle.judge.specs.declared.verdict.Check.{Check}
 use Rattle.judge.specs.declared.verdict.Check.the-variants.{Passed, Failed}
 use Rattle.judge.specs.declared.landing.Fit.{Fit}
 use Rattle.judge.specs.declared.landing.Fit.the-variants.{Out, In}
+
+-- checks 1 to 3 of the step from state j
+abbrev pub allowed : Domain → History → ℕ → Names → Pass
+allowed d h j names =
+    next (each (placed d names) names) (λ _.
+    next (each (mayOccur d h j names) (d .entries)) (λ _.
+    allHold concurrency 3 d h j))
 
 -- v where it lies within the bounds
 unfoldable pub fitOf : ℤ → ℤ → ℤ → Fit
@@ -42,3 +51,8 @@ Lays (Failed f n) w new settled old = fault (kindOf f) n ≡ settled
 -- check 5 of a state
 abbrev pub ranged : Domain → State → Checked State
 ranged d new = next (each (inRange new) (d .fluents)) (λ _. fine new)
+
+-- a check that leaves a state, or its fault, and where it passes the levels of that state in an array
+pub record Landed (r : Check) (w : ℕ) (new : List ℤ) (state : State) (is : Checked State) : Type 0 where
+  pub leaves : leaving r state ≡ is
+  pub levels : r ≡ Passed → Laid w new [] state

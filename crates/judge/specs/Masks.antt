@@ -1,5 +1,5 @@
 -- Sets of agents, entries and fluents as masks: "Mask bit i stands for agent i".
-use Prim.Native.Nat.{ℕ, zero, suc, _+_, _*_, _<_}
+use Prim.Native.Nat.{ℕ, zero, suc, _+_, _*_, _≤_, _<_}
 use mathlib.Core.Path.{_≡_}
 use mathlib.Core.Bool.{Bool, true, false, not}
 use mathlib.Core.List.{List}
@@ -7,8 +7,9 @@ use lib.Bits.{bitOr}
 use lib.Dec.{eqb}
 use lib.ListN.{length, getD}
 use Rattle.bmap.specs.Plain.{if-else, all, numbers}
+use Rattle.bmap.specs.Limits.{mostAgents, mostEntries}
 use Rattle.bmap.specs.Domain.{Names, follows}
-use Rattle.judge.specs.declared.acting.Acting.{Acting}
+use Rattle.judge.specs.declared.acting.Occurs.{Occurs}
 
 abbrev pub flagOf : Bool → ℕ
 flagOf true = 1
@@ -44,8 +45,20 @@ abbrev pub joinsAt : Names → List ℕ → List ℕ → ℕ → Bool
 joinsAt names actions crews i = joins names (getD actions i 0) (getD crews i 0)
 
 -- the entries that occur, and the agents who belong to one of them
-abbrev pub actingOf : Names → List ℕ → List ℕ → ℕ → Acting
-actingOf names actions crews n = record {
+abbrev pub occursOf : Names → List ℕ → List ℕ → ℕ → Occurs
+occursOf names actions crews n = record {
   entries = maskFrom (joinsAt names actions crews) 0 n;
   agents = unionFrom (joinsAt names actions crews) crews 0 n;
 }
+
+-- so many agents, and so many entries, each with an action and a crew
+pub record Crewed (agents : ℕ) (actions crews : List ℕ) (n : ℕ) : Type 0 where
+  pub few : agents ≤ mostAgents
+  pub entries : n ≤ mostEntries
+  pub named : n ≤ length actions
+  pub crewed : n ≤ length crews
+
+-- there was a step before, and it had the same names
+pub record Again (names before : Names) : Type 0 where
+  pub some : 0 < length before
+  pub same : before ≡ names

@@ -17,7 +17,7 @@ use Rattle.index.specs.Index.{domainOf}
 use Rattle.supplement.specs.Under.{underIn}
 use Rattle.supplement.specs.declared.under.Under.{Under}
 use Rattle.judge.specs.Answer.{verdictOf}
-use Rattle.judge.specs.States.{statesOf, Blank}
+use Rattle.judge.specs.States.{statesOf, Blank, Kept}
 use Rattle.judge.specs.Landing.{Ranged}
 use Rattle.judge.specs.Told.{Lawful, Owned, Ordered, Few}
 use Rattle.judge.specs.declared.reading.Runs.{Runs}
@@ -70,14 +70,26 @@ pub record Prepared (d : Domain) (held owners : List ℕ) (n : ℕ) (runs : Runs
 abbrev pub Entered : Domain → List ℕ → List ℕ → ℕ → Type 0
 Entered d actions crews count = d .entries ≡ map (λ i. record { name = getD actions i 0; crew = getD crews i 0 }) (numbers 0 count)
 
+-- the laws that allow a step can be read
+pub record Checkable (runs : Runs) (count j : ℕ) : Type 0 where
+  pub step : j < mostSteps
+  pub laws : Few runs
+  pub entries : count ≤ mostEntries
+
 -- state j + 1 can be stored, and the laws of each kind be read
-pub record Landable (runs : Runs) (lowest highest : List ℤ) (w : ℕ) (history : List ℤ) (j : ℕ) : Type 0 where
+pub record Landable (runs : Runs) (lowest highest : List ℤ) (w : ℕ) (history : List ℤ) (j : ℕ) (new : List ℤ) : Type 0 where
   pub step : j < mostSteps
   pub laws : Few runs
   pub fluents : w ≤ mostFluents
   pub low : w ≤ length lowest
   pub high : w ≤ length highest
   pub room : length history ≡ historySize
+  pub wide : length new ≡ mostFluents
+
+-- of the history the levels of state j + 1 alone are written, and the array of levels is as long as it was
+pub record Stored (j : ℕ) (history history′ new : List ℤ) : Type 0 where
+  pub kept : Kept j history history′
+  pub wide : length new ≡ mostFluents
 
 -- a plan keeps the limits, the sheet has so many steps of it, and nothing of the history is written from a place on
 pub record Runnable (p : Plan) (sheet : List ℕ) (n : ℕ) (history : List ℤ) (from : ℕ) : Type 0 where

@@ -12,12 +12,14 @@ use Rattle.bmap.specs.Line.{effectKind, staticKind, concurrencyKind, goalKind}
 use Rattle.bmap.specs.Tree.{Con}
 use Rattle.bmap.specs.Meaning.{History}
 use Rattle.bmap.specs.Domain.{Domain, Names, Law, executable, effect, must, concurrency, goal, entryAt, has, occursIn, knows, readable}
-use Rattle.bmap.specs.Judge.{carries}
+use Rattle.bmap.specs.Judge.{each, placed, carries}
 use Rattle.bmap.specs.Payload.{lawIn, asks}
 use Rattle.bmap.specs.Accept.{countsOf}
 use Rattle.index.specs.Index.{frameBytes, lawNumber}
 use Rattle.law.specs.Evaluate.{heldSize, cellAt, inStep}
 use Rattle.supplement.specs.Force.{payloadOf}
+use Rattle.judge.specs.Answer.{passOf}
+use Rattle.judge.specs.declared.acting.Acting.{Acting}
 use Rattle.judge.specs.declared.reading.Runs.{Runs}
 
 -- the parts that the laws of every kind have
@@ -130,8 +132,12 @@ pub record Ordered (held owners : List ℕ) (n : ℕ) (runs : Runs) : Type 0 whe
   pub goal : Within held n goalKind (runs .goal .from) (runs .goal .to)
 
 -- the numbers of laws keep their limit
-abbrev pub Few : Runs → Type 0
-Few runs = (((i : ℕ) → i < mostEntries → getD (runs .last) i 0 ≤ mostLaws) × (runs .effect .to ≤ mostLaws)) × ((runs .fixed .to ≤ mostLaws) × ((runs .concurrency .to ≤ mostLaws) × (runs .goal .to ≤ mostLaws)))
+pub record Few (runs : Runs) : Type 0 where
+  pub own : (i : ℕ) → i < mostEntries → getD (runs .last) i 0 ≤ mostLaws
+  pub effect : runs .effect .to ≤ mostLaws
+  pub fixed : runs .fixed .to ≤ mostLaws
+  pub concurrency : runs .concurrency .to ≤ mostLaws
+  pub goal : runs .goal .to ≤ mostLaws
 
 -- the levels of the states 0 to j are those of a history, and the marks of the steps 1 to j + 1 its occurrences, if they are asked
 pub record Seen (asked : Bool) (d : Domain) (h : History) (history : List ℤ) (j : ℕ) : Type 0 where
@@ -146,6 +152,11 @@ Occurring d names mask = (e : ℕ) → e < length (d .entries) → occursIn d na
 -- a mask has the agents who belong to an occurring entry with the action that they name
 abbrev pub Belonging : Domain → Names → ℕ → Type 0
 Belonging d names mask = (a : ℕ) → a < length names → any (carries d names a (getD names a 0)) (d .entries) ≡ has mask a
+
+-- what is found of the names of a step
+pub record Acts (d : Domain) (names : Names) (acting : Acting) : Type 0 where
+  pub occurring : Occurring d names (acting .entries)
+  pub agents : passOf (acting .placed) ≡ each (placed d names) names
 
 -- the marks of the steps 1 to m of a sheet
 abbrev pub Acted : Domain → List Names → List ℤ → ℕ → Type 0

@@ -4,25 +4,35 @@ ghost use mathlib.Core.Bool.{true, not};
 ghost use Prim.Native.Nat.{_+_, _-_, _*_, _^_, _≤_, _<_};
 ghost use lib.Bits.{bitAnd, bitOr};
 ghost use lib.Dec.{eqb};
-ghost use lib.ListN.{length, replicate};
+ghost use lib.ListN.{length};
 ghost use Rattle.bmap.specs.Plain.{both, if-else};
-ghost use Rattle.bmap.specs.Limits.{mostAgents, mostEntries};
-ghost use Rattle.bmap.specs.Domain.{Names, has};
-ghost use Rattle.judge.specs.Masks.{flagOf, maskFrom, joins, actingOf, nameCount, Others};
+ghost use Rattle.bmap.specs.Limits.{mostAgents};
+ghost use Rattle.bmap.specs.Domain.{Domain, Names, has};
+ghost use Rattle.judge.specs.Masks.{flagOf, maskFrom, joins, occursOf, nameCount, Others, Crewed, Again};
+ghost use Rattle.judge.specs.Told.{Acts};
+ghost use Rattle.judge.specs.Prepared.{Entered};
+use crate::checks::check_agents;
+use crate::verdict::Check;
 use bmap::Counts;
 
 // A name is a byte.
 const NAMES: usize = 256;
 
-pub struct Acting {
+// The entries that occur, and the agents who belong to one of them.
+pub struct Occurs {
     pub entries: u64,
     pub agents: u16,
 }
 
+// What the names of a step say by themselves: the entries that occur, and check 1.
+pub struct Acting {
+    pub entries: u64,
+    pub placed: Check,
+}
+
 // A step: who acts in it, and the state that it starts from.
 pub struct Step {
-    pub entries: u64,
-    pub agents: u16,
+    pub acting: Acting,
     pub j: usize,
 }
 
@@ -120,9 +130,9 @@ fn who_acts(
     actions: &[u8; Counts::ENTRIES],
     crews: &[u16; Counts::ENTRIES],
     n: usize,
-) -> Acting
-    requires { ⌜ (length (now names) ≤ mostAgents) × ((n ≤ mostEntries) × ((n ≤ length (now actions)) × (n ≤ length (now crews)))) ⌝ }
-    ensures { λ r. ⌜ r ≡ actingOf (now (names .entry)) (now (actions .entry)) (now (crews .entry)) n ⌝ }
+) -> Occurs
+    requires { ⌜ Crewed (length (now names)) (now actions) (now crews) n ⌝ }
+    ensures { λ r. ⌜ r ≡ occursOf (now (names .entry)) (now (actions .entry)) (now (crews .entry)) n ⌝ }
 {
     let others = all_others(names);
     let mut entries: u64 = 0;
@@ -134,56 +144,54 @@ fn who_acts(
         entries = pushed(entries, occurs);
         agents = taken_in(agents, crews[i], occurs);
     }
-    Acting { entries, agents }
+    Occurs { entries, agents }
 }
 
-// And this name says nothing.
-fn still(idle: bool, name: u8) -> bool
-    ensures { λ r. ⌜ r ≡ both idle (eqb name 0) ⌝ }
+// And these two names are the same.
+fn also_same(same: bool, a: u8, b: u8) -> bool
+    ensures { λ r. ⌜ r ≡ both same (eqb a b) ⌝ }
 {
-    if idle { name == 0 } else { false }
+    if same { a == b } else { false }
 }
 
-// Nobody names anything. The loop has no exit, so that several names are read at a time.
-fn all_idle(names: &[u8]) -> bool
-    ensures { λ r. ⌜ (r ≡ true → now (names .entry) ≡ replicate (length (now (names .entry))) 0) ⌝ }
+// Everybody names what was named in the step before, if there was one. The loop has no exit, so that several names are read at
+// a time.
+fn same_names(names: &[u8], before: &[u8]) -> bool
+    ensures { λ r. ⌜ (r ≡ true → Again (now (names .entry)) (now (before .entry))) ⌝ }
 {
-    let mut idle = true;
+    if before.len() == 0 {
+        return false;
+    }
+    if before.len() != names.len() {
+        return false;
+    }
+    let mut same = true;
     let mut a = 0;
     while a < names.len() {
-        idle = still(idle, names[a]);
+        same = also_same(same, names[a], before[a]);
         a += 1;
     }
-    idle
+    same
 }
 
-// Who acts where nobody names anything, found once for a judgement.
-pub(crate) fn idle_acting(
-    agents: usize,
-    actions: &[u8; Counts::ENTRIES],
-    crews: &[u16; Counts::ENTRIES],
-    n: usize,
-) -> Acting
-    requires { ⌜ (agents ≤ mostAgents) × ((n ≤ mostEntries) × ((n ≤ length (now actions)) × (n ≤ length (now crews)))) ⌝ }
-    ensures { λ r. ⌜ r ≡ actingOf (replicate agents 0) (now (actions .entry)) (now (crews .entry)) n ⌝ }
-{
-    let idle = [0u8; Counts::AGENTS];
-    who_acts(&idle[..agents], actions, crews, n)
-}
-
-// Who acts in a step: equal names, equal answers.
+// Who acts in a step: equal names, equal answers, so that of a step with the names of the last one nothing is asked.
 pub(crate) fn acting_in(
     names: &[u8],
-    idle: Acting,
+    before: &[u8],
+    last: Acting,
     actions: &[u8; Counts::ENTRIES],
     crews: &[u16; Counts::ENTRIES],
     n: usize,
 ) -> Acting
-    requires { ⌜ ((length (now names) ≤ mostAgents) × ((n ≤ mostEntries) × ((n ≤ length (now actions)) × (n ≤ length (now crews))))) × (idle ≡ actingOf (replicate (length (now names)) 0) (now actions) (now crews) n) ⌝ }
-    ensures { λ r. ⌜ r ≡ actingOf (now (names .entry)) (now (actions .entry)) (now (crews .entry)) n ⌝ }
+    requires { ⌜ Crewed (length (now names)) (now actions) (now crews) n ⌝ }
+    ensures { λ r. ⌜ ((d : Domain) → Entered d (now (actions .entry)) (now (crews .entry)) n → length (now (names .entry)) ≡ d .agents → (0 < length (now (before .entry)) → Acts d (now (before .entry)) last)
+        → Acts d (now (names .entry)) r) ⌝ }
 {
-    if all_idle(names) {
-        return idle;
+    if same_names(names, before) {
+        return last;
     }
-    who_acts(names, actions, crews, n)
+    let occurs = who_acts(names, actions, crews, n);
+    let entries = occurs.entries;
+    let placed = check_agents(names, occurs.agents);
+    Acting { entries, placed }
 }

@@ -106,9 +106,9 @@ pub(crate) fn check_entries(
 ) -> Check
     requires { ⌜ (count ≤ mostEntries) × ((i : ℕ) → i < mostEntries → getD (now last) i 0 ≤ mostLaws) ⌝ }
     ensures { λ r. ⌜ ((d : Domain) (h : History) (n : ℕ) (names : Names) → Lawful d (now (held .entry)) n → Owns (now (owners .entry)) n (now (first .entry)) (now (last .entry)) → Owned d (now (owners .entry))
-        → Occurring d names (step .entries) → length (d .entries) ≡ count → Seen true d h (now (history .entry)) (step .j) → passOf r ≡ each (mayOccur d h (step .j) names) (d .entries)) ⌝ }
+        → Occurring d names (step .acting .entries) → length (d .entries) ≡ count → Seen true d h (now (history .entry)) (step .j) → passOf r ≡ each (mayOccur d h (step .j) names) (d .entries)) ⌝ }
 {
-    let mut rest = step.entries;
+    let mut rest = step.acting.entries;
     let mut i = 0;
     while i < count {
         if rest == 0 {

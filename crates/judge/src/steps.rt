@@ -1,21 +1,24 @@
 // A step, the run over all steps, the goals.
 ghost use mathlib.Core.Path.{_≡_};
-ghost use mathlib.Core.List.{List};
+ghost use mathlib.Core.List.{List, []};
 ghost use Prim.Native.Nat.{ℕ, _+_, _≤_};
+ghost use lib.IntN.{ℤ};
 ghost use lib.ListN.{length, take};
-ghost use Rattle.bmap.specs.Limits.{mostAgents, mostEntries, mostSteps};
+ghost use Rattle.bmap.specs.Limits.{mostSteps};
 ghost use Rattle.bmap.specs.Domain.{Domain, Names};
 ghost use Rattle.bmap.specs.Sheet.{rows};
 ghost use Rattle.bmap.specs.Judge.{carried, judge, startOf, landed};
 ghost use Rattle.bmap.specs.Judge as paper;
 ghost use Rattle.law.specs.Evaluate.{historySize};
-ghost use Rattle.judge.specs.States.{stateAt, statesOf, leaving, Kept, marksFrom};
-ghost use Rattle.judge.specs.Told.{Belonging, Occurring, Acted};
-ghost use Rattle.judge.specs.Prepared.{Prepared, Landable, Runnable, RanThrough, Planned, judgedOf};
+ghost use Rattle.judge.specs.Answer.{passOf};
+ghost use Rattle.judge.specs.States.{stateAt, statesOf, marksFrom};
+ghost use Rattle.judge.specs.Landing.{Laid, Landed, allowed};
+ghost use Rattle.judge.specs.Told.{Occurring, Acts, Acted};
+ghost use Rattle.judge.specs.Prepared.{Prepared, Checkable, Landable, Stored, Runnable, RanThrough, Planned, judgedOf};
+ghost use Rattle.judge.specs.declared.verdict.Verdict.the-variants.{Broken};
+use crate::acting::Acting;
 use crate::acting::Step;
 use crate::acting::acting_in;
-use crate::acting::idle_acting;
-use crate::checks::check_agents;
 use crate::checks::check_entries;
 use crate::checks::check_laws;
 use crate::effects::lay_effects;
@@ -32,61 +35,23 @@ use bmap::Kind;
 use law::HELD;
 use law::HISTORY;
 
-// Checks 4 to 6: what the effect laws set, the new state as state j + 1, the static laws on it.
-fn land(
-    held: &[u8; HELD],
-    runs: Runs,
-    lowest: &[i16; Counts::FLUENTS],
-    highest: &[i16; Counts::FLUENTS],
-    w: usize,
-    step: Step,
-    history: &mut [i16; HISTORY],
-) -> Check
-    requires { ⌜ Landable runs (now lowest) (now highest) w (now history) (step .j) ⌝ }
-    ensures { λ r. ⌜ Kept (step .j) (now (history .entry)) (now (history .exit)) × ((d : Domain) (owners : List ℕ) (n count : ℕ) (sheet : List Names) (names : Names)
-        → Prepared d (now (held .entry)) owners n runs (now (lowest .entry)) (now (highest .entry)) w count → Occurring d names (step .entries) → Acted d sheet (now (history .entry)) (step .j + 1)
-        → leaving r (stateAt w (now (history .exit)) (step .j + 1)) ≡ landed d sheet (statesOf w (step .j + 1) (now (history .entry))) (step .j) names) ⌝ }
-{
-    let mut new = [0i32; Counts::FLUENTS];
-    old_levels(history, step.j, w, &mut new);
-    // "Effects are settled by values before the step": the present is state j, and the static laws are read on the next.
-    let present = step.j;
-    let next = present + 1;
-    if let Check::Failed(fault, n) = lay_effects(
-        held,
-        runs.effect,
-        step.entries,
-        history,
-        present,
-        &mut new,
-    ) {
-        return Check::Failed(fault, n);
-    }
-    if let Check::Failed(fault, n) = put_state(lowest, highest, w, &new, history, step.j) {
-        return Check::Failed(fault, n);
-    }
-    check_laws(held, runs.fixed, Kind::STATIC, Fault::Static, history, next)
-}
-
-// The step from state j: "First fault wins."
-fn take_step(
+// Checks 1 to 3: whoever acts belongs to an entry that occurs, and the laws allow what occurs.
+fn check_acts(
     held: &[u8; HELD],
     owners: &[u8; Counts::LAWS],
     runs: Runs,
-    lowest: &[i16; Counts::FLUENTS],
-    highest: &[i16; Counts::FLUENTS],
-    counts: Counts,
-    names: &[u8],
+    count: usize,
     step: Step,
-    history: &mut [i16; HISTORY],
+    history: &[i16; HISTORY],
 ) -> Check
-    requires { ⌜ ((length (now names) ≤ mostAgents) × (counts .entries ≤ mostEntries)) × Landable runs (now lowest) (now highest) (counts .fluents) (now history) (step .j) ⌝ }
-    ensures { λ r. ⌜ Kept (step .j) (now (history .entry)) (now (history .exit)) × ((d : Domain) (n : ℕ) (sheet : List Names)
-        → Prepared d (now (held .entry)) (now (owners .entry)) n runs (now (lowest .entry)) (now (highest .entry)) (counts .fluents) (counts .entries)
-        → Occurring d (now (names .entry)) (step .entries) → Belonging d (now (names .entry)) (step .agents) → Acted d sheet (now (history .entry)) (step .j + 1)
-        → leaving r (stateAt (counts .fluents) (now (history .exit)) (step .j + 1)) ≡ paper.step d sheet (statesOf (counts .fluents) (step .j + 1) (now (history .entry))) (step .j) (now (names .entry))) ⌝ }
+    requires { ⌜ Checkable runs count (step .j) ⌝ }
+    ensures { λ r. ⌜ ((d : Domain) (n w : ℕ) (lowest highest : List ℤ) (sheet : List Names) (names : Names)
+        → Prepared d (now (held .entry)) (now (owners .entry)) n runs lowest highest w count → Acts d names (step .acting) → Acted d sheet (now (history .entry)) (step .j + 1)
+        → passOf r ≡ allowed d (paper.history d sheet (statesOf w (step .j + 1) (now (history .entry)))) (step .j) names) ⌝ }
 {
-    if let Check::Failed(fault, n) = check_agents(names, step.agents) {
+    let acting = step.acting;
+    let placed = acting.placed;
+    if let Check::Failed(fault, n) = placed {
         return Check::Failed(fault, n);
     }
     let first = runs.first;
@@ -96,30 +61,76 @@ fn take_step(
         owners,
         &first,
         &last,
-        counts.entries,
+        count,
         step,
         history,
     ) {
         return Check::Failed(fault, n);
     }
     let together = runs.concurrency;
-    if let Check::Failed(fault, n) = check_laws(
+    check_laws(
         held,
         together,
         Kind::CONCURRENCY,
         Fault::Concurrency,
         history,
         step.j,
+    )
+}
+
+// Checks 4 to 6: what the effect laws set, the new state as state j + 1, the static laws on it. The levels of state j are given,
+// wide enough for what an expression gives, and those of the new state left in their place: so they are read once for a sheet.
+fn land(
+    held: &[u8; HELD],
+    runs: Runs,
+    lowest: &[i16; Counts::FLUENTS],
+    highest: &[i16; Counts::FLUENTS],
+    w: usize,
+    step: Step,
+    new: &mut [i32; Counts::FLUENTS],
+    history: &mut [i16; HISTORY],
+) -> Check
+    requires { ⌜ Landable runs (now lowest) (now highest) w (now history) (step .j) (now new) ⌝ }
+    ensures { λ r. ⌜ Stored (step .j) (now (history .entry)) (now (history .exit)) (now (new .exit)) × ((d : Domain) (owners : List ℕ) (n count : ℕ) (sheet : List Names) (names : Names)
+        → Prepared d (now (held .entry)) owners n runs (now (lowest .entry)) (now (highest .entry)) w count → Occurring d names (step .acting .entries) → Acted d sheet (now (history .entry)) (step .j + 1)
+        → Laid w (now (new .entry)) [] (stateAt w (now (history .entry)) (step .j))
+        → Landed r w (now (new .exit)) (stateAt w (now (history .exit)) (step .j + 1)) (landed d sheet (statesOf w (step .j + 1) (now (history .entry))) (step .j) names)) ⌝ }
+{
+    // "Effects are settled by values before the step": the present is state j, and the static laws are read on the next.
+    let present = step.j;
+    let next = present + 1;
+    if let Check::Failed(fault, n) = lay_effects(
+        held,
+        runs.effect,
+        step.acting.entries,
+        history,
+        present,
+        new,
     ) {
         return Check::Failed(fault, n);
     }
-    land(held, runs, lowest, highest, counts.fluents, step, history)
+    if let Check::Failed(fault, n) = put_state(lowest, highest, w, new, history, present) {
+        return Check::Failed(fault, n);
+    }
+    check_laws(held, runs.fixed, Kind::STATIC, Fault::Static, history, next)
 }
 
 // A verdict, and how many states were reached.
 pub struct Ran {
     pub verdict: Verdict,
     pub reached: usize,
+}
+
+// A fault at a step, with so many states reached before it.
+fn broken(fault: Fault, step: usize, number: usize, reached: usize) -> Ran
+    ensures { λ r. ⌜ r ≡ record { verdict = Broken fault step number; reached = reached } ⌝ }
+{
+    let verdict = Verdict::Broken {
+        fault,
+        step,
+        number,
+    };
+    Ran { verdict, reached }
 }
 
 // What is found once for a judgement. It goes by value once, to each of the two that follow: what is called in every step is lent
@@ -154,38 +165,43 @@ fn run_steps(
     let highest = plan.highest;
     let actions = plan.names;
     let crews = plan.crews;
-    let idle = idle_acting(agents, &actions, &crews, counts.entries);
+    let mut levels = [0i32; Counts::FLUENTS];
+    old_levels(history, 0, counts.fluents, &mut levels);
+    let mut acting = Acting {
+        entries: 0,
+        placed: Check::Passed,
+    };
+    let mut before = &sheet[..0];
     let mut rest = sheet;
     let mut j = 0;
     while j < n {
         let names = &rest[..agents];
-        let acting = acting_in(names, idle, &actions, &crews, counts.entries);
+        acting = acting_in(names, before, acting, &actions, &crews, counts.entries);
         mark_step(history, j, acting.entries, counts.entries);
-        let step = Step {
-            entries: acting.entries,
-            agents: acting.agents,
-            j,
-        };
-        if let Check::Failed(fault, number) = take_step(
+        let step = Step { acting, j };
+        if let Check::Failed(fault, number) = check_acts(
             held,
             &owners,
             runs,
-            &lowest,
-            &highest,
-            counts,
-            names,
+            counts.entries,
             step,
             history,
         ) {
-            return Ran {
-                verdict: Verdict::Broken {
-                    fault,
-                    step: j + 1,
-                    number,
-                },
-                reached: j + 1,
-            };
+            return broken(fault, j + 1, number, j + 1);
         }
+        if let Check::Failed(fault, number) = land(
+            held,
+            runs,
+            &lowest,
+            &highest,
+            counts.fluents,
+            step,
+            &mut levels,
+            history,
+        ) {
+            return broken(fault, j + 1, number, j + 1);
+        }
+        before = names;
         rest = &rest[agents..];
         j += 1;
     }
@@ -220,14 +236,7 @@ pub(crate) fn run_sheet(
         history,
         0,
     ) {
-        return Ran {
-            verdict: Verdict::Broken {
-                fault,
-                step: 0,
-                number,
-            },
-            reached: 0,
-        };
+        return broken(fault, 0, number, 0);
     }
     let ran = run_steps(held, plan, sheet, n, history);
     let verdict = ran.verdict;
@@ -244,14 +253,7 @@ pub(crate) fn run_sheet(
         history,
         n,
     ) {
-        return Ran {
-            verdict: Verdict::Broken {
-                fault,
-                step: n,
-                number,
-            },
-            reached: n + 1,
-        };
+        return broken(fault, n, number, n + 1);
     }
     ran
 }

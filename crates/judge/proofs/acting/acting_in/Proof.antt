@@ -1,28 +1,36 @@
-use Prim.Native.Nat.{ℕ}
-use mathlib.Core.Path.{sym, ap, _∙_}
-use mathlib.Core.List.{List}
+use mathlib.Core.Path.{ap, subst}
 use borrow.Author.Needs.{needs}
-use Rattle.judge.specs.Masks.{actingOf}
+use Rattle.bmap.specs.Domain.{Names}
+use Rattle.judge.specs.Told.{Acts}
+use Rattle.judge.specs.declared.acting.Occurs.{Occurs}
+use Rattle.judge.proofs.RunLaws.{occurring-is, belonging-is}
 use Rattle.judge.proofs.acting.acting_in.Statement.{statement}
 use Rattle.judge.proofs.acting.acting_in.Tie as tie
 
-all-idle-requires : tie.Need-all-idle-requires
-all-idle-requires c κs = search needs
+same-names-requires : tie.Need-same-names-requires
+same-names-requires c κs = search needs
 
 returns : tie.Need-returns
-returns c = let s = c .before .before .before .args in c .before .before .before .pre .1 ∙ ap (λ (l : List ℕ). actingOf l (s .actions .now) (s .crews .now) (s .n)) (sym (c .before .all-idle .ensures (c .if1 .taken)))
+returns c = let s = c .before .before .before .before .args in let again = c .before .same-names .ensures (c .if1 .taken) in λ d entered long last. subst (λ (l : Names). Acts d l (s .last)) (again .same) (last (again .some))
 
 who-acts-requires : tie.Need-who-acts-requires
-who-acts-requires c κs = c .before .before .before .pre .0
+who-acts-requires c κs = c .before .before .before .before .pre
+
+check-agents-requires : tie.Need-check-agents-requires
+check-agents-requires c κs = c .before .before .before .before .before .pre .few
 
 returns-2 : tie.Need-returns-2
-returns-2 c = c .who-acts .ensures
+returns-2 c = let s = c .before .before .before .before .before .before .args in let occurs = c .before .who-acts .ensures in λ d entered long last. record {
+  occurring = occurring-is d (s .names .now) (s .actions .now) (s .crews .now) (s .n) entered long (ap (λ (o : Occurs). o .entries) occurs);
+  agents = c .check-agents .ensures d (belonging-is d (s .names .now) (s .actions .now) (s .crews .now) (s .n) entered long (ap (λ (o : Occurs). o .agents) occurs));
+}
 
 pub acting-in-spec : {M : Type 1} → statement M
 acting-in-spec =
     tie.close
     (tie.spec
-    all-idle-requires
+    same-names-requires
     returns
     who-acts-requires
+    check-agents-requires
     returns-2)

@@ -17,19 +17,19 @@ use Rattle.judge.proofs.checks.check_entries.Statement.{statement}
 use Rattle.judge.proofs.checks.check_entries.Tie as tie
 
 abbrev Inv-loop : tie.InvT-loop
-Inv-loop held owners first last count step history rest₀ i₀ rest i = (rest ≡ step .entries / 2 ^ i) × ((d : Domain) (h : History) (n : ℕ) (names : Names) → Lawful d held n → Owns owners n first last → Owned d owners → Occurring d names (step .entries) → length (d .entries) ≡ count → Seen true d h history (step .j)
+Inv-loop held owners first last count step history rest₀ i₀ rest i = (rest ≡ step .acting .entries / 2 ^ i) × ((d : Domain) (h : History) (n : ℕ) (names : Names) → Lawful d held n → Owns owners n first last → Owned d owners → Occurring d names (step .acting .entries) → length (d .entries) ≡ count → Seen true d h history (step .j)
     → eachFrom 0 (mayOccur d h (step .j) names) (d .entries) ≡ eachFrom i (mayOccur d h (step .j) names) (drop i (d .entries)))
 
 abbrev μ-loop : tie.MeasureT-loop
 μ-loop held owners first last count step history rest₀ i₀ rest i = count - i
 
 loop-holds : tie.Need-loop-holds Inv-loop μ-loop
-loop-holds c = (first-rest (c .args .step .entries), λ d h n names lawful owns owned occurring count seen. refl)
+loop-holds c = (first-rest (c .args .step .acting .entries), λ d h n names lawful owns owned occurring count seen. refl)
 
 returns : tie.Need-returns Inv-loop μ-loop
 returns c = λ d h n names lawful owns owned occurring count seen. let a = c .before .before .before .args in let f = mayOccur d h (a .step .j) names in let i = c .before .before .loop .i in
     sym (c .before .before .loop .inv .1 d h n names lawful owns owned occurring count seen ∙ rests (λ k r. eachFrom k f r) (d .entries) noEntry i (each-none f)
-    (λ k p q. each-on f k _ _ (occurs-not d h (a .step .j) names k _ (bits-none (a .step .entries) i k (sym (c .before .before .loop .inv .0) ∙ c .if1 .taken) p ∙ sym (occurring k q)))))
+    (λ k p q. each-on f k _ _ (occurs-not d h (a .step .j) names k _ (bits-none (a .step .acting .entries) i k (sym (c .before .before .loop .inv .0) ∙ c .if1 .taken) p ∙ sym (occurring k q)))))
 
 element-copy-out-wide : tie.Need-element-copy-out-wide Inv-loop μ-loop
 element-copy-out-wide c = search needs
@@ -53,7 +53,7 @@ returns-2 : tie.Need-returns-2 Inv-loop μ-loop
 returns-2 c = λ d h n names lawful owns owned occurring count seen. let a = c .before .before .before .before .before .before .before .before .before .before .before .before .args in let f = mayOccur d h (a .step .j) names in let i = c .before .before .before .before .before .before .before .before .before .before .before .loop .i in
     let p : i < length (d .entries) = omega (arith, c .before .before .before .before .before .before .before .before .before .before .loop-test .taken) in
     sym (c .before .before .before .before .before .before .before .before .before .before .before .loop .inv .1 d h n names lawful owns owned occurring count seen ∙ stops (λ k r. eachFrom k f r) (d .entries) noEntry i p (each-stop f i _ _
-    (occurs-may d h (a .step .j) names i _ (sym (occurring i p ∙ bit-set (a .step .entries) i (c .before .before .before .before .before .before .before .before .before .before .before .loop .inv .0) (c .before .before .before .before .before .before .before .before .if2 .taken))) ∙ (sym (c .before .before .before .check-entry .ensures d h n lawful (own-moved (c .before .before .before .before .before .before .wide .ensures) (c .before .before .before .before .wide2 .ensures) (owns i (omega arith))) owned seen) ∙ ap passOf (c .before .fault .given .1)))))
+    (occurs-may d h (a .step .j) names i _ (sym (occurring i p ∙ bit-set (a .step .acting .entries) i (c .before .before .before .before .before .before .before .before .before .before .before .loop .inv .0) (c .before .before .before .before .before .before .before .before .if2 .taken))) ∙ (sym (c .before .before .before .check-entry .ensures d h n lawful (own-moved (c .before .before .before .before .before .before .wide .ensures) (c .before .before .before .before .wide2 .ensures) (owns i (omega arith))) owned seen) ∙ ap passOf (c .before .fault .given .1)))))
 
 enum-told : tie.Need-enum-told Inv-loop μ-loop
 enum-told c = search needs
@@ -66,12 +66,12 @@ loop-less c = search needs
 
 loop-again : tie.Need-loop-again Inv-loop μ-loop
 loop-again c = (
-  next-rest (c .before .before .before .before .args .step .entries) (c .before .before .before .loop .i) (c .before .before .before .loop .inv .0),
+  next-rest (c .before .before .before .before .args .step .acting .entries) (c .before .before .before .loop .i) (c .before .before .before .loop .inv .0),
   λ d h n names lawful owns owned occurring count seen. let a = c .before .before .before .before .args in let f = mayOccur d h (a .step .j) names in let i = c .before .before .before .loop .i in
       let p : i < length (d .entries) = omega (arith, c .before .before .loop-test .taken) in
       c .before .before .before .loop .inv .1 d h n names lawful owns owned occurring count seen ∙ on (λ k r. eachFrom k f r) (d .entries) noEntry i p (each-on f i _ _ (⊎-elim
-      (λ w. occurs-may d h (a .step .j) names i _ (sym (occurring i p ∙ bit-set (a .step .entries) i (c .before .before .before .loop .inv .0) (w .0 .taken))) ∙ (sym (w .5 .ensures d h n lawful (own-moved (w .2 .ensures) (w .4 .ensures) (owns i (omega arith))) owned seen) ∙ ap passOf (w .7 .given .1)))
-      (λ w. occurs-not d h (a .step .j) names i _ (sym (occurring i p ∙ bit-clear (a .step .entries) i (c .before .before .before .loop .inv .0) (w .left))))
+      (λ w. occurs-may d h (a .step .j) names i _ (sym (occurring i p ∙ bit-set (a .step .acting .entries) i (c .before .before .before .loop .inv .0) (w .0 .taken))) ∙ (sym (w .5 .ensures d h n lawful (own-moved (w .2 .ensures) (w .4 .ensures) (owns i (omega arith))) owned seen) ∙ ap passOf (w .7 .given .1)))
+      (λ w. occurs-not d h (a .step .j) names i _ (sym (occurring i p ∙ bit-clear (a .step .acting .entries) i (c .before .before .before .loop .inv .0) (w .left))))
       (c .if2 .came))),
 )
 

@@ -80,7 +80,13 @@ run-sheet-requires c κs =
         entries = sound .entries;
         named = omega (arith, sound .entries, long s .names);
         crewed = omega (arith, sound .entries, long s .crews);
-        laws = ((λ i h. omega (arith, runs .executable i h .ends, sound .laws), omega (arith, runs .effect .ends, sound .laws)), (omega (arith, runs .fixed .ends, sound .laws), (omega (arith, runs .concurrency .ends, sound .laws), omega (arith, runs .goal .ends, sound .laws))));
+        laws = record {
+          own = λ i h. omega (arith, runs .executable i h .ends, sound .laws);
+          effect = omega (arith, runs .effect .ends, sound .laws);
+          fixed = omega (arith, runs .fixed .ends, sound .laws);
+          concurrency = omega (arith, runs .concurrency .ends, sound .laws);
+          goal = omega (arith, runs .goal .ends, sound .laws);
+        };
         fluents = sound .fluents;
         low = omega (arith, sound .fluents, long s .lowest);
         high = omega (arith, sound .fluents, long s .highest);

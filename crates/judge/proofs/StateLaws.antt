@@ -8,7 +8,7 @@ use native.Mathlib.Omega.{arith}
 use native.Mathlib.Decide.{decLt}
 use lib.IntN.{ℤ, pos}
 use lib.ListN.{length, getD, take, drop, set, length-drop, length-append, length-set, List·getD-append}
-use lib.Seq.{getD-set-same, getD-set-other, getD-append-seam, getD-take, getD-drop, take-take, take-suc-set, take-set-le, drop-set-lt, drop-set-add, length-take-le, paste, paste-suc, take-append-seam, drop-append-add, drop-drop}
+use lib.Seq.{getD-set-same, getD-set-other, getD-append-seam, getD-take, getD-drop, take-take, take-suc-set, take-set-le, drop-set-lt, drop-set-add, length-take-le, paste, paste-suc, length-paste, take-paste, drop-paste, take-at, take-append-add, drop-drop}
 use Rattle.bmap.specs.Plain.{flat, numbers}
 use Rattle.bmap.specs.Limits.{mostFluents, mostEntries}
 use Rattle.bmap.specs.Domain.{State, has}
@@ -150,15 +150,57 @@ module _ (w k : ℕ) (h : List ℤ) (p : rowSize * k + w ≤ length h) where
   pub flat-length : length (flat (statesOf w (k + 1) h)) ≡ length (flat (statesOf w k h)) + w
   flat-length = ap length flat-more ∙ (length-append (flat (statesOf w k h)) (stateAt w h k) ∙ ap (λ (n : ℕ). length (flat (statesOf w k h)) + n) state-length)
 
-  -- one more state, pasted after those that are written
-  pub written-more : (d l : List ℤ) (at : ℕ) → at ≡ length (flat (statesOf w k h)) → l ≡ over (flat (statesOf w k h)) d
-      → paste l at (drop (rowSize * k) h) w ≡ over (flat (statesOf w (k + 1) h)) d
-  written-more d l at a e = rw (e, a, take-append-seam, drop-append-add, drop-drop, flat-length, flat-more)
+-- levels moved by way of another list are those that were there
+pub row-moved : (h row : List ℤ) (from at n : ℕ) → from + n ≤ length h → paste h at (paste row 0 (drop from h) n) n ≡ paste h at (drop from h) n
+row-moved h row from at n p = ap (λ (l : List ℤ). take at h ++ l ++ drop (at + n) h) (take-at (take n (drop from h)) (drop (0 + n) row) n (length-take-le n (drop from h) (omega (arith, length-drop from h))))
 
-pub written-none : (w : ℕ) (h d : List ℤ) → d ≡ over (flat (statesOf w 0 h)) d
-unfolding flat statesOf
-written-none w h d = refl
+-- the first k states stand at the front, so many levels, and the rows after them as they were
+pub record Closed (w k : ℕ) (h₀ h : List ℤ) (at : ℕ) : Type 0 where
+  pub place : at ≡ length (flat (statesOf w k h₀))
+  pub front : take at h ≡ flat (statesOf w k h₀)
+  pub behind : drop (rowSize * k) h ≡ drop (rowSize * k) h₀
+  pub long : length h ≡ length h₀
 
-pub flat-none : (w : ℕ) (h : List ℤ) → 0 ≡ length (flat (statesOf w 0 h))
+pub closed-none : (w : ℕ) (h : List ℤ) → Closed w 0 h h 0
 unfolding flat statesOf
-flat-none w h = refl
+closed-none w h = record { place = refl; front = refl; behind = refl; long = refl }
+
+module _ (w k : ℕ) (h₀ h : List ℤ) (at : ℕ) (closed : Closed w k h₀ h at) (few : w ≤ mostFluents) (near : at ≤ mostFluents * k) (p : rowSize * k + mostFluents ≤ length h₀) where
+  abbrev moved : List ℤ
+  moved = paste h at (drop (rowSize * k) h) mostFluents
+
+  fits : mostFluents ≤ length (drop (rowSize * k) h)
+  fits = omega (arith, length-drop (rowSize * k) h, closed .long)
+
+  front-more : take (at + w) moved ≡ flat (statesOf w (k + 1) h₀)
+  front-more =
+      sym (take-take (at + w) (at + mostFluents) moved (omega arith))
+      ∙ (ap (take (at + w)) (take-paste h at (drop (rowSize * k) h) mostFluents (omega (arith, closed .long)) fits)
+      ∙ (ap (λ (n : ℕ). take (n + w) (take at h ++ take mostFluents (drop (rowSize * k) h))) (sym (length-take-le at h (omega (arith, closed .long))))
+      ∙ (take-append-add (take at h) (take mostFluents (drop (rowSize * k) h)) w
+      ∙ (ap (λ (l : List ℤ). take at h ++ l) (take-take w mostFluents (drop (rowSize * k) h) few ∙ ap (take w) (closed .behind))
+      ∙ (ap (λ (l : List ℤ). l ++ stateAt w h₀ k) (closed .front) ∙ sym (flat-more w k h₀ (omega arith)))))))
+
+  behind-on : (l : List ℤ) → drop (rowSize * (k + 1)) l ≡ drop rowSize (drop (rowSize * k) l)
+  behind-on l = ap (λ (n : ℕ). drop n l) (let z : rowSize * (k + 1) ≡ rowSize * k + rowSize = omega arith in z) ∙ sym (drop-drop rowSize (rowSize * k) l)
+
+  -- what is kept after the row that was written
+  behind-kept : drop (rowSize * (k + 1)) moved ≡ drop (rowSize * (k + 1)) h
+  behind-kept =
+      let m : ℕ = rowSize * (k + 1) - (at + mostFluents) in let z : rowSize * (k + 1) ≡ at + mostFluents + m = omega arith in
+      ap (λ (n : ℕ). drop n moved) z
+      ∙ (sym (drop-drop m (at + mostFluents) moved)
+      ∙ (ap (drop m) (drop-paste h at (drop (rowSize * k) h) mostFluents (omega (arith, closed .long)) fits)
+      ∙ (drop-drop m (at + mostFluents) h ∙ ap (λ (n : ℕ). drop n h) (sym z))))
+
+  pub closed-more : Closed w (k + 1) h₀ moved (at + w)
+  closed-more = record {
+    place = omega (arith, flat-length w k h₀ (omega arith), closed .place);
+    front = front-more;
+    behind = behind-kept ∙ (behind-on h ∙ (ap (drop rowSize) (closed .behind) ∙ sym (behind-on h₀)));
+    long = length-paste h at (drop (rowSize * k) h) mostFluents (omega (arith, closed .long)) fits ∙ closed .long;
+  }
+
+pub closed-over : (w n : ℕ) (h₀ h : List ℤ) (at : ℕ) (levels : List ℤ) → Closed w n h₀ h at → paste levels 0 h at ≡ over (flat (statesOf w n h₀)) levels
+closed-over w n h₀ h at levels closed =
+    ap (λ (l : List ℤ). l ++ drop (0 + at) levels) (closed .front) ∙ ap (λ (m : ℕ). flat (statesOf w n h₀) ++ drop m levels) (let z : 0 + at ≡ length (flat (statesOf w n h₀)) = omega (arith, closed .place) in z)

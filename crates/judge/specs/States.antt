@@ -1,11 +1,11 @@
 -- The states of a history, and which of its numbers a call leaves as they are.
-use Prim.Native.Nat.{ℕ, zero, suc, _*_, _+_, _≤_}
+use Prim.Native.Nat.{ℕ, zero, suc, _*_, _+_, _≤_, _<_}
 use mathlib.Core.Path.{_≡_}
 use mathlib.Core.Bool.{Bool, true, false}
 use mathlib.Core.List.{List, [], _∷_, _++_}
 use lib.IntN.{ℤ, pos}
 use lib.ListN.{length, getD, take, drop}
-use Rattle.bmap.specs.Limits.{mostFluents}
+use Rattle.bmap.specs.Limits.{mostFluents, mostEntries, mostSteps, levelsSize}
 use Rattle.bmap.specs.Domain.{State}
 use Rattle.bmap.specs.Judge.{Checked, fine, fault}
 use Rattle.law.specs.Evaluate.{rowSize, historySize}
@@ -52,3 +52,22 @@ Blank from h = (i : ℕ) → from ≤ i → getD h i (pos 0) ≡ pos 0
 abbrev pub markOf : Bool → ℤ
 markOf true = pos 1
 markOf false = pos 0
+
+-- the marks of a step can be written
+pub record Markable (j n : ℕ) (history : List ℤ) : Type 0 where
+  pub step : j < mostSteps
+  pub entries : n ≤ mostEntries
+  pub room : length history ≡ historySize
+
+-- a row of levels can be moved from one place to another
+pub record Movable (from to : ℕ) (history : List ℤ) : Type 0 where
+  pub source : from + mostFluents ≤ historySize
+  pub target : to + mostFluents ≤ historySize
+  pub room : length history ≡ historySize
+
+-- so many states can be copied out
+pub record Copyable (n w : ℕ) (history levels : List ℤ) : Type 0 where
+  pub reached : n ≤ mostSteps + 1
+  pub fluents : w ≤ mostFluents
+  pub room : length history ≡ historySize
+  pub buffer : levelsSize ≤ length levels

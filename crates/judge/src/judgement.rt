@@ -112,7 +112,7 @@ fn judge_by<'a>(
     }
     let mut history = [0i16; HISTORY];
     let ran = judge_steps(store, supplement, under, sheet, n, &mut history);
-    copy_states(&history, ran.reached, counts.fluents, levels);
+    copy_states(&mut history, ran.reached, counts.fluents, levels);
     let verdict = ran.verdict;
     Counted {
         judgement: Judgement::Judged(verdict),

@@ -1,15 +1,15 @@
 // The history of a judgement, in rows: the states reached, each with room for the most fluents, and the marks of the step from
 // it. Only where it is filled and copied out is the domain's own width met.
 ghost use mathlib.Core.Path.{_≡_};
-ghost use Prim.Native.Nat.{ℕ, _+_, _*_, _≤_, _<_};
+ghost use Prim.Native.Nat.{ℕ, _+_, _≤_, _<_};
 ghost use lib.ListN.{length, drop};
 ghost use lib.Seq.{paste};
 ghost use Rattle.bmap.specs.Plain.{flat};
-ghost use Rattle.bmap.specs.Limits.{mostFluents, mostEntries, mostSteps, levelsSize};
+ghost use Rattle.bmap.specs.Limits.{mostFluents};
 ghost use Rattle.bmap.specs.Buffer.{over};
 ghost use Rattle.bmap.specs.Domain.{has};
-ghost use Rattle.law.specs.Evaluate.{historySize, inStep};
-ghost use Rattle.judge.specs.States.{statesOf, Marking, Blank, marksFrom, markOf};
+ghost use Rattle.law.specs.Evaluate.{inStep};
+ghost use Rattle.judge.specs.States.{statesOf, Movable, Copyable, Markable, Marking, Blank, marksFrom, markOf};
 use bmap::Counts;
 use law::HISTORY;
 use law::ROW;
@@ -26,18 +26,36 @@ pub(crate) fn copy_levels(source: &[i16], from: usize, w: usize, levels: &mut [i
     }
 }
 
-// "The levels buffer … receives the states reached, fluent by fluent"; "Numbers after them are untouched".
-pub(crate) fn copy_states(history: &[i16], n: usize, w: usize, levels: &mut [i16])
-    requires { ⌜ (n ≤ mostSteps + 1) × ((w ≤ mostFluents) × ((length (now history) ≡ historySize) × (levelsSize ≤ length (now levels)))) ⌝ }
+// The levels of a row, moved to a place further to the front: as many as there may be, by way of an array of their own, so that
+// the compiler takes them as one.
+fn move_row(history: &mut [i16; HISTORY], from: usize, at: usize)
+    requires { ⌜ Movable from at (now history) ⌝ }
+    ensures { λ _. ⌜ now (history .exit) ≡ paste (now (history .entry)) at (drop from (now (history .entry))) mostFluents ⌝ }
+{
+    let mut row = [0i16; Counts::FLUENTS];
+    copy_levels(history, from, Counts::FLUENTS, &mut row, 0);
+    copy_levels(&row, 0, Counts::FLUENTS, history, at);
+}
+
+// "The levels buffer … receives the states reached, fluent by fluent"; "Numbers after them are untouched". The history is not read
+// again: the states are closed up in it, each over what its row has past the fluents of the one before, and copied at once.
+pub(crate) fn copy_states(
+    history: &mut [i16; HISTORY],
+    n: usize,
+    w: usize,
+    levels: &mut [i16],
+)
+    requires { ⌜ Copyable n w (now history) (now levels) ⌝ }
     ensures { λ _. ⌜ now (levels .exit) ≡ over (flat (statesOf w n (now (history .entry)))) (now (levels .entry)) ⌝ }
 {
     let mut at = 0;
     let mut k = 0;
     while k < n {
-        copy_levels(history, ROW * k, w, levels, at);
+        move_row(history, ROW * k, at);
         at += w;
         k += 1;
     }
+    copy_levels(history, 0, at, levels, 0);
 }
 
 // 1 where an entry occurs.
@@ -49,7 +67,7 @@ fn mark_of(occurs: bool) -> i16
 
 // The marks of the step from state j, for the first n entries. Where none occurs nothing is done: nobody wrote there before.
 pub(crate) fn mark_step(history: &mut [i16; HISTORY], j: usize, entries: u64, n: usize)
-    requires { ⌜ (j < mostSteps) × ((n ≤ mostEntries) × (length (now history) ≡ historySize)) ⌝ }
+    requires { ⌜ Markable j n (now history) ⌝ }
     ensures { λ _. ⌜ Marking j (now (history .entry)) (now (history .exit)) × (Blank (marksFrom j) (now (history .entry)) → (e : ℕ) → e < n → inStep (now (history .exit)) e (j + 1) ≡ has entries e) ⌝ }
 {
     if entries == 0 {

@@ -32,11 +32,8 @@ judge-steps-requires c κs = let start = c .before .before .before .before .befo
   blank = λ i h. blank-zeros historySize i;
 }
 
-slice-aggregate-copy-states : tie.Need-slice-aggregate-copy-states
-slice-aggregate-copy-states c = search needs
-
 copy-states-requires : tie.Need-copy-states-requires
-copy-states-requires c κs = let s = c .before .before .before .before .before .before .before .before .before .before in let ran = c .before .before .judge-steps .ensures .0 in (omega (arith, ran .0), (s .pre .0 .fluents, (ran .1, s .pre .1)))
+copy-states-requires c κs = let s = c .before .before .before .before .before .before .before .before .before .before in let ran = c .before .before .judge-steps .ensures .0 in record { reached = omega (arith, ran .0); fluents = s .pre .0 .fluents; room = ran .1; buffer = s .pre .1 }
 
 same-length : tie.Need-same-length
 same-length c = search needs
@@ -57,7 +54,6 @@ judge-by-spec =
     (λ c κs. search needs)
     returns-2
     judge-steps-requires
-    slice-aggregate-copy-states
     copy-states-requires
     same-length
     returns-3)

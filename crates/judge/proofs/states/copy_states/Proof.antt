@@ -1,30 +1,29 @@
-use Prim.Native.Nat.{_-_, _*_, _≤_}
-use mathlib.Core.Path.{_≡_, refl, _∙_}
+use Prim.Native.Nat.{_+_, _-_, _*_, _≤_}
+use mathlib.Core.Path.{_≡_, refl, subst, sym, _∙_}
+use mathlib.Core.List.{List}
 use native.Mathlib.Omega.{arith}
 use borrow.Author.Needs.{needs}
-use lib.ListN.{length}
-use Rattle.bmap.specs.Plain.{flat}
+use lib.IntN.{ℤ}
 use Rattle.bmap.specs.Limits.{mostFluents}
-use Rattle.bmap.specs.Buffer.{over}
-use Rattle.judge.specs.States.{statesOf}
-use Rattle.judge.proofs.StateLaws.{written-none, flat-none, flat-length, written-more}
+use Rattle.judge.proofs.StateLaws.{Closed, closed-none, closed-more, closed-over}
 use Rattle.judge.proofs.states.copy_states.Statement.{statement}
 use Rattle.judge.proofs.states.copy_states.Tie as tie
 
 abbrev Inv-loop : tie.InvT-loop
-Inv-loop history n w levels₀ at₀ k₀ levels at k = (k ≤ n) × ((at ≤ mostFluents * k) × ((length levels ≡ length levels₀) × ((at ≡ length (flat (statesOf w k history))) × (levels ≡ over (flat (statesOf w k history)) levels₀))))
+Inv-loop history₀ n w levels at₀ k₀ history at k = (k ≤ n) × ((at ≤ mostFluents * k) × Closed w k history₀ history at)
 
 abbrev μ-loop : tie.MeasureT-loop
-μ-loop history n w levels₀ at₀ k₀ levels at k = n - k
+μ-loop history₀ n w levels at₀ k₀ history at k = n - k
 
 loop-holds : tie.Need-loop-holds Inv-loop μ-loop
-loop-holds c = (search needs, (search needs, (refl, (flat-none _ _, written-none _ _ _))))
+loop-holds c = (search needs, (search needs, closed-none (c .args .w) (c .args .history .now)))
 
-mul-copy-levels : tie.Need-mul-copy-levels Inv-loop μ-loop
-mul-copy-levels c = search needs
+mul-move-row : tie.Need-mul-move-row Inv-loop μ-loop
+mul-move-row c = search needs
 
-copy-levels-requires : tie.Need-copy-levels-requires Inv-loop μ-loop
-copy-levels-requires c κs = search needs
+move-row-requires : tie.Need-move-row-requires Inv-loop μ-loop
+move-row-requires c κs = let turn = c .before .before .loop in let pre = c .before .before .before .pre in
+    record { source = omega arith; target = omega arith; room = turn .inv .1 .1 .long ∙ pre .room }
 
 add-at : tie.Need-add-at Inv-loop μ-loop
 add-at c = search needs
@@ -36,25 +35,23 @@ loop-less : tie.Need-loop-less Inv-loop μ-loop
 loop-less c = search needs
 
 loop-again : tie.Need-loop-again Inv-loop μ-loop
-loop-again c = let s = c .before .before .before .before .before .args in (
+loop-again c = let turn = c .before .before .before .loop in let start = c .before .before .before .before in let s = start .args in (
   omega arith,
   (
     omega arith,
-    (
-      c .before .copy-levels .kept .1 .1 .1 .0 ∙ c .before .before .before .before .loop .inv .1 .1 .0,
-      (
-        omega (arith, flat-length (s .w) (c .before .before .before .before .loop .k) (s .history .now) (omega arith)),
-        c .before .copy-levels .ensures ∙ written-more (s .w) (c .before .before .before .before .loop .k) (s .history .now) (omega arith) (s .levels .now) (c .before .before .before .before .loop .levels) (c .before .before .before .before .loop .at) (c .before .before .before .before .loop .inv .1 .1 .1 .0) (c .before .before .before .before .loop .inv .1 .1 .1 .1),
-      ),
-    ),
+    subst (λ (h : List ℤ). Closed (s .w) (turn .k + 1) (s .history .now) h (turn .at + s .w)) (sym (c .move-row .ensures)) (closed-more (s .w) (turn .k) (s .history .now) (turn .history) (turn .at) (turn .inv .1 .1) (start .pre .fluents) (turn .inv .1 .0) (omega arith)),
   ),
 )
+
+copy-levels-requires : tie.Need-copy-levels-requires Inv-loop μ-loop
+copy-levels-requires c κs = (omega (arith, c .before .before .before .before .loop .inv .1 .1 .long), omega arith)
 
 same-length : tie.Need-same-length Inv-loop μ-loop
 same-length c = search needs
 
 returns : tie.Need-returns Inv-loop μ-loop
-returns c = let s = c .before .before .args in let z : c .before .loop .k ≡ s .n = omega arith in rw (← z) (c .before .loop .inv .1 .1 .1 .1)
+returns c = let turn = c .before .before .before .before .before .before .loop in let s = c .before .before .before .before .before .before .before .args in let z : turn .k ≡ s .n = omega arith in
+    rw (← z) (c .before .copy-levels .ensures ∙ closed-over (s .w) (turn .k) (s .history .now) (turn .history) (turn .at) (s .levels .now) (turn .inv .1 .1))
 
 pub copy-states-spec : {M : Type 1} → statement M
 copy-states-spec =
@@ -63,11 +60,12 @@ copy-states-spec =
     Inv-loop
     μ-loop
     loop-holds
-    mul-copy-levels
-    copy-levels-requires
+    mul-move-row
+    move-row-requires
     add-at
     add-k
     loop-less
     loop-again
+    copy-levels-requires
     same-length
     returns)

@@ -22,7 +22,7 @@ abbrev μ-loop : tie.MeasureT-loop
 
 returns : tie.Need-returns Inv-loop μ-loop
 returns c = let s = c .before .args in (
-  record { before = refl; after = refl; long = c .before .pre .1 .1 },
+  record { before = refl; after = refl; long = c .before .pre .room },
   λ blank e h. marks-none (s .history .now) (s .j) e blank ∙ ap (λ (m : ℕ). has m e) (sym (c .if1 .taken)),
 )
 
@@ -33,7 +33,7 @@ add-from : tie.Need-add-from Inv-loop μ-loop
 add-from c = search needs
 
 loop-holds : tie.Need-loop-holds Inv-loop μ-loop
-loop-holds c = ((search needs, first-rest (c .before .args .entries)), (record { before = refl; after = refl; long = c .before .pre .1 .1 }, λ e h. absurd (omega arith)))
+loop-holds c = ((search needs, first-rest (c .before .args .entries)), (record { before = refl; after = refl; long = c .before .pre .room }, λ e h. absurd (omega arith)))
 
 mark-of-requires : tie.Need-mark-of-requires Inv-loop μ-loop
 mark-of-requires c κs = search needs

@@ -161,7 +161,7 @@ acting-in-requires c κs = let h = c .before .before .before .before in let pre 
     record { few = omega (arith, length-take (agents (start h)) (rest h), pre .agents); entries = pre .entries; named = pre .named; crewed = pre .crewed }
 
 mark-step-requires : tie.Need-mark-step-requires Inv-loop μ-loop
-mark-step-requires c κs = let acting = c .before in (step-less acting, (start (head acting) .pre .entries, head acting .loop .inv .0 .room))
+mark-step-requires c κs = let acting = c .before in record { step = step-less acting; entries = start (head acting) .pre .entries; room = head acting .loop .inv .0 .room }
 
 check-acts-requires : tie.Need-check-acts-requires Inv-loop μ-loop
 check-acts-requires c κs = let acting = acts (c .before .before) in let pre = start (head acting) .pre in record { step = step-less acting; laws = pre .laws; entries = pre .entries }

@@ -9,7 +9,8 @@ use lib.Bits.{bitAnd, bitOr, or-shr, or-step, and-step, and-zero-l}
 use lib.Dec.{eqb}
 use lib.ListN.{getD}
 use lib.Pow.{pow-add, pow-mono, shr-shr, field, mod-mod-pow, shl-exact, pow-pos}
-use native.Mathlib.Nat.{mod-le}
+use native.Mathlib.Nat.{mod-le, lt-of-lt-of-le, div-eq-of-lt}
+use native.Mathlib.Decide.{decLt}
 use borrow.Author.Tests.{eq-eqb, ne-eqb}
 use Rattle.bmap.specs.Plain.{either, both, if-else, any, numbers}
 use Rattle.bmap.specs.Domain.{has}
@@ -191,6 +192,13 @@ first-rest mask = omega arith
 
 pub next-rest : (mask i : ℕ) {rest : ℕ} → rest ≡ mask / 2 ^ i → rest / 2 ≡ mask / 2 ^ (i + 1)
 next-rest mask i e = ap (λ (k : ℕ). k / 2) e ∙ shr-shr mask i 1
+
+-- as long as some are left, their place is one of the mask's
+pub rest-within : (mask w i : ℕ) {rest : ℕ} → mask < 2 ^ w → rest ≡ mask / 2 ^ i → (rest ≡ 0 → ⊥) → i < w
+rest-within mask w i small e some = elim (decLt i w) [
+  | yes h ↦ h
+  | no h ↦ absurd (some (e ∙ div-eq-of-lt (lt-of-lt-of-le small (pow-mono {i = w} {j = i} (omega arith)))))
+]
 
 pub bit-set : (mask i : ℕ) {rest : ℕ} → rest ≡ mask / 2 ^ i → rest % 2 ≡ 1 → has mask i ≡ true
 bit-set mask i {rest} e h = ap (λ (k : ℕ). eqb (k % 2) 1) (sym e) ∙ eq-eqb (rest % 2) 1 h

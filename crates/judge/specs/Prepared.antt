@@ -71,10 +71,9 @@ abbrev pub Entered : Domain → List ℕ → List ℕ → ℕ → Type 0
 Entered d actions crews count = d .entries ≡ map (λ i. record { name = getD actions i 0; crew = getD crews i 0 }) (numbers 0 count)
 
 -- the laws that allow a step can be read
-pub record Checkable (runs : Runs) (count j : ℕ) : Type 0 where
+pub record Checkable (runs : Runs) (j : ℕ) : Type 0 where
   pub step : j < mostSteps
   pub laws : Few runs
-  pub entries : count ≤ mostEntries
 
 -- state j + 1 can be stored, and the laws of each kind be read
 pub record Landable (runs : Runs) (lowest highest : List ℤ) (w : ℕ) (history : List ℤ) (j : ℕ) (new : List ℤ) : Type 0 where

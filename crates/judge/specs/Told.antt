@@ -1,5 +1,5 @@
 -- What the judge's functions may take for granted of the bytes and numbers that they are lent: that they are a domain's.
-use Prim.Native.Nat.{ℕ, _+_, _-_, _*_, _≤_, _<_}
+use Prim.Native.Nat.{ℕ, _+_, _-_, _*_, _^_, _≤_, _<_}
 use mathlib.Core.Path.{_≡_}
 use mathlib.Core.Bool.{Bool, true}
 use mathlib.Core.List.{List, [], _++_}
@@ -156,6 +156,7 @@ Belonging d names mask = (a : ℕ) → a < length names → any (carries d names
 -- what is found of the names of a step
 pub record Acts (d : Domain) (names : Names) (acting : Acting) : Type 0 where
   pub occurring : Occurring d names (acting .entries)
+  pub few : acting .entries < 2 ^ length (d .entries)
   pub agents : passOf (acting .placed) ≡ each (placed d names) names
 
 -- the marks of the steps 1 to m of a sheet

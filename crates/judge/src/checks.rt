@@ -12,7 +12,7 @@ ghost use Rattle.index.specs.Index.{lawNumber};
 ghost use Rattle.law.specs.Evaluate.{heldSize};
 ghost use Rattle.number.specs.Answer.{truthOf};
 ghost use Rattle.judge.specs.Answer.{passOf, kindOf};
-ghost use Rattle.judge.specs.Told.{Belonging, Occurring, Says, Lawful, Owned, Within, Own, Owns, Seen};
+ghost use Rattle.judge.specs.Told.{Belonging, Acts, Says, Lawful, Owned, Within, Own, Owns, Seen};
 use crate::acting::Step;
 use crate::acting::has_agent;
 use crate::acting::wide;
@@ -100,20 +100,16 @@ pub(crate) fn check_entries(
     owners: &[u8; Counts::LAWS],
     first: &[u8; Counts::ENTRIES],
     last: &[u8; Counts::ENTRIES],
-    count: usize,
     step: Step,
     history: &[i16; HISTORY],
 ) -> Check
-    requires { ⌜ (count ≤ mostEntries) × ((i : ℕ) → i < mostEntries → getD (now last) i 0 ≤ mostLaws) ⌝ }
+    requires { ⌜ ((i : ℕ) → i < mostEntries → getD (now last) i 0 ≤ mostLaws) ⌝ }
     ensures { λ r. ⌜ ((d : Domain) (h : History) (n : ℕ) (names : Names) → Lawful d (now (held .entry)) n → Owns (now (owners .entry)) n (now (first .entry)) (now (last .entry)) → Owned d (now (owners .entry))
-        → Occurring d names (step .acting .entries) → length (d .entries) ≡ count → Seen true d h (now (history .entry)) (step .j) → passOf r ≡ each (mayOccur d h (step .j) names) (d .entries)) ⌝ }
+        → Acts d names (step .acting) → Seen true d h (now (history .entry)) (step .j) → passOf r ≡ each (mayOccur d h (step .j) names) (d .entries)) ⌝ }
 {
     let mut rest = step.acting.entries;
     let mut i = 0;
-    while i < count {
-        if rest == 0 {
-            return Check::Passed;
-        }
+    while rest != 0 {
         if rest % 2 == 1 {
             let from = wide(first[i]);
             let to = wide(last[i]);

@@ -40,12 +40,11 @@ fn check_acts(
     held: &[u8; HELD],
     owners: &[u8; Counts::LAWS],
     runs: Runs,
-    count: usize,
     step: Step,
     history: &[i16; HISTORY],
 ) -> Check
-    requires { ⌜ Checkable runs count (step .j) ⌝ }
-    ensures { λ r. ⌜ ((d : Domain) (n w : ℕ) (lowest highest : List ℤ) (sheet : List Names) (names : Names)
+    requires { ⌜ Checkable runs (step .j) ⌝ }
+    ensures { λ r. ⌜ ((d : Domain) (n w count : ℕ) (lowest highest : List ℤ) (sheet : List Names) (names : Names)
         → Prepared d (now (held .entry)) (now (owners .entry)) n runs lowest highest w count → Acts d names (step .acting) → Acted d sheet (now (history .entry)) (step .j + 1)
         → passOf r ≡ allowed d (paper.history d sheet (statesOf w (step .j + 1) (now (history .entry)))) (step .j) names) ⌝ }
 {
@@ -61,7 +60,6 @@ fn check_acts(
         owners,
         &first,
         &last,
-        count,
         step,
         history,
     ) {
@@ -183,7 +181,6 @@ fn run_steps(
             held,
             &owners,
             runs,
-            counts.entries,
             step,
             history,
         ) {

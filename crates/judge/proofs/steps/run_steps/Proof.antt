@@ -120,7 +120,7 @@ module _ (d : Domain) (l : ℕ) where
 
   allowing : (c : tie.After-check-acts Inv-loop μ-loop) → let h = head (acts (marks c)) in let s = start h in Of s → passOf (c .check-acts .result) ≡ allowed d (history d (sheet s) (states (marks c))) (j h) (names h)
   allowing c p = let h = head (acts (marks c)) in let s = start h in
-      c .check-acts .ensures d l (fluents s) (s .args .plan .lowest) (s .args .plan .highest) (sheet s) (names h) (p .prepared) (who (acts (marks c)) p) (acted (marks c) p)
+      c .check-acts .ensures d l (fluents s) (s .args .plan .counts .entries) (s .args .plan .lowest) (s .args .plan .highest) (sheet s) (names h) (p .prepared) (who (acts (marks c)) p) (acted (marks c) p)
 
   landing : (c : tie.After-land Inv-loop μ-loop) → let m = marks (allows c) in let h = head (acts m) in let s = start h in Of s
       → Landed (c .land .result) (fluents s) (levels c) (stateAt (fluents s) (after c) (j h + 1)) (landed d (sheet s) (states m) (j h) (names h))
@@ -164,7 +164,7 @@ mark-step-requires : tie.Need-mark-step-requires Inv-loop μ-loop
 mark-step-requires c κs = let acting = c .before in record { step = step-less acting; entries = start (head acting) .pre .entries; room = head acting .loop .inv .0 .room }
 
 check-acts-requires : tie.Need-check-acts-requires Inv-loop μ-loop
-check-acts-requires c κs = let acting = acts (c .before .before) in let pre = start (head acting) .pre in record { step = step-less acting; laws = pre .laws; entries = pre .entries }
+check-acts-requires c κs = let acting = acts (c .before .before) in let pre = start (head acting) .pre in record { step = step-less acting; laws = pre .laws }
 
 enum-known-fault : tie.Need-enum-known-fault Inv-loop μ-loop
 enum-known-fault c = search needs

@@ -1,14 +1,16 @@
 -- What a step may do, and its new state, level by level.
-use Prim.Native.Nat.{ℕ, _<_}
+use Prim.Native.Nat.{ℕ, _≤_, _<_}
 use mathlib.Core.Path.{_≡_}
 use mathlib.Core.List.{List, []}
 use lib.IntN.{ℤ, pos}
 use lib.ListN.{length, getD}
 use lib.Signed.{leZ}
 use Rattle.bmap.specs.Plain.{both, if-else}
+use Rattle.bmap.specs.Limits.{mostFluents, mostSteps}
 use Rattle.bmap.specs.Domain.{Domain, Names, State, concurrency}
 use Rattle.bmap.specs.Meaning.{History}
 use Rattle.bmap.specs.Judge.{Checked, Pass, fine, fault, next, each, placed, mayOccur, allHold, inRange, Setting, levelAfter}
+use Rattle.law.specs.Evaluate.{historySize}
 use Rattle.judge.specs.Answer.{kindOf}
 use Rattle.judge.specs.States.{leaving}
 use Rattle.judge.specs.declared.verdict.Check.{Check}
@@ -26,6 +28,21 @@ allowed d h j names =
 -- v where it lies within the bounds
 unfoldable pub fitOf : ℤ → ℤ → ℤ → Fit
 fitOf lowest v highest = if-else (both (leZ lowest v) (leZ v highest)) (In v) Out
+
+-- the levels of state j can be read into an array
+pub record Readable (w j : ℕ) (history new : List ℤ) : Type 0 where
+  pub step : j ≤ mostSteps
+  pub fluents : w ≤ mostFluents
+  pub room : length history ≡ historySize
+  pub wide : length new ≡ mostFluents
+
+-- state j + 1 can be stored
+pub record Storable (lowest highest : List ℤ) (w : ℕ) (history : List ℤ) (j : ℕ) : Type 0 where
+  pub step : j < mostSteps
+  pub fluents : w ≤ mostFluents
+  pub low : w ≤ length lowest
+  pub high : w ≤ length highest
+  pub room : length history ≡ historySize
 
 -- the bounds of a domain's fluents
 pub record Ranged (d : Domain) (lowest highest : List ℤ) (w : ℕ) : Type 0 where

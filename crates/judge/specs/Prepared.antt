@@ -18,7 +18,7 @@ use Rattle.supplement.specs.Under.{underIn}
 use Rattle.supplement.specs.declared.under.Under.{Under}
 use Rattle.judge.specs.Answer.{verdictOf}
 use Rattle.judge.specs.States.{statesOf, Blank, Kept}
-use Rattle.judge.specs.Landing.{Ranged}
+use Rattle.judge.specs.Landing.{Ranged, Storable}
 use Rattle.judge.specs.Told.{Lawful, Owned, Ordered, Few}
 use Rattle.judge.specs.declared.reading.Runs.{Runs}
 use Rattle.judge.specs.declared.steps.Plan.{Plan}
@@ -75,14 +75,10 @@ pub record Checkable (runs : Runs) (j : ℕ) : Type 0 where
   pub step : j < mostSteps
   pub laws : Few runs
 
--- state j + 1 can be stored, and the laws of each kind be read
+-- state j + 1 can be stored, its levels found, and the laws of each kind be read
 pub record Landable (runs : Runs) (lowest highest : List ℤ) (w : ℕ) (history : List ℤ) (j : ℕ) (new : List ℤ) : Type 0 where
-  pub step : j < mostSteps
+  pub stores : Storable lowest highest w history j
   pub laws : Few runs
-  pub fluents : w ≤ mostFluents
-  pub low : w ≤ length lowest
-  pub high : w ≤ length highest
-  pub room : length history ≡ historySize
   pub wide : length new ≡ mostFluents
 
 -- of the history the levels of state j + 1 alone are written, and the array of levels is as long as it was

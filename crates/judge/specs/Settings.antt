@@ -2,7 +2,9 @@
 use Prim.Native.Nat.{ℕ, zero, suc}
 use mathlib.Core.List.{List, [], _∷_}
 use lib.IntN.{ℤ, pos}
-use lib.ListN.{getD}
+use mathlib.Core.Path.{_≡_}
+use lib.ListN.{length, getD}
+use Rattle.bmap.specs.Limits.{mostLaws}
 use mathlib.Core.Option.{Option, some}
 use Rattle.bmap.specs.Number.{Valued, value, no-value, with1}
 use Rattle.bmap.specs.Judge.{Checked, fine, fault, Setting}
@@ -18,6 +20,11 @@ setting f z = record { fluent = f; level = z }
 abbrev pub settingFrom : ℕ → Meant (Valued ℤ) → Valued (Option Setting)
 settingFrom f malformed = no-value
 settingFrom f (gives v n) = with1 (λ z. value (some (setting f z))) v
+
+-- two arrays with room for a setting of each law
+pub record Roomy (fs : List ℕ) (vs : List ℤ) : Type 0 where
+  pub fluents : length fs ≡ mostLaws
+  pub values : length vs ≡ mostLaws
 
 -- the first m of two arrays, the newest first
 unfoldable pub settingsOf : ℕ → List ℕ → List ℤ → List Setting

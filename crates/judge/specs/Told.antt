@@ -7,7 +7,7 @@ use mathlib.Core.Option.{some}
 use lib.IntN.{ℤ}
 use lib.ListN.{length, getD, take, drop}
 use Rattle.bmap.specs.Plain.{any, if-else}
-use Rattle.bmap.specs.Limits.{mostSteps, mostEntries, mostLaws, mostPayload, frameSize}
+use Rattle.bmap.specs.Limits.{mostAgents, mostFluents, mostSteps, mostEntries, mostLaws, mostPayload, frameSize}
 use Rattle.bmap.specs.Line.{effectKind, staticKind, concurrencyKind, goalKind}
 use Rattle.bmap.specs.Tree.{Con}
 use Rattle.bmap.specs.Meaning.{History}
@@ -90,6 +90,17 @@ ownerOf d (must s c) = nobody
 -- a table has the owner of each law
 abbrev pub Owned : Domain → List ℕ → Type 0
 Owned d owners = (i : ℕ) → i < length (d .laws) → getD owners i 0 ≡ ownerOf d (lawNumber d i)
+
+-- so many fluents, each with agents who know it
+pub record Listed (known knowers : List ℕ) (n : ℕ) : Type 0 where
+  pub fluents : n ≤ length known
+  pub agents : n ≤ length knowers
+
+-- a table for so many fluents and agents
+pub record Tabled (table : List ℕ) (w agents : ℕ) : Type 0 where
+  pub fluents : w ≤ mostFluents
+  pub whole : length table ≡ mostFluents
+  pub few : agents ≤ mostAgents
 
 -- a table has the agents who know each fluent, and a list the crew of each entry
 pub record Knowing (d : Domain) (table : List ℕ) (w : ℕ) (crews : List ℕ) (agents : ℕ) : Type 0 where

@@ -12,7 +12,7 @@ ghost use Rattle.bmap.specs.Domain.{Domain, Names, State};
 ghost use Rattle.bmap.specs.Meaning.{History};
 ghost use Rattle.bmap.specs.Judge.{settled};
 ghost use Rattle.judge.specs.Told.{Lawful, Within, Occurring, Seen};
-ghost use Rattle.judge.specs.Settings.{settledOf, countOf};
+ghost use Rattle.judge.specs.Settings.{Roomy, settledOf, countOf};
 ghost use Rattle.judge.specs.Landing.{Laid, Lays};
 use crate::landing::lay;
 use crate::reading::Run;
@@ -52,7 +52,7 @@ fn settle(
     fluents: &mut [u8; Counts::LAWS],
     values: &mut [i32; Counts::LAWS],
 ) -> Settled
-    requires { ⌜ (run .to ≤ mostLaws) × ((length (now fluents) ≡ mostLaws) × (length (now values) ≡ mostLaws)) ⌝ }
+    requires { ⌜ (run .to ≤ mostLaws) × Roomy (now fluents) (now values) ⌝ }
     ensures { λ r. ⌜ (countOf r ≤ mostLaws) × ((d : Domain) (h : History) (n : ℕ) (names : Names) → Lawful d (now (held .entry)) n → Within (now (held .entry)) n effectKind (run .from) (run .to)
         → Occurring d names entries → Seen true d h (now (history .entry)) j → settledOf r (now (fluents .exit)) (now (values .exit)) ≡ settled d h j names 0 [] (d .laws)) ⌝ }
 {

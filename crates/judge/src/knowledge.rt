@@ -10,7 +10,7 @@ ghost use Rattle.bmap.specs.Limits.{mostAgents, mostFluents, mostEntries, mostL
 ghost use Rattle.bmap.specs.Domain.{Domain, Law};
 ghost use Rattle.law.specs.Evaluate.{heldSize};
 ghost use Rattle.judge.specs.Masks.{unionFrom, maskFrom};
-ghost use Rattle.judge.specs.Told.{Says, Lawful, Owned, Knowing, ownerOf, FromOwn, ToOwn};
+ghost use Rattle.judge.specs.Told.{Says, Lawful, Owned, Listed, Tabled, Knowing, ownerOf, FromOwn, ToOwn};
 use crate::acting::pushed;
 use crate::acting::share;
 use crate::acting::taken_in;
@@ -32,7 +32,7 @@ fn same_fluent(a: u8, f: usize) -> bool
 
 // The agents who know a fluent: "several frames add up".
 fn knowers_of(known: &[u8], knowers: &[u16], n: usize, f: usize) -> u16
-    requires { ⌜ (n ≤ length (now known)) × (n ≤ length (now knowers)) ⌝ }
+    requires { ⌜ Listed (now known) (now knowers) n ⌝ }
     ensures { λ r. ⌜ r ≡ unionFrom (λ i. eqb (getD (now (known .entry)) i 0) f) (now (knowers .entry)) 0 n ⌝ }
 {
     let mut agents: u16 = 0;
@@ -51,7 +51,7 @@ pub(crate) fn all_knowers(
     n: usize,
     w: usize,
 ) -> [u16; Counts::FLUENTS]
-    requires { ⌜ (w ≤ mostFluents) × ((n ≤ length (now known)) × (n ≤ length (now knowers))) ⌝ }
+    requires { ⌜ (w ≤ mostFluents) × Listed (now known) (now knowers) n ⌝ }
     ensures { λ r. ⌜ (length r ≡ mostFluents) × ((f : ℕ) → f < w → getD r f 0 ≡ unionFrom (λ i. eqb (getD (now (known .entry)) i 0) f) (now (knowers .entry)) 0 n) ⌝ }
 {
     let mut table = [0u16; Counts::FLUENTS];
@@ -99,7 +99,7 @@ fn owner_of(
     crews: &[u16],
     agents: usize,
 ) -> u8
-    requires { ⌜ (at + 2 < heldSize) × ((w ≤ mostFluents) × ((length (now table) ≡ mostFluents) × (agents ≤ mostAgents))) ⌝ }
+    requires { ⌜ (at + 2 < heldSize) × Tabled (now table) w agents ⌝ }
     ensures { λ r. ⌜ ((d : Domain) (l : Law) → Says d (drop at (now (held .entry))) l → Knowing d (now (table .entry)) w (now (crews .entry)) agents → r ≡ ownerOf d l) ⌝ }
 {
     if held[at] != Kind::EXECUTABLE {
@@ -122,7 +122,7 @@ pub(crate) fn all_owners(
     crews: &[u16],
     agents: usize,
 ) -> [u8; Counts::LAWS]
-    requires { ⌜ (n ≤ mostLaws) × ((w ≤ mostFluents) × ((length (now table) ≡ mostFluents) × (agents ≤ mostAgents))) ⌝ }
+    requires { ⌜ (n ≤ mostLaws) × Tabled (now table) w agents ⌝ }
     ensures { λ r. ⌜ (length r ≡ mostLaws) × ((d : Domain) → Lawful d (now (held .entry)) n → Knowing d (now (table .entry)) w (now (crews .entry)) agents → Owned d r) ⌝ }
 {
     let mut owners = [NOBODY; Counts::LAWS];

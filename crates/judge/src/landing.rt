@@ -1,30 +1,28 @@
 // The new state: the old levels with the settings laid over them, and check 5 before each is stored.
 ghost use mathlib.Core.Path.{_≡_};
 ghost use mathlib.Core.List.{List, []};
-ghost use Prim.Native.Nat.{ℕ, _+_, _*_, _≤_, _<_};
+ghost use Prim.Native.Nat.{ℕ, _+_, _≤_};
 ghost use lib.ListN.{length, set};
-ghost use Rattle.bmap.specs.Limits.{mostFluents, mostSteps, mostLaws};
+ghost use Rattle.bmap.specs.Limits.{mostFluents, mostLaws};
 ghost use Rattle.bmap.specs.Domain.{Domain, State};
 ghost use Rattle.bmap.specs.Judge.{Setting, stateAfter};
-ghost use Rattle.law.specs.Evaluate.{historySize};
 ghost use Rattle.judge.specs.States.{stateAt, leaving, Kept};
 ghost use Rattle.judge.specs.Settings.{settingsOf};
-ghost use Rattle.judge.specs.Landing.{Ranged, Laid, ranged, fitOf};
+ghost use Rattle.judge.specs.Landing.{Readable, Storable, Ranged, Laid, ranged, fitOf};
 use crate::verdict::Check;
 use crate::verdict::Fault;
 use bmap::Counts;
 use law::HISTORY;
 use law::ROW;
 
-// The levels of state j, wide enough for what an expression gives. Written where they are read: an array that is handed back is
-// copied, and the copy waits for what was just written.
+// The levels of state j, wide enough for what an expression gives.
 pub(crate) fn old_levels(
     history: &[i16; HISTORY],
     j: usize,
     w: usize,
     new: &mut [i32; Counts::FLUENTS],
 )
-    requires { ⌜ ((j ≤ mostSteps) × (w ≤ mostFluents)) × ((length (now history) ≡ historySize) × (length (now new) ≡ mostFluents)) ⌝ }
+    requires { ⌜ Readable w j (now history) (now new) ⌝ }
     ensures { λ _. ⌜ (length (now (new .exit)) ≡ mostFluents) × Laid w (now (new .exit)) [] (stateAt w (now (history .entry)) j) ⌝ }
 {
     let mut f = 0;
@@ -86,7 +84,7 @@ pub(crate) fn put_state(
     history: &mut [i16; HISTORY],
     j: usize,
 ) -> Check
-    requires { ⌜ (j < mostSteps) × ((w ≤ mostFluents) × (((w ≤ length (now lowest)) × (w ≤ length (now highest))) × (length (now history) ≡ historySize))) ⌝ }
+    requires { ⌜ Storable (now lowest) (now highest) w (now history) j ⌝ }
     ensures { λ r. ⌜ Kept j (now (history .entry)) (now (history .exit)) × ((d : Domain) (settings : List Setting) (old : State) → Ranged d (now (lowest .entry)) (now (highest .entry)) w → Laid w (now (new .entry)) settings old
         → leaving r (stateAt w (now (history .exit)) (j + 1)) ≡ ranged d (stateAfter d settings old)) ⌝ }
 {

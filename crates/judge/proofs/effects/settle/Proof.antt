@@ -52,7 +52,7 @@ abbrev μ-laws : tie.MeasureT-laws
 laws-holds : tie.Need-laws-holds Inv-loop μ-loop Inv-laws μ-laws
 unfolding settingsOf
 laws-holds c = let s = c .args in (
-  (refl, c .pre .1),
+  (refl, (c .pre .1 .fluents, c .pre .1 .values)),
   (
     (search needs, search needs),
     λ d h n names lawful within occurring seen.

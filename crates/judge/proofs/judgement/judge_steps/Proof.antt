@@ -59,13 +59,13 @@ slice-aggregate-all-knowers-2 : tie.Need-slice-aggregate-all-knowers-2
 slice-aggregate-all-knowers-2 c = sym (long (start (c .before .before)) .knowers)
 
 all-knowers-requires : tie.Need-all-knowers-requires
-all-knowers-requires c κs = let s = start (c .before .before) in let sound = s .pre .limits in (sound .fluents, (omega (arith, sound .knowledge, long s .known), omega (arith, sound .knowledge, long s .knowers)))
+all-knowers-requires c κs = let s = start (c .before .before) in let sound = s .pre .limits in (sound .fluents, record { fluents = omega (arith, sound .knowledge, long s .known); agents = omega (arith, sound .knowledge, long s .knowers) })
 
 slice-aggregate-all-owners : tie.Need-slice-aggregate-all-owners
 slice-aggregate-all-owners c = sym (long (start (held (c .before .before .before))) .crews)
 
 all-owners-requires : tie.Need-all-owners-requires
-all-owners-requires c κs = let s = start (held (c .before .before .before)) in let sound = s .pre .limits in (sound .laws, (sound .fluents, (c .before .before .before .all-knowers .ensures .0, sound .agents)))
+all-owners-requires c κs = let s = start (held (c .before .before .before)) in let sound = s .pre .limits in (sound .laws, record { fluents = sound .fluents; whole = c .before .before .before .all-knowers .ensures .0; few = sound .agents })
 
 all-runs-requires : tie.Need-all-runs-requires
 all-runs-requires c κs = start (held (known (c .before .before))) .pre .limits .laws

@@ -19,7 +19,7 @@ abbrev μ-loop : tie.MeasureT-loop
 μ-loop history j w new₀ f₀ new f = w - f
 
 loop-holds : tie.Need-loop-holds Inv-loop μ-loop
-loop-holds c = (search needs, (c .pre .1 .1, λ k h. absurd (omega arith)))
+loop-holds c = (search needs, (c .pre .wide, λ k h. absurd (omega arith)))
 
 mul-new : tie.Need-mul-new Inv-loop μ-loop
 mul-new c = search needs

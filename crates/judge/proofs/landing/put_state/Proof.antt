@@ -28,7 +28,7 @@ abbrev μ-loop : tie.MeasureT-loop
 μ-loop lowest highest w new history₀ j f₀ history f = w - f
 
 loop-holds : tie.Need-loop-holds Inv-loop μ-loop
-loop-holds c = let s = c .args in (search needs, (record { before = refl; after = refl; long = c .pre .1 .1 .1 }, λ d settings old r l. (row-none (levelThen settings old) (rowSize * (s .j + 1)) (s .history .now), refl)))
+loop-holds c = let s = c .args in (search needs, (record { before = refl; after = refl; long = c .pre .room }, λ d settings old r l. (row-none (levelThen settings old) (rowSize * (s .j + 1)) (s .history .now), refl)))
 
 mul-fitted : tie.Need-mul-fitted Inv-loop μ-loop
 mul-fitted c = search needs

@@ -50,7 +50,7 @@ module _ (d : Domain) (owners : List ℕ) (n count : ℕ) (sheet : List Names) (
   laying : (c : tie.After-lay-effects) → Asked (start c) → Lays (c .lay-effects .result) (start c .args .w) (new c) (sets (start c) d sheet names) (old (start c))
   laying c (p, (occurring, (acted, laid))) = let s = start c .args in
       c .lay-effects .ensures .1 d (history d sheet (states (start c))) n names (s .w) (old (start c)) (p .lawful) (p .ordered .effect) occurring
-      (seen-all d sheet (s .w) (s .history .now) (s .step .j) (omega (arith, start c .pre .step)) (p .ranged .count) acted) (start c .pre .fluents) laid
+      (seen-all d sheet (s .w) (s .history .now) (s .step .j) (omega (arith, start c .pre .stores .step)) (p .ranged .count) acted) (start c .pre .stores .fluents) laid
 
   -- where they are fine
   laid-over : (c : tie.After-put-state) → Asked (start (effects c)) → LaidOver (start (effects c) .args .w) (new (effects c)) (sets (start (effects c)) d sheet names) (old (start (effects c)))
@@ -59,7 +59,7 @@ module _ (d : Domain) (owners : List ℕ) (n count : ℕ) (sheet : List Names) (
 -- ---- the needs
 
 add-next : tie.Need-add-next
-add-next c = omega (arith, c .pre .step)
+add-next c = omega (arith, c .pre .stores .step)
 
 lay-effects-requires : tie.Need-lay-effects-requires
 lay-effects-requires c κs = let pre = c .before .before .pre in (pre .laws .effect, pre .wide)
@@ -69,7 +69,7 @@ enum-known-fault c = search needs
 
 returns : tie.Need-returns
 returns c = let four = c .before .before .before in (
-  record { kept = record { before = refl; after = refl; long = start four .pre .room }; wide = four .lay-effects .ensures .0 },
+  record { kept = record { before = refl; after = refl; long = start four .pre .stores .room }; wide = four .lay-effects .ensures .0 },
   λ d owners n count sheet names p occurring acted laid. record {
     leaves = landed-clash d sheet (states (start four)) (start four .args .step .j) names
         (subst (λ (t : Check). Lays t (start four .args .w) (new four) (sets (start four) d sheet names) (old (start four))) (c .before .fault .given .1) (laying d owners n count sheet names four (p, (occurring, (acted, laid)))));
@@ -81,7 +81,7 @@ enum-told : tie.Need-enum-told
 enum-told c = search needs
 
 put-state-requires : tie.Need-put-state-requires
-put-state-requires c κs = let pre = start (c .before .before .before .before) .pre in (pre .step, (pre .fluents, ((pre .low, pre .high), pre .room)))
+put-state-requires c κs = start (c .before .before .before .before) .pre .stores
 
 enum-known-fault-2 : tie.Need-enum-known-fault-2
 enum-known-fault-2 c = search needs
@@ -108,8 +108,8 @@ returns-3 c = let five = c .before .before .before .before in let begun = start 
   λ d owners n count sheet names p occurring acted laid. let l = laid-over d owners n count sheet names five (p, (occurring, (acted, laid))) in let put = five .put-state .ensures .1 d (l .settings) (old begun) (p .ranged) (l .laid) in record {
     leaves = landed-fine d sheet (states begun) (s .step .j) names (l .settings) (old begun) (l .are) (states-at (s .w) (s .step .j + 1) (s .step .j) (s .history .now) (omega arith))
         (five .put-state .result) (c .check-laws .result) (stateAt (s .w) (after five) (s .step .j + 1)) (statesOf (s .w) (s .step .j + 1 + 1) (after five)) put (c .before .before .enum-told2 .given .1)
-        (states-more (s .w) (s .step .j) (s .history .now) (after five) (five .put-state .ensures .0 .before) (begun .pre .fluents))
-        (c .check-laws .ensures d (history d sheet (statesOf (s .w) (s .step .j + 1 + 1) (after five))) static n refl (p .lawful) (p .ordered .fixed) (seen-states d sheet (s .w) (after five) (s .step .j + 1) (omega (arith, begun .pre .step)) (p .ranged .count)));
+        (states-more (s .w) (s .step .j) (s .history .now) (after five) (five .put-state .ensures .0 .before) (begun .pre .stores .fluents))
+        (c .check-laws .ensures d (history d sheet (statesOf (s .w) (s .step .j + 1 + 1) (after five))) static n refl (p .lawful) (p .ordered .fixed) (seen-states d sheet (s .w) (after five) (s .step .j + 1) (omega (arith, begun .pre .stores .step)) (p .ranged .count)));
     levels = λ e. laid-again d (l .settings) (old begun) (s .lowest .now) (s .highest .now) (s .w) (p .ranged) (five .put-state .result) (stateAt (s .w) (after five) (s .step .j + 1)) (new (effects five)) put (c .before .before .enum-told2 .given .1) (l .laid);
   },
 )

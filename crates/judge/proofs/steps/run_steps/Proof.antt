@@ -136,7 +136,7 @@ module _ (d : Domain) (l : ℕ) where
 -- ---- the needs
 
 old-levels-requires : tie.Need-old-levels-requires Inv-loop μ-loop
-old-levels-requires c κs = let pre = c .before .before .before .before .before .before .before .before .before .before .pre in ((omega arith, pre .fluents), (pre .room, refl))
+old-levels-requires c κs = let pre = c .before .before .before .before .before .before .before .before .before .before .pre in record { step = omega arith; fluents = pre .fluents; room = pre .room; wide = refl }
 
 slice-aggregate-before : tie.Need-slice-aggregate-before Inv-loop μ-loop
 slice-aggregate-before c = search needs
@@ -191,7 +191,11 @@ enum-told c = search needs
 
 land-requires : tie.Need-land-requires Inv-loop μ-loop
 land-requires c κs = let m = marks (c .before .before .before .before .before .before) in let h = head (acts m) in let pre = start h .pre in
-    record { step = step-less (acts m); laws = pre .laws; fluents = pre .fluents; low = pre .low; high = pre .high; room = m .mark-step .ensures .0 .long; wide = h .loop .inv .0 .wide }
+    record {
+      stores = record { step = step-less (acts m); fluents = pre .fluents; low = pre .low; high = pre .high; room = m .mark-step .ensures .0 .long };
+      laws = pre .laws;
+      wide = h .loop .inv .0 .wide;
+    }
 
 enum-known-fault-2 : tie.Need-enum-known-fault-2 Inv-loop μ-loop
 enum-known-fault-2 c = search needs

@@ -1,13 +1,13 @@
 -- For each name, the agents who give another, and the entries that occur by it. Assumes nothing.
 use Prim.Native.Nat.{ℕ, zero, suc, _+_, _-_, _^_, _≤_, _<_}
 use mathlib.Core.Path.{_≡_, refl, sym, ap, _∙_}
-use mathlib.Core.List.{List, _∷_}
+use mathlib.Core.List.{List}
 use mathlib.Core.Bool.{Bool, true, false, not}
 use native.Mathlib.Omega.{arith}
 use native.Mathlib.Decide.{decLt, ℕ-discrete}
 use lib.Bits.{bitAnd}
 use lib.Dec.{eqb, leb}
-use lib.ListN.{length, getD, take, set, replicate, getD-replicate, length-replicate}
+use lib.ListN.{length, getD, set, replicate, getD-replicate}
 use lib.Seq.{ext-getD, getD-set-same, getD-set-other}
 use borrow.Author.Tests.{eqb-true, eq-eqb, ne-eqb, le-leb, lt-leb}
 use Rattle.bmap.specs.Plain.{either, both, implies, any, all, numbers}
@@ -131,12 +131,7 @@ joins-by names action crew {mask} e q =
     (λ a p r. ap (λ (t : Bool). both t (has crew a)) (mask-bit (differs names action) 0 n a (omega arith) ∙ ap (differs names action) (let z : 0 + a ≡ a = omega arith in z))))))
     ∙ sym (none-other names action crew 0 n)
 
--- ---- a step in which nobody names anything
-
-pub take-replicate : (n m a : ℕ) → n ≤ m → take n (replicate m a) ≡ replicate n a
-take-replicate zero m a h = refl
-take-replicate (suc n) zero a h = absurd (omega arith)
-take-replicate (suc n) (suc m) a h = ap (λ (l : List ℕ). a ∷ l) (take-replicate n m a (omega arith))
+-- ---- a step with the names of the one before
 
 pub same-all : (names before : List ℕ) (a : ℕ) → length before ≡ length names → length names ≤ a → ((k : ℕ) → k < a → getD before k 0 ≡ getD names k 0) → before ≡ names
 same-all names before a long h same = ext-getD 0 before names long (λ k p. same k (omega arith))

@@ -55,14 +55,7 @@ fn check_acts(
     }
     let first = runs.first;
     let last = runs.last;
-    if let Check::Failed(fault, n) = check_entries(
-        held,
-        owners,
-        &first,
-        &last,
-        step,
-        history,
-    ) {
+    if let Check::Failed(fault, n) = check_entries(held, owners, &first, &last, step, history) {
         return Check::Failed(fault, n);
     }
     let together = runs.concurrency;
@@ -177,13 +170,7 @@ fn run_steps(
         acting = acting_in(names, before, acting, &actions, &crews, counts.entries);
         mark_step(history, j, acting.entries, counts.entries);
         let step = Step { acting, j };
-        if let Check::Failed(fault, number) = check_acts(
-            held,
-            &owners,
-            runs,
-            step,
-            history,
-        ) {
+        if let Check::Failed(fault, number) = check_acts(held, &owners, runs, step, history) {
             return broken(fault, j + 1, number, j + 1);
         }
         if let Check::Failed(fault, number) = land(

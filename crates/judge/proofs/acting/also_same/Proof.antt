@@ -1,4 +1,3 @@
-use borrow.Author.Needs.{needs}
 use Rattle.judge.proofs.acting.also_same.Statement.{statement}
 use Rattle.judge.proofs.acting.also_same.Tie as tie
 

@@ -7,7 +7,7 @@ use lib.IntN.{ℤ}
 use lib.ListN.{length, take}
 use Rattle.bmap.specs.Domain.{Domain, Names, State, static, goal}
 use Rattle.bmap.specs.Sheet.{rows}
-use Rattle.bmap.specs.Judge.{Checked, Pass, pass, history, startOf, carried, allHold}
+use Rattle.bmap.specs.Judge.{pass, history, startOf, carried, allHold}
 use Rattle.law.specs.Evaluate.{historySize}
 use Rattle.judge.specs.Answer.{passOf, verdictOf}
 use Rattle.judge.specs.States.{statesOf}

@@ -11,6 +11,7 @@ pub mod HexLaws
 pub mod FirstLaws
 pub mod WholeLaws
 pub mod LineLaws
+pub mod PayloadLaws
 pub mod WriteLaws
 pub mod FrameLaws
 -- One answer for each promise.

@@ -125,9 +125,10 @@ pub record Takes (text out exit : List ℕ) (n k : ℕ) : Type 0 where
   pub most : length (frame .payload) ≤ mostPayload
   pub characters : k ≡ 2 * n + 1
   pub within : k ≤ length text
+  pub spells : spelt frameSize text ≡ stored frame
   pub left : exit ≡ over (stored frame) out
 
-took : (s out exit : List ℕ) (n k : ℕ) → 0 < length s → some (got (record { bytes = n; characters = k })) ≡ firstOf (linesOf s) → exit ≡ over (spelt frameSize s) out
+pub took : (s out exit : List ℕ) (n k : ℕ) → 0 < length s → some (got (record { bytes = n; characters = k })) ≡ firstOf (linesOf s) → exit ≡ over (spelt frameSize s) out
     → Takes s out exit n k
 unfolding decode lineFor
 took s out exit n k h e x =
@@ -142,6 +143,7 @@ took s out exit n k h e x =
     let whole : s ≡ front s ++ (lineFeed ∷ after s) = text-first s (d .ended) in
     let whole′ : s ≡ (front s ++ (lineFeed ∷ [])) ++ after s = whole ∙ sym (append-assoc (front s) (lineFeed ∷ []) (after s)) in
     let ls : length s ≡ length (front s) + suc (length (after s)) = ap length whole ∙ length-append (front s) (lineFeed ∷ after s) in
+    let sp : spelt frameSize s ≡ stored f = spelt-all frameSize s (stored f) (d .ended) (d .spells) (omega (arith, d .most)) in
     let dr : drop k s ≡ after s = ap (drop k) whole′ ∙ drop-at (front s ++ (lineFeed ∷ [])) (after s) k (length-append (front s) (lineFeed ∷ []) ∙ omega arith) in
     record {
       frame = f;
@@ -153,7 +155,8 @@ took s out exit n k h e x =
       most = d .most;
       characters = omega arith;
       within = omega arith;
-      left = x ∙ ap (λ (y : List ℕ). over y out) (spelt-all frameSize s (stored f) (d .ended) (d .spells) (omega (arith, d .most)));
+      spells = sp;
+      left = x ∙ ap (λ (y : List ℕ). over y out) sp;
     }
 
 pub line-taken : (text out exit : List ℕ) (n k : ℕ) → frameSize ≤ length out → some (got (record { bytes = n; characters = k })) ≡ lineRead text out → exit ≡ bytesRead text out

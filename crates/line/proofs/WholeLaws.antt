@@ -25,14 +25,14 @@ use Rattle.line.proofs.FirstLaws.{line-ends}
 -- ---- pairs that spell bytes
 
 module _ (s : List ℕ) (n : ℕ) where
-  digits-spell : 2 * n ≤ length s → all isDigit (take (2 * n) s) ≡ true → Spells s n
+  pub digits-spell : 2 * n ≤ length s → all isDigit (take (2 * n) s) ≡ true → Spells s n
   digits-spell h e = record { within = h; pairs = λ i k. digits-pair (getD s (2 * i) 0) (getD s (2 * i + 1) 0) (asked (2 * i) (omega arith)) (asked (2 * i + 1) (omega arith)) }
     where
       asked : (i : ℕ) → i < 2 * n → isDigit (getD s i 0) ≡ true
       asked i k = rw (getD-take (2 * n) s i 0 k) at (all-at isDigit (take (2 * n) s) e i (rw (length-take-le (2 * n) s h) k))
 
   -- m of them from the a-th on
-  spells-on : (a m : ℕ) → a + m ≤ n → Spells s n → Spells (drop (2 * a) s) m
+  pub spells-on : (a m : ℕ) → a + m ≤ n → Spells s n → Spells (drop (2 * a) s) m
   spells-on a m h w = record {
     within = rw (length-drop (2 * a) s) (omega (arith, w .within));
     pairs = λ i k.
@@ -57,7 +57,7 @@ spelt-full (suc n) (a ∷ b ∷ s) w = go (pair-is a b) (spelt-full n s (spells-
     go (inr p) r = absurd (omega (arith, p .of, w .pairs 0 (omega arith)))
 
 -- the first of them, and those after them
-spelt-join : (a b : ℕ) (s : List ℕ) → length (spelt a s) ≡ a → spelt (a + b) s ≡ spelt a s ++ spelt b (drop (2 * a) s)
+pub spelt-join : (a b : ℕ) (s : List ℕ) → length (spelt a s) ≡ a → spelt (a + b) s ≡ spelt a s ++ spelt b (drop (2 * a) s)
 unfolding spelt
 spelt-join zero b s e = rw (zero-add b) refl
 spelt-join (suc a) b [] e = absurd (omega arith)

@@ -1,16 +1,18 @@
 -- What reading the line at the front of a text answers, and the bytes that it leaves.
-use Prim.Native.Nat.{ℕ, zero, suc, _+_, _*_}
+use Prim.Native.Nat.{ℕ, zero, suc, _+_, _*_, _≤_}
+use mathlib.Core.Path.{_≡_}
+use mathlib.Core.Bool.{Bool, true, false}
 use mathlib.Core.List.{List, [], _∷_}
 use mathlib.Core.Option.{Option, none, some}
 use lib.Dec.{leb}
-use lib.ListN.{length}
+use lib.ListN.{length, drop}
 use Rattle.bmap.specs.Plain.{if-else}
 use Rattle.bmap.specs.Limits.{frameSize}
 use Rattle.bmap.specs.Refusal.{Answer, got, refused, then, numberOf}
-use Rattle.bmap.specs.Line.{Line, linesOf, digit, decode, stored}
+use Rattle.bmap.specs.Line.{Line, Frame, linesOf, digit, decode, stored, lineSize}
 use Rattle.bmap.specs.Buffer.{over}
 use Rattle.line.specs.declared.read.FirstLine.{FirstLine}
-use Rattle.line.specs.declared.read.FirstLine.the-variants.{Nothing, Refused, Frame}
+use Rattle.line.specs.declared.read.FirstLine.the-variants as first
 
 -- of a line that decodes: its frame's bytes, and its characters with the LF
 pub record Taken : Type 0 where
@@ -19,9 +21,9 @@ pub record Taken : Type 0 where
 
 -- what an answer says: no line, the refusal's number, or what was taken
 abbrev pub said : FirstLine → Option (Answer Taken)
-said Nothing = none
-said (Refused r) = some (refused (numberOf r))
-said (Frame bytes characters) = some (got (record { bytes = bytes; characters = characters }))
+said first.Nothing = none
+said (first.Refused r) = some (refused (numberOf r))
+said (first.Frame bytes characters) = some (got (record { bytes = bytes; characters = characters }))
 
 abbrev pub taken : Line → Answer Taken
 taken l = then (decode l) (λ f. got (record { bytes = length (stored f); characters = suc (length (l .digits)) }))
@@ -33,6 +35,18 @@ firstOf (l ∷ lines) = some (taken l)
 -- 10 where a frame might have no room
 unfoldable pub lineRead : List ℕ → List ℕ → Option (Answer Taken)
 lineRead text out = if-else (leb frameSize (length out)) (firstOf (linesOf text)) (some (refused 10))
+
+-- the first line decodes to a frame, and the lines after it are those of the text after the frame's line
+pub record FirstIs (text : List ℕ) (f : Frame) : Type 0 where
+  pub line : Line
+  pub lines : linesOf text ≡ line ∷ linesOf (drop (lineSize (length (f .payload))) text)
+  pub decodes : decode line ≡ got f
+  pub within : lineSize (length (f .payload)) ≤ length text
+
+-- whether the first line is a frame's of this kind with as many payload bytes as `out` has, which then are these
+abbrev pub PayloadIs : ℕ → List ℕ → List ℕ → Bool → Type 0
+PayloadIs kind text out true = FirstIs text (record { kind = kind; payload = out })
+PayloadIs kind text out false = (payload : List ℕ) → length payload ≡ length out → FirstIs text (record { kind = kind; payload = payload }) → ⊥
 
 -- ---- the bytes
 

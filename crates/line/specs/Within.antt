@@ -1,7 +1,7 @@
 -- What the functions within `read_line` promise each other.
 use Prim.Native.Nat.{ℕ, _+_, _*_, _<_, _≤_}
 use mathlib.Core.Path.{_≡_}
-use mathlib.Core.Bool.{Bool}
+use mathlib.Core.Bool.{Bool, true, false}
 use mathlib.Core.List.{List}
 use lib.Dec.{eqb, ltb}
 use lib.ListN.{length, getD}
@@ -10,6 +10,7 @@ use Rattle.bmap.specs.Refusal.{Answer, got, refused}
 use Rattle.bmap.specs.Line.{digit, lineFeed}
 use Rattle.bmap.specs.declared.refusal.Refusal.the-variants.{BadLine, BadCount}
 use Rattle.bmap.specs.Limits.{frameSize}
+use Rattle.bmap.specs.Buffer.{over}
 use Rattle.line.specs.Read.{spelt}
 use Rattle.line.specs.declared.read.FirstLine.{FirstLine}
 use Rattle.line.specs.declared.read.FirstLine.the-variants.{Refused, Frame}
@@ -30,6 +31,21 @@ isDigit c = ltb (worth (digit c)) 256
 pub record Spells (text : List ℕ) (n : ℕ) : Type 0 where
   pub within : 2 * n ≤ length text
   pub pairs : (i : ℕ) → i < n → pairOf (getD text (2 * i) 0) (getD text (2 * i + 1) 0) ≤ 255
+
+-- they spell just these bytes
+pub record Spelt (text out : List ℕ) : Type 0 where
+  pub pairs : Spells text (length out)
+  pub bytes : out ≡ spelt (length out) text
+
+-- whether they spell as many bytes as `out` has, which then has them
+abbrev pub SpeltIf : List ℕ → List ℕ → Bool → Type 0
+SpeltIf text out true = Spelt text out
+SpeltIf text out false = Spells text (length out) → ⊥
+
+-- the same of a block, to the front of a buffer
+abbrev pub BlockIf : List ℕ → List ℕ → List ℕ → Bool → Type 0
+BlockIf text entry exit true = Spells text 16 × (exit ≡ over (spelt 16 text) entry)
+BlockIf text entry exit false = Spells text 16 → ⊥
 
 -- the first line of the text is whole and right by its count: n bytes, and a LF
 pub record Whole (text : List ℕ) (n : ℕ) : Type 0 where

@@ -4,6 +4,7 @@
 mod buffer;
 mod digit;
 mod frame;
+mod payload;
 mod read;
 mod whole;
 mod write;
@@ -12,6 +13,7 @@ pub use buffer::is_zero_from;
 pub use buffer::zero_from;
 pub use frame::FrameAt;
 pub use frame::frame_at;
+pub use payload::read_payload;
 pub use read::FirstLine;
 pub use read::read_line;
 pub use write::Written;

@@ -14,7 +14,7 @@ ghost use Rattle.line.specs.Read.{spelt};
 ghost use Rattle.line.specs.Within.{isDigit, Spells, Whole};
 
 // How many bytes are decoded at a time.
-const BLOCK: usize = 16;
+pub(crate) const BLOCK: usize = 16;
 
 // The bytes of the first line of a text, if so many digits as its count says stand before a LF; else 0.
 pub(crate) fn whole_line(text: &[u8]) -> usize
@@ -38,7 +38,7 @@ pub(crate) fn whole_line(text: &[u8]) -> usize
 }
 
 // Whether all characters are digits. The loop has no exit, so that it asks many at a time.
-fn all_digits(text: &[u8]) -> bool
+pub(crate) fn all_digits(text: &[u8]) -> bool
     ensures { λ r. ⌜ r ≡ all isDigit (now (text .entry)) ⌝ }
 {
     let mut so_far = true;
@@ -75,7 +75,7 @@ fn decode_block(text: &[u8], out: &mut [u8])
 }
 
 // Byte by byte.
-fn decode_each(text: &[u8], out: &mut [u8])
+pub(crate) fn decode_each(text: &[u8], out: &mut [u8])
     requires { ⌜ Spells (now text) (length (now out)) ⌝ }
     ensures { λ _. ⌜ now (out .exit) ≡ spelt (length (now (out .entry))) (now (text .entry)) ⌝ }
 {
@@ -86,7 +86,7 @@ fn decode_each(text: &[u8], out: &mut [u8])
     }
 }
 
-fn copy(bytes: &[u8], out: &mut [u8])
+pub(crate) fn copy(bytes: &[u8], out: &mut [u8])
     requires { ⌜ length (now bytes) ≤ length (now out) ⌝ }
     ensures { λ _. ⌜ now (out .exit) ≡ over (now (bytes .entry)) (now (out .entry)) ⌝ }
 {

@@ -1,40 +1,27 @@
 -- The lines of a sheet, one by one, to the names in the buffer.
-use Prim.Native.Nat.{ℕ, suc, _+_, _-_, _≤_, _<_}
+use Prim.Native.Nat.{ℕ, suc, _+_, _-_, _*_, _≤_, _<_}
 use native.Mathlib.Numerals.{add-one}
 use native.Mathlib.Omega.{arith}
-use mathlib.Core.Path.{_≡_, refl, sym, ap, _∙_}
+use mathlib.Core.Path.{_≡_, refl, sym, ap, subst, _∙_}
 use mathlib.Core.Bool.{true, false}
 use mathlib.Core.Option.{none, some}
 use mathlib.Core.List.{List, [], _∷_, _++_, map, append-assoc}
-use lib.ListN.{length, getD, take, drop, set, length-drop, length-append}
-use lib.Seq.{drop-cons, take-suc, length-take-le, set-at, take-at, getD-drop}
+use lib.ListN.{length, getD, take, drop, length-append, take-append-drop}
+use lib.Seq.{length-take-le, take-at}
 use borrow.Author.Tests.{lt-ltb, le-ltb, le-leb, lt-leb, eq-eqb, ne-eqb}
 use Rattle.bmap.specs.Plain.{flat}
 use Rattle.bmap.proofs.PlainLaws.{flat-one}
 use Rattle.bmap.specs.Limits.{mostSteps, sheetSize, frameSize}
 use Rattle.bmap.specs.Refusal.{refused, Reading, read, refusedAt, afterwards}
-use Rattle.bmap.specs.Line.{linesOf, decode, stored}
+use Rattle.bmap.specs.Line.{linesOf, decode, lineSize}
 use Rattle.bmap.specs.Domain.{Names}
-use Rattle.bmap.specs.Buffer.{over, padded, fill}
+use Rattle.bmap.specs.Buffer.{padded, fill}
 use Rattle.bmap.specs.Sheet.{stepOf, stepsFrom, stepsIn, readSheet}
-use Rattle.line.specs.Read.{lineRead}
+use Rattle.line.specs.Read.{FirstIs, lineRead}
 use Rattle.line.proofs.Lists.{part-to-end}
 use Rattle.line.proofs.LineLaws.{Takes, line-nothing, line-refused}
-use Rattle.sheet.specs.Step.{agentsAllowed, outcome, counted, namesIn, LineRefused, LineStep}
-
--- ---- the names of a frame
-
-pub copy-more : (f d : List ℕ) (i : ℕ) → i + 2 < length f → i < length d
-    → set (take i (drop 2 f) ++ drop i d) i (getD f (i + 2) 0) ≡ take (i + 1) (drop 2 f) ++ drop (i + 1) d
-copy-more f d i h k =
-    let s = drop 2 f in
-    let ls : i < length s = rw (length-drop 2 f) (omega arith) in
-    let n : i + 2 ≡ 2 + i = omega arith in
-    rw (add-one i, drop-cons d i 0 k, take-suc s i 0 ls, append-assoc (take i s) (getD s i 0 ∷ []) (drop (suc i) d), getD-drop 2 f i 0, ← n)
-    (set-at (take i s) (getD d i 0) (drop (suc i) d) (getD f (i + 2) 0) i (length-take-le i s (omega arith)))
-
-pub copy-done : (f d : List ℕ) (i agents : ℕ) → i ≡ agents → agents + 2 ≤ length f → take i (drop 2 f) ++ drop i d ≡ over (take agents (drop 2 f)) d
-copy-done f d i agents e h = rw (e, length-take-le agents (drop 2 f) (rw (length-drop 2 f) (omega arith))) refl
+use Rattle.line.proofs.PayloadLaws.{takes-first}
+use Rattle.sheet.specs.Step.{agentsAllowed, outcome, counted, namesIn, LineRefused, LineStep, NoStep}
 
 -- ---- a line
 
@@ -48,18 +35,13 @@ module _ (agents steps : ℕ) (rest frame : List ℕ) where
       let r = line-refused rest frame n h e in
       record { line = r .line; others = r .rest; lines = r .lines; is = rw (r .decodes) refl }
 
-module _ (agents steps : ℕ) (rest frame exit : List ℕ) (n k : ℕ) (t : Takes rest frame exit n k) where
-  -- the frame's kind and its names, where the bytes were left
+module _ (agents steps : ℕ) (rest frame exit : List ℕ) (n characters : ℕ) (t : Takes rest frame exit n characters) where
+  -- the frame's kind, where the bytes were left
   kind-is : getD exit 0 0 ≡ t .frame .kind
   kind-is = ap (λ (x : List ℕ). getD x 0 0) (t .left)
 
-  names-are : take (length (t .frame .payload)) (drop 2 exit) ≡ t .frame .payload
-  names-are =
-      ap (λ (x : List ℕ). take (length (t .frame .payload)) (drop 2 x)) (t .left)
-      ∙ take-at (t .frame .payload) (drop (length (stored (t .frame))) frame) (length (t .frame .payload)) refl
-
   line-is : (number : ℕ) → stepOf agents steps (t .frame) ≡ refused number → LineRefused agents steps rest number
-  line-is number e = record { line = t .line; others = linesOf (drop k rest); lines = t .lines; is = rw (t .decodes) e }
+  line-is number e = record { line = t .line; others = linesOf (drop characters rest); lines = t .lines; is = rw (t .decodes) e }
 
   pub bad-kind : (getD exit 0 0 ≡ 0xB1 → ⊥) → LineRefused agents steps rest 3
   unfolding stepOf
@@ -69,31 +51,28 @@ module _ (agents steps : ℕ) (rest frame exit : List ℕ) (n k : ℕ) (t : Take
   unfolding stepOf
   too-long e h = line-is 9 (simp (eq-eqb (t .frame .kind) 0xB1 (sym kind-is ∙ e), le-ltb steps mostSteps h))
 
-  pub not-whole : getD exit 0 0 ≡ 0xB1 → steps < mostSteps → (n ≡ agents + 2 → ⊥) → LineRefused agents steps rest 8
+  pub not-whole : getD exit 0 0 ≡ 0xB1 → steps < mostSteps → NoStep agents steps rest → LineRefused agents steps rest 8
   unfolding stepOf
-  not-whole e h w =
-      line-is 8
-      (simp (
-        eq-eqb (t .frame .kind) 0xB1 (sym kind-is ∙ e),
-        lt-ltb steps mostSteps h,
-        ne-eqb (length (t .frame .payload)) agents (λ z. w (omega (arith, t .size))),
-      ))
+  not-whole e h bars =
+      let k : t .frame .kind ≡ 0xB1 = sym kind-is ∙ e in
+      let first : FirstIs rest (record { kind = 0xB1; payload = t .frame .payload })
+      = subst (λ (x : ℕ). FirstIs rest (record { kind = x; payload = t .frame .payload })) k (takes-first rest frame exit n characters t) in
+      line-is 8 (simp (eq-eqb (t .frame .kind) 0xB1 k, lt-ltb steps mostSteps h, ne-eqb (length (t .frame .payload)) agents (λ z. bars h (t .frame .payload) z first)))
 
-  pub a-step : getD exit 0 0 ≡ 0xB1 → steps < mostSteps → n ≡ agents + 2 → LineStep agents steps rest exit k
-  unfolding stepOf
-  a-step e h w =
-      let l : length (t .frame .payload) ≡ agents = omega (arith, t .size) in
-      record {
-        line = t .line;
-        names = t .frame .payload;
-        lines = t .lines;
-        is = rw (t .decodes) (simp (eq-eqb (t .frame .kind) 0xB1 (sym kind-is ∙ e), lt-ltb steps mostSteps h, eq-eqb (length (t .frame .payload)) agents l));
-        stand = sym names-are ∙ ap (λ (x : ℕ). take x (drop 2 exit)) l;
-        count = l;
-        before = h;
-        some = omega (arith, t .characters);
-        within = t .within;
-      }
+pub a-step : (agents steps : ℕ) (rest names after : List ℕ) → steps < mostSteps → length names ≡ agents → FirstIs rest (record { kind = 0xB1; payload = names })
+    → LineStep agents steps rest (names ++ after) (2 * agents + 5)
+unfolding stepOf
+a-step agents steps rest names after h l f = record {
+  line = f .line;
+  names = names;
+  lines = f .lines ∙ ap (λ (n : ℕ). f .line ∷ linesOf (drop (lineSize n) rest)) l;
+  is = rw (f .decodes) (simp (lt-ltb steps mostSteps h, eq-eqb (length names) agents l));
+  stand = sym (take-at names after agents l);
+  count = l;
+  before = h;
+  some = omega arith;
+  within = omega (arith, f .within);
+}
 
 -- ---- the lines in turn
 
@@ -110,11 +89,12 @@ module _ (agents : ℕ) (text : List ℕ) where
   done-start buffer = record { done = []; count = refl; names = refl; goes = refl }
 
   module _ (rest buffer : List ℕ) (steps used : ℕ) (d : Done agents text rest buffer steps used) where
-    pub done-end : linesOf rest ≡ [] → (read steps ≡ counted (outcome agents text)) × (take used buffer ≡ namesIn (outcome agents text))
+    pub done-end : (after : List ℕ) → used ≤ length buffer → linesOf rest ≡ []
+        → (read steps ≡ counted (outcome agents text)) × (take used (take used buffer ++ after) ≡ namesIn (outcome agents text))
     unfolding stepsFrom
-    done-end e =
+    done-end after h e =
         let o : outcome agents text ≡ read (d .done) = d .goes ∙ rw e refl in
-        rw (o, d .count) (refl, sym (d .names))
+        rw (o, d .count) (refl, take-at (take used buffer) after used (length-take-le used buffer h) ∙ sym (d .names))
 
     pub done-refused : (n : ℕ) → LineRefused agents steps rest n → (refusedAt n (steps + 1) ≡ counted (outcome agents text)) × (take 0 buffer ≡ namesIn (outcome agents text))
     unfolding stepsFrom
@@ -122,19 +102,19 @@ module _ (agents : ℕ) (text : List ℕ) where
         let o : outcome agents text ≡ refusedAt n (suc (length (d .done))) = d .goes ∙ rw (r .lines, d .count, r .is) refl in
         rw (o, d .count, add-one steps) (refl, refl)
 
-    pub done-more : (frame p : List ℕ) (k : ℕ) → LineStep agents steps rest frame k → used + agents ≤ length buffer
-        → p ≡ over (take agents (drop 2 frame)) (take (length buffer - used) (drop used buffer))
+    pub done-more : (p : List ℕ) (k : ℕ) → LineStep agents steps rest p k → used ≤ length buffer
         → Done agents text (take (length rest - k) (drop k rest)) (take used buffer ++ (p ++ drop (length buffer - used) (drop used buffer))) (steps + 1) (used + agents)
     unfolding stepsFrom
-    done-more frame p k s h e =
+    done-more p k s h =
         let x = s .names in
         let a = take used buffer in
-        let q = drop (length x) (take (length buffer - used) (drop used buffer)) in
+        let q = drop agents p in
         let z = drop (length buffer - used) (drop used buffer) in
-        let la : length a ≡ used = length-take-le used buffer (omega arith) in
-        let ep : p ≡ x ++ q = e ∙ ap (λ (y : List ℕ). over y (take (length buffer - used) (drop used buffer))) (sym (s .stand)) in
+        let la : length a ≡ used = length-take-le used buffer h in
+        let ep : p ≡ x ++ q = sym (take-append-drop agents p) ∙ ap (λ (y : List ℕ). y ++ q) (sym (s .stand)) in
         let cut : take (used + agents) (a ++ (p ++ z)) ≡ a ++ x
-        = rw (ep, append-assoc x q z, ← append-assoc a x (q ++ z)) (take-at (a ++ x) (q ++ z) (used + agents) (length-append a x ∙ omega (arith, s .count))) in
+        = ap (λ (y : List ℕ). take (used + agents) (a ++ (y ++ z))) ep
+        ∙ rw (append-assoc x q z, ← append-assoc a x (q ++ z)) (take-at (a ++ x) (q ++ z) (used + agents) (length-append a x ∙ omega (arith, s .count))) in
         record {
           done = d .done ++ (x ∷ []);
           count = length-append (d .done) (x ∷ []) ∙ omega (arith, d .count);

@@ -8,8 +8,9 @@ use lib.ListN.{length, take, drop}
 use Rattle.bmap.specs.Plain.{both, flat}
 use Rattle.bmap.specs.Limits.{mostAgents, mostSteps}
 use Rattle.bmap.specs.Refusal.{got, refused, then, numberOf, Reading, read, refusedAt, afterwards}
-use Rattle.bmap.specs.Line.{Line, linesOf, decode}
+use Rattle.bmap.specs.Line.{Line, linesOf, decode, stepKind}
 use Rattle.bmap.specs.Domain.{Names}
+use Rattle.line.specs.Read.{FirstIs}
 use Rattle.bmap.specs.Sheet.{stepOf, stepsFrom, rows, stepLine}
 use Rattle.sheet.specs.declared.reader.Next.{Next}
 use Rattle.sheet.specs.declared.reader.Next.the-variants as next
@@ -37,22 +38,26 @@ pub record LineRefused (agents steps : ℕ) (rest : List ℕ) (number : ℕ) : T
   pub lines : linesOf rest ≡ line ∷ others
   pub is : then (decode line) (stepOf agents steps) ≡ refused number
 
--- the first line is a step of so many characters, and its frame's bytes stand at the front
-pub record LineStep (agents steps : ℕ) (rest frame : List ℕ) (characters : ℕ) : Type 0 where
+-- the first line is a step of so many characters, and its names stand at the front
+pub record LineStep (agents steps : ℕ) (rest front : List ℕ) (characters : ℕ) : Type 0 where
   pub line : Line
   pub names : Names
   pub lines : linesOf rest ≡ line ∷ linesOf (drop characters rest)
   pub is : then (decode line) (stepOf agents steps) ≡ got names
-  pub stand : names ≡ take agents (drop 2 frame)
+  pub stand : names ≡ take agents front
   pub count : length names ≡ agents
   pub before : steps < mostSteps
   pub some : 0 < characters
   pub within : characters ≤ length rest
 
 abbrev pub NextIs : ℕ → ℕ → List ℕ → List ℕ → Next → Type 0
-NextIs agents steps rest frame next.End = linesOf rest ≡ []
-NextIs agents steps rest frame (next.Refused r) = LineRefused agents steps rest (numberOf r)
-NextIs agents steps rest frame (next.Step characters) = LineStep agents steps rest frame characters
+NextIs agents steps rest front next.End = linesOf rest ≡ []
+NextIs agents steps rest front (next.Refused r) = LineRefused agents steps rest (numberOf r)
+NextIs agents steps rest front (next.Step characters) = LineStep agents steps rest front characters
+
+-- there may be no further step, or the first line is none
+abbrev pub NoStep : ℕ → ℕ → List ℕ → Type 0
+NoStep agents steps rest = steps < mostSteps → (names : Names) → length names ≡ agents → FirstIs rest (record { kind = stepKind; payload = names }) → ⊥
 
 -- ---- the writer
 

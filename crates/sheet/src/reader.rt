@@ -1,20 +1,22 @@
 // The lines of a sheet, to the names step after step.
 use crate::agents_known;
+use crate::writer::line_size;
 use bmap::FRAME;
 use bmap::Kind;
 use bmap::Refusal;
 use bmap::Sheet;
 use line::FirstLine;
 use line::read_line;
+use line::read_payload;
 use line::zero_from;
 ghost use mathlib.Core.Path.{_≡_};
-ghost use Prim.Native.Nat.{_+_, _≤_};
-ghost use lib.ListN.{length, take, drop};
-ghost use Rattle.bmap.specs.Buffer.{over};
-ghost use Rattle.bmap.specs.Limits.{mostAgents, sheetSize, frameSize};
+ghost use mathlib.Core.List.{List};
+ghost use Prim.Native.Nat.{ℕ, _<_, _≤_};
+ghost use lib.ListN.{length, take};
+ghost use Rattle.bmap.specs.Limits.{mostAgents, mostSteps, sheetSize};
 ghost use Rattle.bmap.specs.Sheet.{readSheet};
 ghost use Rattle.sheet.specs.Answer.{readingOf};
-ghost use Rattle.sheet.specs.Step.{outcome, counted, namesIn, NextIs};
+ghost use Rattle.sheet.specs.Step.{outcome, counted, namesIn, NextIs, NoStep};
 
 pub enum ReadSheet {
     // So many steps.
@@ -57,12 +59,11 @@ fn read_steps(text: &[u8], agents: usize, buffer: &mut [u8]) -> Steps
     requires { ⌜ (agents ≤ mostAgents) × (sheetSize ≤ length (now buffer)) ⌝ }
     ensures { λ r. ⌜ (readingOf (r .answer) ≡ counted (outcome agents (now (text .entry)))) × (take (r .used) (now (buffer .exit)) ≡ namesIn (outcome agents (now (text .entry)))) ⌝ }
 {
-    let mut frame = [0u8; FRAME];
     let mut rest = text;
     let mut steps: usize = 0;
     let mut used: usize = 0;
     loop {
-        let next = next_step(rest, agents, steps, &mut frame);
+        let next = next_step(rest, agents, steps, &mut buffer[used..]);
         match next {
             Next::End => {
                 return Steps {
@@ -77,7 +78,6 @@ fn read_steps(text: &[u8], agents: usize, buffer: &mut [u8]) -> Steps
                 };
             }
             Next::Step(characters) => {
-                copy_names(&frame, agents, &mut buffer[used..]);
                 used += agents;
                 steps += 1;
                 rest = &rest[characters..];
@@ -86,38 +86,41 @@ fn read_steps(text: &[u8], agents: usize, buffer: &mut [u8]) -> Steps
     }
 }
 
-// The first line after so many steps; the bytes of its frame stand in `frame`.
-fn next_step(rest: &[u8], agents: usize, steps: usize, frame: &mut [u8]) -> Next
-    requires { ⌜ (agents ≤ mostAgents) × (frameSize ≤ length (now frame)) ⌝ }
-    ensures { λ r. ⌜ NextIs agents steps (now (rest .entry)) (now (frame .exit)) r ⌝ }
+// The first line after so many steps; the names of a step stand at the front of `names`, where they go straight from their
+// digits.
+fn next_step(rest: &[u8], agents: usize, steps: usize, names: &mut [u8]) -> Next
+    requires { ⌜ (agents ≤ mostAgents) × (steps < mostSteps → agents ≤ length (now names)) ⌝ }
+    ensures { λ r. ⌜ NextIs agents steps (now (rest .entry)) (now (names .exit)) r ⌝ }
 {
-    let line = read_line(rest, frame);
+    if steps >= Sheet::STEPS {
+        return no_step(rest, steps);
+    }
+    if read_payload(rest, Kind::STEP, &mut names[..agents]) {
+        return Next::Step(line_size(agents));
+    }
+    no_step(rest, steps)
+}
+
+// What the first line is after so many steps, if it is no further step.
+fn no_step(rest: &[u8], steps: usize) -> Next
+    ensures { λ r. ⌜ ((agents : ℕ) → (names : List ℕ) → NoStep agents steps (now (rest .entry)) → NextIs agents steps (now (rest .entry)) names r) ⌝ }
+{
+    let mut frame = [0u8; FRAME];
+    let line = read_line(rest, &mut frame);
     match line {
         FirstLine::Nothing => Next::End,
         FirstLine::Refused(refusal) => Next::Refused(refusal),
-        FirstLine::Frame { bytes, characters } => {
+        FirstLine::Frame {
+            bytes: _,
+            characters: _,
+        } => {
             if frame[0] != Kind::STEP {
                 return Next::Refused(Refusal::BadKind);
             }
             if steps >= Sheet::STEPS {
                 return Next::Refused(Refusal::TooLong);
             }
-            if bytes != agents + 2 {
-                return Next::Refused(Refusal::NotWhole);
-            }
-            Next::Step(characters)
+            Next::Refused(Refusal::NotWhole)
         }
-    }
-}
-
-// The names in a step's frame, to the front of `names`.
-fn copy_names(frame: &[u8], agents: usize, names: &mut [u8])
-    requires { ⌜ (agents + 2 ≤ length (now frame)) × (agents ≤ length (now names)) ⌝ }
-    ensures { λ _. ⌜ now (names .exit) ≡ over (take agents (drop 2 (now (frame .entry)))) (now (names .entry)) ⌝ }
-{
-    let mut i: usize = 0;
-    while i < agents {
-        names[i] = frame[i + 2];
-        i += 1;
     }
 }

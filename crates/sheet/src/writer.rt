@@ -55,7 +55,7 @@ fn put_steps(sheet: &[u8], agents: usize, steps: usize, text: &mut [u8])
 }
 
 // The characters of a step's line: two digits a name, kind and count among them, and the LF.
-fn line_size(agents: usize) -> usize
+pub(crate) fn line_size(agents: usize) -> usize
     requires { ⌜ agents ≤ mostAgents ⌝ }
     ensures { λ r. ⌜ r ≡ lineSize agents ⌝ }
 {

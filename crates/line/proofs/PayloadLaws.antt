@@ -24,6 +24,10 @@ use Rattle.line.proofs.HexLaws.{length-hex}
 use Rattle.line.proofs.WholeLaws.{spells-on, spells-part, spelt-full, spelt-join, feed-within, whole-said, whole-spelt}
 use Rattle.line.proofs.LineLaws.{Takes, took}
 
+-- a part to the end, as it is lent
+abbrev pub part : List ℕ → ℕ → List ℕ
+part l a = take (length l - a) (drop a l)
+
 -- ---- pairs after pairs
 
 spells-join : (s : List ℕ) (a b : ℕ) → Spells s a → Spells (drop (2 * a) s) b → Spells s (a + b)
@@ -103,12 +107,12 @@ module _ (text out : List ℕ) (at : ℕ) (d : SoFar text out at) where
       }
 
   -- a block more, in a part of the buffer that was lent
-  pub so-far-block : (n : ℕ) (p : List ℕ) → Spells (take (length text - 2 * at) (drop (2 * at) text)) n
-      → p ≡ over (spelt n (take (length text - 2 * at) (drop (2 * at) text))) (take (length out - at) (drop at out))
+  pub so-far-block : (n : ℕ) (p : List ℕ) → Spells (part text (2 * at)) n
+      → p ≡ over (spelt n (part text (2 * at))) (part out at)
       → SoFar text (take at out ++ (p ++ drop (length out - at) (drop at out))) (at + n)
   so-far-block n p w e =
       let b = spelt n (drop (2 * at) text) in
-      let kept = drop (length b) (take (length out - at) (drop at out)) in
+      let kept = drop (length b) (part out at) in
       let after = drop (length out - at) (drop at out) in
       let w′ : Spells (drop (2 * at) text) n = rw (part-to-end text (2 * at)) at w in
       let all = spells-join text at n (d .pairs) w′ in
@@ -118,7 +122,7 @@ module _ (text out : List ℕ) (at : ℕ) (d : SoFar text out at) where
       record { pairs = all; bytes = ap (take (at + n)) laid ∙ take-at (spelt (at + n) text) (kept ++ after) (at + n) (spelt-full (at + n) text all) }
 
   -- and the rest of them
-  pub so-far-rest : (p : List ℕ) → at ≤ length out → length p ≡ length (take (length out - at) (drop at out)) → Spelt (take (length text - 2 * at) (drop (2 * at) text)) p
+  pub so-far-rest : (p : List ℕ) → at ≤ length out → length p ≡ length (part out at) → Spelt (part text (2 * at)) p
       → Spelt text (take at out ++ (p ++ drop (length out - at) (drop at out)))
   so-far-rest p h l w =
       let w′ : Spelt (drop (2 * at) text) p = rw (part-to-end text (2 * at)) at w in
@@ -130,8 +134,8 @@ module _ (text out : List ℕ) (at : ℕ) (d : SoFar text out at) where
       rw laid (record { pairs = rw size all; bytes = rw size refl })
 
   -- whatever is said of them; those so far are digits
-  pub so-far-if : (p : List ℕ) (r : Bool) → at ≤ length out → length p ≡ length (take (length out - at) (drop at out))
-      → SpeltIf (take (length text - 2 * at) (drop (2 * at) text)) p r → SpeltIf text (take at out ++ (p ++ drop (length out - at) (drop at out))) r
+  pub so-far-if : (p : List ℕ) (r : Bool) → at ≤ length out → length p ≡ length (part out at)
+      → SpeltIf (part text (2 * at)) p r → SpeltIf text (take at out ++ (p ++ drop (length out - at) (drop at out))) r
   so-far-if p true h l w = so-far-rest p h l w
   so-far-if p false h l w = λ v.
       let e : length p ≡ length out - at = l ∙ ap length (part-to-end out at) ∙ length-drop at out in
@@ -151,7 +155,7 @@ pub record Asked (s : List ℕ) (kind count : ℕ) : Type 0 where
   pub feed : getD s (2 * count + 4) 0 ≡ lineFeed
   pub first : pairOf (getD s 0 0) (getD s 1 0) ≡ kind
   pub second : pairOf (getD s 2 0) (getD s 3 0) ≡ count
-  pub pairs : Spells (take (length s - 4) (drop 4 s)) count
+  pub pairs : Spells (part s 4) count
 
 module _ (s : List ℕ) (kind count : ℕ) (byte : kind ≤ 255) (a : Asked s kind count) where
   inside : 2 * count + 4 < length s
@@ -228,9 +232,9 @@ first-asked s p kind count l i =
     }
 
 -- what the payload's digits say, they say of the line
-pub payload-if : (s p : List ℕ) (kind count : ℕ) (r : Bool) → kind ≤ 255 → length p ≡ count → (Spells (take (length s - 4) (drop 4 s)) count → Asked s kind count)
-    → SpeltIf (take (length s - 4) (drop 4 s)) p r → PayloadIs kind s p r
+pub payload-if : (s p : List ℕ) (kind count : ℕ) (r : Bool) → kind ≤ 255 → length p ≡ count → (Spells (part s 4) count → Asked s kind count)
+    → SpeltIf (part s 4) p r → PayloadIs kind s p r
 payload-if s p kind count true byte e a w =
     let v : Spelt (drop 4 s) p = rw (part-to-end s 4) at w in
-    payload-first s p kind byte (subst (λ (k : ℕ). Spells (take (length s - 4) (drop 4 s)) k → Asked s kind k) (sym e) a (w .pairs)) (v .bytes)
+    payload-first s p kind byte (subst (λ (k : ℕ). Spells (part s 4) k → Asked s kind k) (sym e) a (w .pairs)) (v .bytes)
 payload-if s p kind count false byte e a w = λ q l i. w (first-asked s q kind (length p) l i .pairs)

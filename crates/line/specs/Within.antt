@@ -42,10 +42,10 @@ abbrev pub SpeltIf : List ℕ → List ℕ → Bool → Type 0
 SpeltIf text out true = Spelt text out
 SpeltIf text out false = Spells text (length out) → ⊥
 
--- the same of a block, to the front of a buffer
-abbrev pub BlockIf : List ℕ → List ℕ → List ℕ → Bool → Type 0
-BlockIf text entry exit true = Spells text 16 × (exit ≡ over (spelt 16 text) entry)
-BlockIf text entry exit false = Spells text 16 → ⊥
+-- the same of so many bytes, to the front of a buffer
+abbrev pub BlockIf : ℕ → List ℕ → List ℕ → List ℕ → Bool → Type 0
+BlockIf size text entry exit true = Spells text size × (exit ≡ over (spelt size text) entry)
+BlockIf size text entry exit false = Spells text size → ⊥
 
 -- the first line of the text is whole and right by its count: n bytes, and a LF
 pub record Whole (text : List ℕ) (n : ℕ) : Type 0 where

@@ -11,6 +11,9 @@ ghost use lib.ListN.{length};
 ghost use Rattle.line.specs.Read.{PayloadIs};
 ghost use Rattle.line.specs.Within.{SpeltIf, BlockIf};
 
+// How many bytes are decoded at a time where no block is left.
+const FEW: usize = 4;
+
 // Whether the first line of a text is a frame's of this kind with as many payload bytes as `out` has; they then stand there. What
 // another line is, `read_line` tells.
 pub fn read_payload(text: &[u8], kind: u8, out: &mut [u8]) -> bool
@@ -33,7 +36,7 @@ pub fn read_payload(text: &[u8], kind: u8, out: &mut [u8]) -> bool
 }
 
 // Whether digits of as many bytes as `out` has stand at the front of a text; the bytes then stand there. Block after block, and
-// the rest one by one.
+// then the rest.
 fn spell_all(text: &[u8], out: &mut [u8]) -> bool
     requires { ⌜ 2 * length (now out) ≤ length (now text) ⌝ }
     ensures { λ r. ⌜ SpeltIf (now (text .entry)) (now (out .exit)) r ⌝ }
@@ -45,18 +48,46 @@ fn spell_all(text: &[u8], out: &mut [u8]) -> bool
         }
         at += BLOCK;
     }
-    spell_each(&text[2 * at..], &mut out[at..])
+    spell_rest(&text[2 * at..], &mut out[at..])
 }
 
 // The same of a block, by way of an array of its own, which no store to `out` can change: so the compiler takes it as one.
 fn spell_block(text: &[u8], out: &mut [u8]) -> bool
     requires { ⌜ (32 ≤ length (now text)) × (16 ≤ length (now out)) ⌝ }
-    ensures { λ r. ⌜ BlockIf (now (text .entry)) (now (out .entry)) (now (out .exit)) r ⌝ }
+    ensures { λ r. ⌜ BlockIf 16 (now (text .entry)) (now (out .entry)) (now (out .exit)) r ⌝ }
 {
     if !all_digits(&text[..2 * BLOCK]) {
         return false;
     }
     let mut bytes = [0u8; BLOCK];
+    decode_each(text, &mut bytes);
+    copy(&bytes, out);
+    true
+}
+
+// The same where no block is left: a few at a time, and the last one by one.
+fn spell_rest(text: &[u8], out: &mut [u8]) -> bool
+    requires { ⌜ 2 * length (now out) ≤ length (now text) ⌝ }
+    ensures { λ r. ⌜ SpeltIf (now (text .entry)) (now (out .exit)) r ⌝ }
+{
+    let mut at: usize = 0;
+    while at + FEW <= out.len() {
+        if !spell_few(&text[2 * at..], &mut out[at..]) {
+            return false;
+        }
+        at += FEW;
+    }
+    spell_each(&text[2 * at..], &mut out[at..])
+}
+
+fn spell_few(text: &[u8], out: &mut [u8]) -> bool
+    requires { ⌜ (8 ≤ length (now text)) × (4 ≤ length (now out)) ⌝ }
+    ensures { λ r. ⌜ BlockIf 4 (now (text .entry)) (now (out .entry)) (now (out .exit)) r ⌝ }
+{
+    if !all_digits(&text[..2 * FEW]) {
+        return false;
+    }
+    let mut bytes = [0u8; FEW];
     decode_each(text, &mut bytes);
     copy(&bytes, out);
     true

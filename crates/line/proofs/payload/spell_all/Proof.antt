@@ -1,20 +1,15 @@
-use Prim.Native.Nat.{ℕ, _≤_, _-_, _*_}
+use Prim.Native.Nat.{_≤_, _-_, _*_}
 use mathlib.Core.Path.{_≡_, refl, subst, _∙_}
-use mathlib.Core.List.{List}
-use lib.ListN.{length, take, drop, length-drop}
+use lib.ListN.{length, length-drop}
 use native.Mathlib.Omega.{arith}
 use borrow.Author.Needs.{needs}
 use borrow.Author.Tests.{not-true, not-false}
 use Rattle.line.proofs.Lists.{part-to-end, length-back}
 use Rattle.line.specs.Within.{BlockIf}
 use Rattle.line.proofs.WholeLaws.{spells-part}
-use Rattle.line.proofs.PayloadLaws.{SoFar, so-far-start, so-far-block, so-far-if}
+use Rattle.line.proofs.PayloadLaws.{part, SoFar, so-far-start, so-far-block, so-far-if}
 use Rattle.line.proofs.payload.spell_all.Statement.{statement}
 use Rattle.line.proofs.payload.spell_all.Tie as tie
-
--- a part that is lent
-abbrev part : List ℕ → ℕ → List ℕ
-part x at = take (length x - at) (drop at x)
 
 abbrev Inv-loop : tie.InvT-loop
 Inv-loop text out₀ at₀ out at = (length out ≡ length out₀) × (at ≤ length out₀) × SoFar text out at
@@ -67,7 +62,7 @@ returns c w =
     let b = c .before .before .before .before .before .before .before .before .before .before in
     let p = c .before .before .before .spell-block in
     let size = length-back (l .out) (p .last .1 .0) (l .at) (omega arith) (p .kept .1 .0) in
-    subst (BlockIf (part (b .args .text .now) (2 * l .at)) (part (l .out) (l .at)) (p .last .1 .0)) (not-true (p .result) (c .if1 .taken)) (p .ensures) (spells-part (b .args .text .now) _ (l .at) 16 (omega (arith, size)) w)
+    subst (BlockIf 16 (part (b .args .text .now) (2 * l .at)) (part (l .out) (l .at)) (p .last .1 .0)) (not-true (p .result) (c .if1 .taken)) (p .ensures) (spells-part (b .args .text .now) _ (l .at) 16 (omega (arith, size)) w)
 
 add-at : tie.Need-add-at Inv-loop μ-loop
 add-at c = omega arith
@@ -80,35 +75,35 @@ loop-again c =
     let l = c .before .before .before .before .before .before .before .loop in
     let b = c .before .before .before .before .before .before .before .before .before .before in
     let p = c .before .before .before .spell-block in
-    let e = subst (BlockIf (part (b .args .text .now) (2 * l .at)) (part (l .out) (l .at)) (p .last .1 .0)) (not-false (p .result) (c .if1 .left)) (p .ensures) in (
+    let e = subst (BlockIf 16 (part (b .args .text .now) (2 * l .at)) (part (l .out) (l .at)) (p .last .1 .0)) (not-false (p .result) (c .if1 .left)) (p .ensures) in (
       length-back (l .out) (p .last .1 .0) (l .at) (omega arith) (p .kept .1 .0) ∙ l .inv .0,
       omega arith,
       so-far-block (b .args .text .now) (l .out) (l .at) (l .inv .2) 16 (p .last .1 .0) (e .0) (e .1),
     )
 
-mul-spell-each : tie.Need-mul-spell-each Inv-loop μ-loop
-mul-spell-each c = omega (arith, c .before .before .before .before .pre)
+mul-spell-rest : tie.Need-mul-spell-rest Inv-loop μ-loop
+mul-spell-rest c = omega (arith, c .before .before .before .before .pre)
 
-sub-spell-each : tie.Need-sub-spell-each Inv-loop μ-loop
-sub-spell-each c = omega (arith, c .before .before .before .before .pre)
+sub-spell-rest : tie.Need-sub-spell-rest Inv-loop μ-loop
+sub-spell-rest c = omega (arith, c .before .before .before .before .pre)
 
-part-spell-each-start : tie.Need-part-spell-each-start Inv-loop μ-loop
-part-spell-each-start c = omega (arith, c .before .before .before .before .pre)
+part-spell-rest-start : tie.Need-part-spell-rest-start Inv-loop μ-loop
+part-spell-rest-start c = omega (arith, c .before .before .before .before .pre)
 
-part-spell-each-end : tie.Need-part-spell-each-end Inv-loop μ-loop
-part-spell-each-end c = search needs
+part-spell-rest-end : tie.Need-part-spell-rest-end Inv-loop μ-loop
+part-spell-rest-end c = search needs
 
-sub-spell-each-2 : tie.Need-sub-spell-each-2 Inv-loop μ-loop
-sub-spell-each-2 c = omega arith
+sub-spell-rest-2 : tie.Need-sub-spell-rest-2 Inv-loop μ-loop
+sub-spell-rest-2 c = omega arith
 
-part-spell-each-start-2 : tie.Need-part-spell-each-start-2 Inv-loop μ-loop
-part-spell-each-start-2 c = omega arith
+part-spell-rest-start-2 : tie.Need-part-spell-rest-start-2 Inv-loop μ-loop
+part-spell-rest-start-2 c = omega arith
 
-part-spell-each-end-2 : tie.Need-part-spell-each-end-2 Inv-loop μ-loop
-part-spell-each-end-2 c = search needs
+part-spell-rest-end-2 : tie.Need-part-spell-rest-end-2 Inv-loop μ-loop
+part-spell-rest-end-2 c = search needs
 
-spell-each-requires : tie.Need-spell-each-requires Inv-loop μ-loop
-spell-each-requires c κs =
+spell-rest-requires : tie.Need-spell-rest-requires Inv-loop μ-loop
+spell-rest-requires c κs =
     let l = c .before .before .before .loop in
     let b = c .before .before .before .before .before .before in
     rw (part-to-end (l .out) (l .at), length-drop (l .at) (l .out), part-to-end (b .args .text .now) (2 * l .at), length-drop (2 * l .at) (b .args .text .now)) (omega (arith, b .pre))
@@ -116,13 +111,13 @@ spell-each-requires c κs =
 same-length-2 : tie.Need-same-length-2 Inv-loop μ-loop
 same-length-2 c =
     let l = c .before .before .before .before .before .before .loop in
-    let p = c .before .before .spell-each in
+    let p = c .before .before .spell-rest in
     length-back (l .out) (p .last .1 .0) (l .at) (omega arith) (p .kept .1 .0) ∙ l .inv .0
 
 returns-2 : tie.Need-returns-2 Inv-loop μ-loop
 returns-2 c =
     let l = c .before .before .before .before .before .before .loop in
-    let p = c .before .before .spell-each in
+    let p = c .before .before .spell-rest in
     so-far-if (c .before .before .before .before .before .before .before .before .before .args .text .now) (l .out) (l .at) (l .inv .2) (p .last .1 .0) (p .result) (omega arith) (p .kept .1 .0) (p .ensures)
 
 pub spell-all-spec : {M : Type 1} → statement M
@@ -146,13 +141,13 @@ spell-all-spec =
     add-at
     loop-less
     loop-again
-    mul-spell-each
-    sub-spell-each
-    part-spell-each-start
-    part-spell-each-end
-    sub-spell-each-2
-    part-spell-each-start-2
-    part-spell-each-end-2
-    spell-each-requires
+    mul-spell-rest
+    sub-spell-rest
+    part-spell-rest-start
+    part-spell-rest-end
+    sub-spell-rest-2
+    part-spell-rest-start-2
+    part-spell-rest-end-2
+    spell-rest-requires
     same-length-2
     returns-2)

@@ -1,4 +1,4 @@
-// Who acts in a step: the entries that occur, and the agents who belong to one of them, each as a mask.
+// Who acts in a step: the entries that occur, as a mask, and check 1 of the agents by the mask of those who belong to one of them.
 ghost use mathlib.Core.Path.{_≡_};
 ghost use mathlib.Core.Bool.{true, not};
 ghost use Prim.Native.Nat.{_+_, _-_, _*_, _^_, _≤_, _<_};

@@ -1,5 +1,6 @@
 use Prim.Native.Nat.{ℕ, _-_, _≤_}
 use mathlib.Core.Path.{_≡_, refl, ap, _∙_}
+use mathlib.Core.Bool.{Bool}
 use native.Mathlib.Omega.{arith}
 use borrow.Author.Needs.{needs}
 use Rattle.judge.specs.Masks.{joinsAt, maskFrom, unionFrom}
@@ -12,6 +13,22 @@ Inv-loop names actions crews n others entries₀ agents₀ i₀ entries agents i
 
 abbrev μ-loop : tie.MeasureT-loop
 μ-loop names actions crews n others entries₀ agents₀ i₀ entries agents i = i
+
+-- ---- the places: a turn, and whether its entry occurs
+
+abbrev turn : tie.After-all-name Inv-loop μ-loop → tie.In-loop Inv-loop μ-loop
+turn c = c .before .before .before .before
+
+abbrev start : tie.In-loop Inv-loop μ-loop → tie.Start Inv-loop μ-loop
+start c = c .before .before .before .before
+
+abbrev test : tie.Start Inv-loop μ-loop → ℕ → Bool
+test c = joinsAt (c .args .names .now) (c .args .actions .now) (c .args .crews .now)
+
+occurs : (c : tie.After-all-name Inv-loop μ-loop) → c .all-name .result ≡ test (start (turn c)) (turn c .before .loop .i - 1)
+occurs c = c .all-name .ensures (start (turn c) .args .names .now) (turn c .before .before .all-others .ensures .1)
+
+-- ---- the needs
 
 all-others-requires : tie.Need-all-others-requires Inv-loop μ-loop
 all-others-requires c κs = search needs
@@ -35,7 +52,7 @@ all-name-requires : tie.Need-all-name-requires Inv-loop μ-loop
 all-name-requires c κs = c .before .before .before .before .before .all-others .ensures .0
 
 pushed-requires : tie.Need-pushed-requires Inv-loop μ-loop
-pushed-requires c κs = mask-small _ _ _ 63 (omega arith) (c .before .before .before .before .before .loop .inv .1 .0)
+pushed-requires c κs = mask-small _ _ _ 63 (omega arith) (turn c .before .loop .inv .1 .0)
 
 mul-taken-in : tie.Need-mul-taken-in Inv-loop μ-loop
 mul-taken-in c = search needs
@@ -50,11 +67,11 @@ loop-less : tie.Need-loop-less Inv-loop μ-loop
 loop-less c = search needs
 
 loop-again : tie.Need-loop-again Inv-loop μ-loop
-loop-again c = let s = c .before .before .before .before .before .before .before .before .before .before .before .args in let p = joinsAt (s .names .now) (s .actions .now) (s .crews .now) in (
+loop-again c = let name = c .before .before .before in let t = turn name in let s = start t .args in let at = t .before .loop in (
   omega arith,
   (
-    c .before .before .pushed .ensures ∙ mask-more p (s .n) (c .before .before .before .before .before .before .before .before .loop .i) (c .before .before .before .before .before .before .before .loop-test .taken) (c .before .before .before .before .before .before .before .before .loop .inv .0) (c .before .before .before .before .before .before .before .before .loop .inv .1 .0) ((c .before .before .before .all-name .ensures (s .names .now) (c .before .before .before .before .before .before .before .before .before .all-others .ensures .1))),
-    c .taken-in .ensures ∙ union-more p (s .crews .now) (s .n) (c .before .before .before .before .before .before .before .before .loop .i) (c .before .before .before .before .before .before .before .loop-test .taken) (c .before .before .before .before .before .before .before .before .loop .inv .0) (c .before .before .before .before .before .before .before .before .loop .inv .1 .1) refl ((c .before .before .before .all-name .ensures (s .names .now) (c .before .before .before .before .before .before .before .before .before .all-others .ensures .1))),
+    c .before .before .pushed .ensures ∙ mask-more (test (start t)) (s .n) (at .i) (t .loop-test .taken) (at .inv .0) (at .inv .1 .0) (occurs name),
+    c .taken-in .ensures ∙ union-more (test (start t)) (s .crews .now) (s .n) (at .i) (t .loop-test .taken) (at .inv .0) (at .inv .1 .1) refl (occurs name),
   ),
 )
 

@@ -1,5 +1,5 @@
 use Prim.Native.Nat.{_+_, _*_, _<_}
-use mathlib.Core.Path.{_≡_, sym, ap, subst, _∙_}
+use mathlib.Core.Path.{_≡_, sym, _∙_}
 use lib.ListN.{length, getD, length-drop}
 use native.Mathlib.Omega.{arith}
 use borrow.Author.Needs.{needs}
@@ -7,12 +7,14 @@ use borrow.Author.Tests.{not-true, not-false, eqb-true, eqb-false}
 use Rattle.bmap.specs.Line.{lineFeed}
 use Rattle.line.proofs.Lists.{part-to-end}
 use Rattle.line.proofs.WholeLaws.{feed-within}
-use Rattle.line.proofs.PayloadLaws.{Asked, first-asked, payload-if}
+use Rattle.line.proofs.PayloadLaws.{first-asked, payload-if}
 use Rattle.line.proofs.payload.read_payload.Statement.{statement}
 use Rattle.line.proofs.payload.read_payload.Tie as tie
 
 returns : tie.Need-returns
-returns c p l i = omega (arith, (first-asked (c .before .before .before .args .text .now) p (c .before .before .before .args .kind) (length (c .before .before .before .args .out .now)) l i) .most)
+returns c p l i =
+    let a = c .before .before .before .args in
+    omega (arith, (first-asked (a .text .now) p (a .kind) (length (a .out .now)) l i) .most)
 
 mul-feed-at : tie.Need-mul-feed-at
 mul-feed-at c = search needs
@@ -24,7 +26,9 @@ feed-at-requires : tie.Need-feed-at-requires
 feed-at-requires c κs = search needs
 
 returns-2 : tie.Need-returns-2
-returns-2 c p l i = eqb-false _ _ (sym (c .before .feed-at .ensures) ∙ not-true _ (c .if2 .taken)) ((first-asked (c .before .before .before .before .before .args .text .now) p (c .before .before .before .before .before .args .kind) (length (c .before .before .before .before .before .args .out .now)) l i) .feed)
+returns-2 c p l i =
+    let a = c .before .before .before .before .before .args in
+    eqb-false _ _ (sym (c .before .feed-at .ensures) ∙ not-true _ (c .if2 .taken)) ((first-asked (a .text .now) p (a .kind) (length (a .out .now)) l i) .feed)
 
 -- a LF stands after as many digits as are asked for
 fed : (c : tie.Else2) → getD (c .before .before .before .before .before .args .text .now) (2 * length (c .before .before .before .before .before .args .out .now) + 4) 0 ≡ lineFeed
@@ -43,7 +47,9 @@ pair-requires : tie.Need-pair-requires
 pair-requires c κs = search needs
 
 returns-3 : tie.Need-returns-3
-returns-3 c p l i = c .if3 .taken (c .before .pair .ensures ∙ (first-asked (c .before .before .before .before .before .before .before .before .before .args .text .now) p (c .before .before .before .before .before .before .before .before .before .args .kind) (length (c .before .before .before .before .before .before .before .before .before .args .out .now)) l i) .first)
+returns-3 c p l i =
+    let a = c .before .before .before .before .before .before .before .before .before .args in
+    omega (arith, c .before .pair .ensures, (first-asked (a .text .now) p (a .kind) (length (a .out .now)) l i) .first)
 
 shared-slice-read-pair-3 : tie.Need-shared-slice-read-pair-3
 shared-slice-read-pair-3 c = omega (arith, within (c .before .before .before .before .before))
@@ -58,7 +64,9 @@ cast-if4 : tie.Need-cast-if4
 cast-if4 c = search needs
 
 returns-4 : tie.Need-returns-4
-returns-4 c p l i = c .if4 .taken (c .before .pair2 .ensures ∙ (first-asked (c .before .before .before .before .before .before .before .before .before .before .before .before .before .args .text .now) p (c .before .before .before .before .before .before .before .before .before .before .before .before .before .args .kind) (length (c .before .before .before .before .before .before .before .before .before .before .before .before .before .args .out .now)) l i) .second)
+returns-4 c p l i =
+    let a = c .before .before .before .before .before .before .before .before .before .before .before .before .before .args in
+    omega (arith, c .before .pair2 .ensures, (first-asked (a .text .now) p (a .kind) (length (a .out .now)) l i) .second)
 
 sub-spell-all : tie.Need-sub-spell-all
 sub-spell-all c = omega (arith, within (c .before .before .before .before .before .before .before .before))

@@ -7,7 +7,7 @@ pub mod Digits
 pub mod Lines
 pub mod Spelling
 pub mod HexLaws
--- What the functions' proofs cite, and callers of `read_line` and `put_line`.
+-- What the functions' proofs cite, and callers of `read_line`, `read_payload` and `put_line`.
 pub mod FirstLaws
 pub mod WholeLaws
 pub mod LineLaws

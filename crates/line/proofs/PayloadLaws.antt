@@ -5,22 +5,23 @@ use native.Mathlib.Omega.{arith}
 use mathlib.Core.Path.{_≡_, refl, sym, ap, subst, _∙_}
 use mathlib.Core.Logic.{_⊎_, inl, inr}
 use mathlib.Core.Bool.{Bool, true, false}
-use mathlib.Core.Option.{some}
+use mathlib.Core.Option.{Option, none, some}
 use mathlib.Core.List.{List, [], _∷_, _++_, append-nil, append-assoc}
-use lib.Dec.{ltb}
-use lib.ListN.{length, getD, take, drop, set, length-drop, drop-of-length-le}
+use lib.Dec.{eqb, ltb}
+use lib.ListN.{length, getD, take, drop, set, replicate, length-drop, drop-of-length-le}
 use lib.Seq.{getD-drop, take-at, drop-at, take-length, take-suc-set}
-use borrow.Author.Tests.{ltb-true, ltb-false}
-use Rattle.bmap.specs.Plain.{all}
+use borrow.Author.Tests.{ltb-true, ltb-false, eqb-true, eq-eqb}
+use Rattle.bmap.specs.Plain.{both, if-else, all, maybe}
 use Rattle.bmap.specs.Limits.{mostPayload, frameSize}
-use Rattle.bmap.specs.Refusal.{Answer, got, then}
-use Rattle.bmap.specs.Line.{Frame, lineFeed, linesOf, decode, lineSize, lineFor, hex, stored}
-use Rattle.bmap.specs.Buffer.{over}
-use Rattle.line.specs.Read.{FirstIs, PayloadIs, firstOf, andThen, spelt}
-use Rattle.line.specs.Within.{pairOf, isDigit, Spells, Spelt, SpeltIf, Whole}
+use Rattle.bmap.specs.Refusal.{Answer, got, refused, then}
+use Rattle.bmap.specs.Line.{Line, Frame, lineFeed, linesOf, decode, lineSize, lineFor, hex, stored}
+use Rattle.bmap.specs.Buffer.{padded, over}
+use Rattle.line.specs.Read.{firstOf, suchPayload, firstSuch, firstPayload, PayloadRead, andThen, spelt}
+use Rattle.line.specs.Within.{pairOf, isDigit, Spells, Spelt, SpeltIf, PayloadIf, Whole}
 use Rattle.line.proofs.Lists.{part-to-end, length-back}
 use Rattle.line.proofs.Digits.{Pair, NoPair, pair-is, pair-digits, spelt-more, two-suc}
 use Rattle.line.proofs.HexLaws.{length-hex}
+use Rattle.line.proofs.Lines.{after, firstLine, lines-first}
 use Rattle.line.proofs.WholeLaws.{spells-on, spells-part, spelt-full, spelt-join, feed-within, whole-said, whole-spelt}
 use Rattle.line.proofs.LineLaws.{Takes, took}
 
@@ -182,59 +183,123 @@ module _ (s : List ℕ) (kind count : ℕ) (byte : kind ≤ 255) (a : Asked s ki
   asked-bytes : spelt frameSize s ≡ kind ∷ count ∷ spelt count (drop 4 s)
   asked-bytes = whole-spelt s (2 + count) is-whole ∙ spelt-join 2 count s (spelt-full 2 s head) ∙ rw spelt-head refl
 
--- a frame's line that was taken is the first
-pub takes-first : (text out exit : List ℕ) (n k : ℕ) (t : Takes text out exit n k) → FirstIs text (t .frame)
-takes-first text out exit n k t =
-    let size : k ≡ lineSize (length (t .frame .payload)) = omega (arith, t .size, t .characters) in
-    record {
-      line = t .line;
-      lines = t .lines ∙ ap (λ (i : ℕ). t .line ∷ linesOf (drop i text)) size;
-      decodes = t .decodes;
-      within = omega (arith, t .within);
-    }
+-- what is said of a frame's line that was taken
+pub takes-payload : (text out exit : List ℕ) (n k kind size : ℕ) (t : Takes text out exit n k) → firstPayload kind size text ≡ suchPayload kind size (got (t .frame))
+unfolding firstPayload
+takes-payload text out exit n k kind size t = ap (firstSuch kind size) (t .lines) ∙ ap (suchPayload kind size) (t .decodes)
 
--- a line of which all that holds is the frame's
-payload-first : (s p : List ℕ) (kind : ℕ) → kind ≤ 255 → Asked s kind (length p) → p ≡ spelt (length p) (drop 4 s) → FirstIs s (record { kind = kind; payload = p })
-payload-first s p kind byte a b =
+-- a line of which all that holds has such a payload
+asked-payload : (s p : List ℕ) (kind : ℕ) → kind ≤ 255 → Asked s kind (length p) → p ≡ spelt (length p) (drop 4 s) → firstPayload kind (length p) s ≡ some p
+asked-payload s p kind byte a b =
     let n = length p in
     let k = 2 * (2 + n) + 1 in
     let t = took s [] (over (spelt frameSize s) []) (2 + n) k (omega (arith, inside s kind n byte a)) (whole-said s (2 + n) (is-whole s kind n byte a)) refl in
     let e : stored (t .frame) ≡ kind ∷ n ∷ p = sym (t .spells) ∙ asked-bytes s kind n byte a ∙ ap (λ (l : List ℕ). kind ∷ n ∷ l) (sym b) in
     let f : t .frame ≡ record { kind = kind; payload = p } = ap (λ (l : List ℕ). record { kind = getD l 0 0; payload = drop 2 l }) e in
-    subst (FirstIs s) f (takes-first s [] (over (spelt frameSize s) []) (2 + n) k t)
+    takes-payload s [] (over (spelt frameSize s) []) (2 + n) k kind n t
+    ∙ ap (λ (g : Frame). suchPayload kind n (got g)) f
+    ∙ simp (eq-eqb kind kind refl, eq-eqb n n refl)
 
--- and of such a frame's line all that holds
-pub first-asked : (s p : List ℕ) (kind count : ℕ) → length p ≡ count → FirstIs s (record { kind = kind; payload = p }) → Asked s kind count
+-- the frame that such a payload is of
+payload-got : (y : Answer Frame) (kind size : ℕ) (p : List ℕ) → suchPayload kind size y ≡ some p → (y ≡ got (record { kind = kind; payload = p })) × (length p ≡ size)
+payload-got (refused n) kind size p e = absurd (let z : _≡_ {A = ℕ} 0 1 = cc in omega arith)
+payload-got (got f) kind size p e = go (eqb (f .kind) kind) (eqb (length (f .payload)) size) refl refl e
+  where
+    go : (a b : Bool) → eqb (f .kind) kind ≡ a → eqb (length (f .payload)) size ≡ b → if-else (both a b) (some (f .payload)) none ≡ some p
+        → (got f ≡ got (record { kind = kind; payload = p })) × (length p ≡ size)
+    go true true x y q =
+        let k : f .kind ≡ kind = eqb-true (f .kind) kind x in
+        let l : f .payload ≡ p = cc in
+        (λ i. got (record { kind = k i; payload = l i }), sym (ap length l) ∙ eqb-true (length (f .payload)) size y)
+    go true false x y q = absurd (let z : _≡_ {A = ℕ} 0 1 = cc in omega arith)
+    go false b x y q = absurd (let z : _≡_ {A = ℕ} 0 1 = cc in omega arith)
+
+-- the line that such a payload stands in, as it is taken
+pub record PayloadLine (text p : List ℕ) (kind size : ℕ) : Type 0 where
+  pub takes : Takes text [] (over (spelt frameSize text) []) (2 + size) (lineSize size)
+  pub frame : takes .frame ≡ record { kind = kind; payload = p }
+  pub count : length p ≡ size
+
+-- a line with it is the one that was taken
+taken-line : (s p : List ℕ) (kind size : ℕ) (line : Line) (others : List Line) → linesOf s ≡ line ∷ others → decode line ≡ got (record { kind = kind; payload = p }) → length p ≡ size
+    → Takes s [] (over (spelt frameSize s) []) (2 + size) (lineSize size) → PayloadLine s p kind size
+taken-line s p kind size line others e d count t =
+    let both = sym e ∙ t .lines in
+    let same : line ≡ t .line = cc in
+    let gives : got (t .frame) ≡ got (record { kind = kind; payload = p }) = sym (t .decodes) ∙ ap decode (sym same) ∙ d in
+    record { takes = t; frame = cc; count = count }
+
+pub payload-line : (s p : List ℕ) (kind size : ℕ) → firstPayload kind size s ≡ some p → PayloadLine s p kind size
+unfolding firstPayload linesOf
+payload-line [] p kind size e = absurd (let z : _≡_ {A = ℕ} 0 1 = cc in omega arith)
+payload-line (c ∷ s) p kind size e =
+    let line = firstLine (c ∷ s) in
+    let n = suc (length (line .digits)) in
+    let (d, count) = payload-got (decode line) kind size p (sym (ap (firstSuch kind size) (lines-first c s)) ∙ e) in
+    let said : firstOf (linesOf (c ∷ s)) ≡ some (got (record { bytes = suc (suc (length p)); characters = n }))
+    = ap firstOf (lines-first c s) ∙ ap (λ (y : Answer Frame). some (then y (λ f. got (record { bytes = length (stored f); characters = n })))) d in
+    let t = took (c ∷ s) [] (over (spelt frameSize (c ∷ s)) []) (suc (suc (length p))) n (omega arith) (sym said) refl in
+    let bytes : suc (suc (length p)) ≡ 2 + size = omega arith in
+    let characters : n ≡ lineSize size = omega (arith, t .characters) in
+    taken-line (c ∷ s) p kind size line (linesOf (after (c ∷ s))) (lines-first c s) d count (rw (bytes, characters) at t)
+
+-- and of such a line all that is asked holds
+payload-asked : (s p : List ℕ) (kind count : ℕ) → firstPayload kind count s ≡ some p → Asked s kind count
 unfolding lineFor
-first-asked s p kind count l i =
+payload-asked s p kind count e =
+    let i = payload-line s p kind count e in
+    let t = i .takes in
     let f : Frame = record { kind = kind; payload = p } in
-    let n = length (i .line .digits) in
-    let e : firstOf (linesOf s) ≡ some (got (record { bytes = length (stored f); characters = suc n }))
-    = ap firstOf (i .lines) ∙ ap (λ (y : Answer Frame). some (then y (λ g. got (record { bytes = length (stored g); characters = suc n })))) (i .decodes) in
-    let t = took s [] (over (spelt frameSize s) []) (length (stored f)) (suc n) (omega (arith, i .within)) (sym e) refl in
-    let both = sym (i .lines) ∙ t .lines in
-    let same : i .line ≡ t .line = cc in
-    let gives : got f ≡ got (t .frame) = sym (i .decodes) ∙ ap decode same ∙ t .decodes in
-    let frame : f ≡ t .frame = cc in
-    let sp : spelt frameSize s ≡ stored f = t .spells ∙ ap stored (sym frame) in
-    let w : Spells s (2 + count) = spells-of frameSize (2 + count) s (rw sp (omega arith)) in
+    let sp : spelt frameSize s ≡ stored f = t .spells ∙ ap stored (i .frame) in
+    let w : Spells s (2 + count) = spells-of frameSize (2 + count) s (rw sp (omega (arith, i .count))) in
     let x = spelt-more frameSize s 0 (omega arith) (omega (arith, w .within)) (w .pairs 0 (omega arith)) in
     let y = spelt-more frameSize s 1 (omega arith) (omega (arith, w .within)) (w .pairs 1 (omega arith)) in
-    let text : s ≡ hex (stored f) ++ (lineFeed ∷ drop (suc n) s)
-    = t .text-is ∙ append-assoc (hex (stored (t .frame))) (lineFeed ∷ []) (drop (suc n) s) ∙ ap (λ (g : Frame). hex (stored g) ++ (lineFeed ∷ drop (suc n) s)) (sym frame) in
-    let after : drop (2 * count + 4) s ≡ lineFeed ∷ drop (suc n) s = ap (drop (2 * count + 4)) text ∙ drop-at (hex (stored f)) (lineFeed ∷ drop (suc n) s) (2 * count + 4) (length-hex (stored f) ∙ omega arith) in
+    let rest = drop (lineSize count) s in
+    let text : s ≡ hex (stored f) ++ (lineFeed ∷ rest)
+    = t .text-is ∙ append-assoc (hex (stored (t .frame))) (lineFeed ∷ []) rest ∙ ap (λ (g : Frame). hex (stored g) ++ (lineFeed ∷ rest)) (i .frame) in
+    let feed : drop (2 * count + 4) s ≡ lineFeed ∷ rest = ap (drop (2 * count + 4)) text ∙ drop-at (hex (stored f)) (lineFeed ∷ rest) (2 * count + 4) (length-hex (stored f) ∙ omega (arith, i .count)) in
     record {
-      most = omega (arith, t .most, ap (λ (g : Frame). length (g .payload)) frame);
-      feed = let z : 2 * count + 4 + 0 ≡ 2 * count + 4 = omega arith in ap (λ (j : ℕ). getD s j 0) (sym z) ∙ sym (getD-drop (2 * count + 4) s 0 0) ∙ ap (λ (q : List ℕ). getD q 0 0) after;
+      most = omega (arith, t .most, ap (λ (g : Frame). length (g .payload)) (i .frame), i .count);
+      feed = let z : 2 * count + 4 + 0 ≡ 2 * count + 4 = omega arith in ap (λ (j : ℕ). getD s j 0) (sym z) ∙ sym (getD-drop (2 * count + 4) s 0 0) ∙ ap (λ (q : List ℕ). getD q 0 0) feed;
       first = sym (ap (λ (q : List ℕ). getD q 0 0) x) ∙ ap (λ (q : List ℕ). getD q 0 0) sp;
-      second = sym (ap (λ (q : List ℕ). getD q 0 0) y) ∙ sym (ap (λ (q : List ℕ). getD q 1 0) x) ∙ ap (λ (q : List ℕ). getD q 1 0) sp ∙ l;
+      second = sym (ap (λ (q : List ℕ). getD q 0 0) y) ∙ sym (ap (λ (q : List ℕ). getD q 1 0) x) ∙ ap (λ (q : List ℕ). getD q 1 0) sp ∙ i .count;
       pairs = spells-part s (2 + count) 2 count (omega arith) w;
     }
 
+-- so there is none where it does not hold
+pub no-payload : (s : List ℕ) (kind count : ℕ) → (Asked s kind count → ⊥) → firstPayload kind count s ≡ none
+no-payload s kind count h = go (firstPayload kind count s) refl
+  where
+    go : (y : Option (List ℕ)) → firstPayload kind count s ≡ y → y ≡ none
+    go none e = refl
+    go (some p) e = absurd (h (payload-asked s p kind count e))
+
 -- what the payload's digits say, they say of the line
 pub payload-if : (s p : List ℕ) (kind count : ℕ) (r : Bool) → kind ≤ 255 → length p ≡ count → (Spells (part s 4) count → Asked s kind count)
-    → SpeltIf (part s 4) p r → PayloadIs kind s p r
+    → SpeltIf (part s 4) p r → PayloadIf kind s p r
 payload-if s p kind count true byte e a w =
     let v : Spelt (drop 4 s) p = rw (part-to-end s 4) at w in
-    payload-first s p kind byte (subst (λ (k : ℕ). Spells (part s 4) k → Asked s kind k) (sym e) a (w .pairs)) (v .bytes)
-payload-if s p kind count false byte e a w = λ q l i. w (first-asked s q kind (length p) l i .pairs)
+    asked-payload s p kind byte (subst (λ (k : ℕ). Spells (part s 4) k → Asked s kind k) (sym e) a (w .pairs)) (v .bytes)
+payload-if s p kind count false byte e a w = no-payload s kind (length p) (λ q. w (q .pairs))
+
+-- ---- what is left
+
+module _ (s out p : List ℕ) (kind : ℕ) (l : length p ≡ length out) where
+  pub payload-left : PayloadIf kind s p true → PayloadRead kind s out p true
+  payload-left e =
+      let q : firstPayload kind (length out) s ≡ some p = rw l at e in
+      record { answer = rw q refl; left = rw q refl }
+
+  pub zeros-left : (z : List ℕ) → PayloadIf kind s p false → z ≡ padded (length p) (take 0 p) → PayloadRead kind s out z false
+  zeros-left z e x =
+      let q : firstPayload kind (length out) s ≡ none = rw l at e in
+      let n : length p - 0 ≡ length out = omega arith in
+      record { answer = rw q refl; left = rw q (x ∙ ap (λ (k : ℕ). replicate k 0) n) }
+
+-- and what it says to a caller
+pub payload-told : (s out p : List ℕ) (kind : ℕ) (r : Bool) → PayloadRead kind s out p r → firstPayload kind (length out) s ≡ if-else r (some p) none
+payload-told s out p kind r w = go (firstPayload kind (length out) s) (w .answer) (w .left)
+  where
+    go : (y : Option (List ℕ)) → r ≡ maybe y false (λ q. true) → p ≡ maybe y (replicate (length out) 0) (λ q. q) → y ≡ if-else r (some p) none
+    go none a b = rw a refl
+    go (some q) a b = rw (a, b) refl

@@ -1,8 +1,11 @@
 -- An answer is the only one that keeps its promise.
-use mathlib.Core.Path.{_≡_, refl, ap}
+use Prim.Native.Nat.{ℕ}
+use mathlib.Core.Path.{_≡_, refl, sym, ap, _∙_}
+use mathlib.Core.Bool.{Bool}
+use mathlib.Core.List.{List}
 use Rattle.bmap.specs.Refusal.{numberOf}
 use Rattle.bmap.proofs.RefusalLaws.{same-refusal}
-use Rattle.line.specs.Read.{Taken, said}
+use Rattle.line.specs.Read.{Taken, said, PayloadRead}
 use Rattle.line.specs.Frame.{sizeOf}
 use Rattle.line.specs.Write.{answerOf}
 use Rattle.line.specs.declared.read.FirstLine.{FirstLine}
@@ -26,6 +29,10 @@ same-line (first.Frame n k) (first.Frame m j) e =
     let p : n ≡ m = ap (λ (x : Taken). x .bytes) t in
     let q : k ≡ j = ap (λ (x : Taken). x .characters) t in
     cc
+
+-- of `read_payload` the answer and the bytes that it leaves
+pub same-payload : (kind : ℕ) (text entry s t : List ℕ) (a b : Bool) → PayloadRead kind text entry s a → PayloadRead kind text entry t b → (a ≡ b) × (s ≡ t)
+same-payload kind text entry s t a b p q = (p .answer ∙ sym (q .answer), p .left ∙ sym (q .left))
 
 pub same-frame : (a b : FrameAt) → sizeOf a ≡ sizeOf b → a ≡ b
 same-frame found.Nothing found.Nothing e = refl

@@ -1,15 +1,15 @@
 -- What reading the line at the front of a text answers, and the bytes that it leaves.
-use Prim.Native.Nat.{ℕ, zero, suc, _+_, _*_, _≤_}
+use Prim.Native.Nat.{ℕ, zero, suc, _+_, _*_}
 use mathlib.Core.Path.{_≡_}
 use mathlib.Core.Bool.{Bool, true, false}
 use mathlib.Core.List.{List, [], _∷_}
 use mathlib.Core.Option.{Option, none, some}
-use lib.Dec.{leb}
-use lib.ListN.{length, drop}
-use Rattle.bmap.specs.Plain.{if-else}
+use lib.Dec.{eqb, leb}
+use lib.ListN.{length, replicate}
+use Rattle.bmap.specs.Plain.{both, if-else, maybe}
 use Rattle.bmap.specs.Limits.{frameSize}
 use Rattle.bmap.specs.Refusal.{Answer, got, refused, then, numberOf}
-use Rattle.bmap.specs.Line.{Line, Frame, linesOf, digit, decode, stored, lineSize}
+use Rattle.bmap.specs.Line.{Line, Frame, linesOf, digit, decode, stored}
 use Rattle.bmap.specs.Buffer.{over}
 use Rattle.line.specs.declared.read.FirstLine.{FirstLine}
 use Rattle.line.specs.declared.read.FirstLine.the-variants as first
@@ -36,17 +36,23 @@ firstOf (l ∷ lines) = some (taken l)
 unfoldable pub lineRead : List ℕ → List ℕ → Option (Answer Taken)
 lineRead text out = if-else (leb frameSize (length out)) (firstOf (linesOf text)) (some (refused 10))
 
--- the first line decodes to a frame, and the lines after it are those of the text after the frame's line
-pub record FirstIs (text : List ℕ) (f : Frame) : Type 0 where
-  pub line : Line
-  pub lines : linesOf text ≡ line ∷ linesOf (drop (lineSize (length (f .payload))) text)
-  pub decodes : decode line ≡ got f
-  pub within : lineSize (length (f .payload)) ≤ length text
+-- a frame's payload, if the frame is of this kind and its payload has so many bytes
+abbrev pub suchPayload : ℕ → ℕ → Answer Frame → Option (List ℕ)
+suchPayload kind size (got f) = if-else (both (eqb (f .kind) kind) (eqb (length (f .payload)) size)) (some (f .payload)) none
+suchPayload kind size (refused n) = none
 
--- whether the first line is a frame's of this kind with as many payload bytes as `out` has, which then are these
-abbrev pub PayloadIs : ℕ → List ℕ → List ℕ → Bool → Type 0
-PayloadIs kind text out true = FirstIs text (record { kind = kind; payload = out })
-PayloadIs kind text out false = (payload : List ℕ) → length payload ≡ length out → FirstIs text (record { kind = kind; payload = payload }) → ⊥
+abbrev pub firstSuch : ℕ → ℕ → List Line → Option (List ℕ)
+firstSuch kind size [] = none
+firstSuch kind size (l ∷ lines) = suchPayload kind size (decode l)
+
+-- such a payload of the first line
+unfoldable pub firstPayload : ℕ → ℕ → List ℕ → Option (List ℕ)
+firstPayload kind size text = firstSuch kind size (linesOf text)
+
+-- whether there is one of as many bytes as `out` has; they are left there, or zeros
+pub record PayloadRead (kind : ℕ) (text entry exit : List ℕ) (r : Bool) : Type 0 where
+  pub answer : r ≡ maybe (firstPayload kind (length entry) text) false (λ p. true)
+  pub left : exit ≡ maybe (firstPayload kind (length entry) text) (replicate (length entry) 0) (λ p. p)
 
 -- ---- the bytes
 

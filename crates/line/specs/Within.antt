@@ -1,8 +1,9 @@
--- What the functions within `read_line` promise each other.
+-- What the functions within `read_line` and `read_payload` promise each other.
 use Prim.Native.Nat.{ℕ, _+_, _*_, _<_, _≤_}
 use mathlib.Core.Path.{_≡_}
 use mathlib.Core.Bool.{Bool, true, false}
 use mathlib.Core.List.{List}
+use mathlib.Core.Option.{none, some}
 use lib.Dec.{eqb, ltb}
 use lib.ListN.{length, getD}
 use Rattle.bmap.specs.Plain.{if-else}
@@ -11,7 +12,7 @@ use Rattle.bmap.specs.Line.{digit, lineFeed}
 use Rattle.bmap.specs.declared.refusal.Refusal.the-variants.{BadLine, BadCount}
 use Rattle.bmap.specs.Limits.{frameSize}
 use Rattle.bmap.specs.Buffer.{over}
-use Rattle.line.specs.Read.{spelt}
+use Rattle.line.specs.Read.{firstPayload, spelt}
 use Rattle.line.specs.declared.read.FirstLine.{FirstLine}
 use Rattle.line.specs.declared.read.FirstLine.the-variants.{Refused, Frame}
 
@@ -46,6 +47,10 @@ SpeltIf text out false = Spells text (length out) → ⊥
 abbrev pub BlockIf : ℕ → List ℕ → List ℕ → List ℕ → Bool → Type 0
 BlockIf size text entry exit true = Spells text size × (exit ≡ over (spelt size text) entry)
 BlockIf size text entry exit false = Spells text size → ⊥
+
+-- whether the first line has a payload of this kind of as many bytes as `out` has, which then are these
+abbrev pub PayloadIf : ℕ → List ℕ → List ℕ → Bool → Type 0
+PayloadIf kind text out r = firstPayload kind (length out) text ≡ if-else r (some out) none
 
 -- the first line of the text is whole and right by its count: n bytes, and a LF
 pub record Whole (text : List ℕ) (n : ℕ) : Type 0 where

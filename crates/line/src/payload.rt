@@ -1,4 +1,5 @@
 // A line whose kind and count are known before it is read: its payload goes straight to its place.
+use crate::buffer::zero_from;
 use crate::digit::feed_at;
 use crate::digit::pair;
 use crate::whole::BLOCK;
@@ -8,16 +9,27 @@ use crate::whole::decode_each;
 use bmap::PAYLOAD;
 ghost use Prim.Native.Nat.{_*_, _≤_};
 ghost use lib.ListN.{length};
-ghost use Rattle.line.specs.Read.{PayloadIs};
-ghost use Rattle.line.specs.Within.{SpeltIf, BlockIf};
+ghost use Rattle.line.specs.Read.{PayloadRead};
+ghost use Rattle.line.specs.Within.{PayloadIf, SpeltIf, BlockIf};
 
 // How many bytes are decoded at a time where no block is left.
 const FEW: usize = 4;
 
-// Whether the first line of a text is a frame's of this kind with as many payload bytes as `out` has; they then stand there. What
-// another line is, `read_line` tells.
+// Whether the first line of a text is a frame's of this kind with as many payload bytes as `out` has; they then stand there, and
+// zeros otherwise. What another line is, `read_line` tells.
 pub fn read_payload(text: &[u8], kind: u8, out: &mut [u8]) -> bool
-    ensures { λ r. ⌜ PayloadIs kind (now (text .entry)) (now (out .exit)) r ⌝ }
+    ensures { λ r. ⌜ PayloadRead kind (now (text .entry)) (now (out .entry)) (now (out .exit)) r ⌝ }
+{
+    if spells_payload(text, kind, out) {
+        return true;
+    }
+    zero_from(out, 0);
+    false
+}
+
+// The same, but for the zeros: of another line some bytes may stand there.
+fn spells_payload(text: &[u8], kind: u8, out: &mut [u8]) -> bool
+    ensures { λ r. ⌜ PayloadIf kind (now (text .entry)) (now (out .exit)) r ⌝ }
 {
     let count = out.len();
     if count > PAYLOAD {

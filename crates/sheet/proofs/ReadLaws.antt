@@ -2,7 +2,7 @@
 use Prim.Native.Nat.{ℕ, suc, _+_, _-_, _*_, _≤_, _<_}
 use native.Mathlib.Numerals.{add-one}
 use native.Mathlib.Omega.{arith}
-use mathlib.Core.Path.{_≡_, refl, sym, ap, subst, _∙_}
+use mathlib.Core.Path.{_≡_, refl, sym, ap, _∙_}
 use mathlib.Core.Bool.{true, false}
 use mathlib.Core.Option.{none, some}
 use mathlib.Core.List.{List, [], _∷_, _++_, map, append-assoc}
@@ -12,15 +12,15 @@ use borrow.Author.Tests.{lt-ltb, le-ltb, le-leb, lt-leb, eq-eqb, ne-eqb}
 use Rattle.bmap.specs.Plain.{flat}
 use Rattle.bmap.proofs.PlainLaws.{flat-one}
 use Rattle.bmap.specs.Limits.{mostSteps, sheetSize, frameSize}
-use Rattle.bmap.specs.Refusal.{refused, Reading, read, refusedAt, afterwards}
-use Rattle.bmap.specs.Line.{linesOf, decode, lineSize}
+use Rattle.bmap.specs.Refusal.{got, refused, Reading, read, refusedAt, afterwards}
+use Rattle.bmap.specs.Line.{linesOf, decode}
 use Rattle.bmap.specs.Domain.{Names}
 use Rattle.bmap.specs.Buffer.{padded, fill}
 use Rattle.bmap.specs.Sheet.{stepOf, stepsFrom, stepsIn, readSheet}
-use Rattle.line.specs.Read.{FirstIs, lineRead}
+use Rattle.line.specs.Read.{lineRead, suchPayload, firstPayload}
 use Rattle.line.proofs.Lists.{part-to-end}
 use Rattle.line.proofs.LineLaws.{Takes, line-nothing, line-refused}
-use Rattle.line.proofs.PayloadLaws.{takes-first}
+use Rattle.line.proofs.PayloadLaws.{takes-payload, payload-line}
 use Rattle.sheet.specs.Step.{agentsAllowed, outcome, counted, namesIn, LineRefused, LineStep, NoStep}
 
 -- ---- a line
@@ -54,25 +54,28 @@ module _ (agents steps : ℕ) (rest frame exit : List ℕ) (n characters : ℕ) 
   pub not-whole : getD exit 0 0 ≡ 0xB1 → steps < mostSteps → NoStep agents steps rest → LineRefused agents steps rest 8
   unfolding stepOf
   not-whole e h bars =
-      let k : t .frame .kind ≡ 0xB1 = sym kind-is ∙ e in
-      let first : FirstIs rest (record { kind = 0xB1; payload = t .frame .payload })
-      = subst (λ (x : ℕ). FirstIs rest (record { kind = x; payload = t .frame .payload })) k (takes-first rest frame exit n characters t) in
-      line-is 8 (simp (eq-eqb (t .frame .kind) 0xB1 k, lt-ltb steps mostSteps h, ne-eqb (length (t .frame .payload)) agents (λ z. bars h (t .frame .payload) z first)))
+      let k = eq-eqb (t .frame .kind) 0xB1 (sym kind-is ∙ e) in
+      let none-of : suchPayload 0xB1 agents (got (t .frame)) ≡ none = sym (takes-payload rest frame exit n characters 0xB1 agents t) ∙ bars h in
+      let other : length (t .frame .payload) ≡ agents → ⊥ = λ z. absurd (let q = rw (k, eq-eqb (length (t .frame .payload)) agents z) at none-of in let o : _≡_ {A = ℕ} 0 1 = cc in omega arith) in
+      line-is 8 (simp (k, lt-ltb steps mostSteps h, ne-eqb (length (t .frame .payload)) agents other))
 
-pub a-step : (agents steps : ℕ) (rest names after : List ℕ) → steps < mostSteps → length names ≡ agents → FirstIs rest (record { kind = 0xB1; payload = names })
+pub a-step : (agents steps : ℕ) (rest names after : List ℕ) → steps < mostSteps → firstPayload 0xB1 agents rest ≡ some names
     → LineStep agents steps rest (names ++ after) (2 * agents + 5)
 unfolding stepOf
-a-step agents steps rest names after h l f = record {
-  line = f .line;
-  names = names;
-  lines = f .lines ∙ ap (λ (n : ℕ). f .line ∷ linesOf (drop (lineSize n) rest)) l;
-  is = rw (f .decodes) (simp (lt-ltb steps mostSteps h, eq-eqb (length names) agents l));
-  stand = sym (take-at names after agents l);
-  count = l;
-  before = h;
-  some = omega arith;
-  within = omega (arith, f .within);
-}
+a-step agents steps rest names after h e =
+    let f = payload-line rest names 0xB1 agents e in
+    let t = f .takes in
+    record {
+      line = t .line;
+      names = names;
+      lines = t .lines;
+      is = rw (t .decodes, f .frame) (simp (lt-ltb steps mostSteps h, eq-eqb (length names) agents (f .count)));
+      stand = sym (take-at names after agents (f .count));
+      count = f .count;
+      before = h;
+      some = omega arith;
+      within = t .within;
+    }
 
 -- ---- the lines in turn
 

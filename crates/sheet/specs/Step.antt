@@ -2,6 +2,7 @@
 use Prim.Native.Nat.{ℕ, _≤_, _<_}
 use mathlib.Core.Bool.{Bool}
 use mathlib.Core.List.{List, [], _∷_, map}
+use mathlib.Core.Option.{none}
 use mathlib.Core.Path.{_≡_}
 use lib.Dec.{leb}
 use lib.ListN.{length, take, drop}
@@ -10,7 +11,7 @@ use Rattle.bmap.specs.Limits.{mostAgents, mostSteps}
 use Rattle.bmap.specs.Refusal.{got, refused, then, numberOf, Reading, read, refusedAt, afterwards}
 use Rattle.bmap.specs.Line.{Line, linesOf, decode, stepKind}
 use Rattle.bmap.specs.Domain.{Names}
-use Rattle.line.specs.Read.{FirstIs}
+use Rattle.line.specs.Read.{firstPayload}
 use Rattle.bmap.specs.Sheet.{stepOf, stepsFrom, rows, stepLine}
 use Rattle.sheet.specs.declared.reader.Next.{Next}
 use Rattle.sheet.specs.declared.reader.Next.the-variants as next
@@ -57,7 +58,7 @@ NextIs agents steps rest front (next.Step characters) = LineStep agents steps re
 
 -- there may be no further step, or the first line is none
 abbrev pub NoStep : ℕ → ℕ → List ℕ → Type 0
-NoStep agents steps rest = steps < mostSteps → (names : Names) → length names ≡ agents → FirstIs rest (record { kind = stepKind; payload = names }) → ⊥
+NoStep agents steps rest = steps < mostSteps → firstPayload stepKind agents rest ≡ none
 
 -- ---- the writer
 

@@ -1,11 +1,16 @@
-use mathlib.Core.Path.{_≡_, sym, subst, _∙_}
+use Prim.Native.Nat.{ℕ}
+use mathlib.Core.Path.{_≡_, sym, ap, subst, _∙_}
+use mathlib.Core.Bool.{Bool}
+use mathlib.Core.Option.{none, some}
 use mathlib.Core.List.{_++_}
 use lib.ListN.{length, take, drop}
 use lib.Seq.{length-take-le}
 use native.Mathlib.Omega.{arith}
 use borrow.Author.Needs.{needs}
+use Rattle.bmap.specs.Plain.{if-else}
 use Rattle.bmap.specs.Line.{stepKind}
-use Rattle.line.specs.Read.{PayloadIs}
+use Rattle.line.specs.Read.{firstPayload}
+use Rattle.line.proofs.PayloadLaws.{payload-told}
 use Rattle.sheet.specs.Step.{LineStep}
 use Rattle.sheet.proofs.ReadLaws.{a-step}
 use Rattle.sheet.proofs.reader.next_step.Statement.{statement}
@@ -30,6 +35,15 @@ slice-aggregate-read-payload c = sym (lent (c .before))
 read-payload-requires : tie.Need-read-payload-requires
 read-payload-requires c κs = search needs
 
+-- what is said of the first line
+told : (c : tie.After-read-payload)
+    → firstPayload stepKind (c .before .before .before .before .before .args .agents) (c .before .before .before .before .before .args .rest .now) ≡ if-else (c .read-payload .result) (some (c .read-payload .last .1 .1 .0)) none
+told c =
+    let a = c .before .before .before .before .before .args in
+    let p = c .read-payload in
+    let e = payload-told (a .rest .now) (take (a .agents) (a .names .now)) (p .last .1 .1 .0) stepKind (p .result) (p .ensures) in
+    ap (λ (n : ℕ). firstPayload stepKind n (a .rest .now)) (sym (lent (c .before .before))) ∙ e
+
 line-size-requires : tie.Need-line-size-requires
 line-size-requires c κs = search needs
 
@@ -40,9 +54,8 @@ returns-2 : tie.Need-returns-2
 returns-2 c =
     let a = c .before .before .before .before .before .before .before .before .before .args in
     let p = c .before .before .before .before .read-payload in
-    let first = subst (PayloadIs stepKind (a .rest .now) (p .last .1 .1 .0)) (c .before .if2 .taken) (p .ensures) in
     subst (LineStep (a .agents) (a .steps) (a .rest .now) (p .last .1 .1 .0 ++ drop (a .agents) (a .names .now))) (sym (c .line-size .ensures))
-    (a-step (a .agents) (a .steps) (a .rest .now) (p .last .1 .1 .0) (drop (a .agents) (a .names .now)) (omega arith) (p .kept .1 .1 .0 ∙ lent (c .before .before .before .before .before .before)) first)
+    (a-step (a .agents) (a .steps) (a .rest .now) (p .last .1 .1 .0) (drop (a .agents) (a .names .now)) (omega arith) (told (c .before .before .before .before) ∙ ap (λ (r : Bool). if-else r (some (p .last .1 .1 .0)) none) (c .before .if2 .taken)))
 
 no-step-requires-2 : tie.Need-no-step-requires-2
 no-step-requires-2 c κs = search needs
@@ -55,7 +68,7 @@ returns-3 c =
     let a = c .before .before .before .before .before .before .before .before .before .args in
     let p = c .before .before .before .before .read-payload in
     c .no-step2 .ensures (a .agents) (p .last .1 .1 .0 ++ drop (a .agents) (a .names .now))
-    (λ h names l. subst (PayloadIs stepKind (a .rest .now) (p .last .1 .1 .0)) (c .before .if2 .left) (p .ensures) names (l ∙ sym (p .kept .1 .1 .0 ∙ lent (c .before .before .before .before .before .before))))
+    (λ h. told (c .before .before .before .before) ∙ ap (λ (r : Bool). if-else r (some (p .last .1 .1 .0)) none) (c .before .if2 .left))
 
 pub next-step-spec : {M : Type 1} → statement M
 next-step-spec =

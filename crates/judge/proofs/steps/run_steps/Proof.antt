@@ -224,10 +224,10 @@ row-fits : (c : tie.After-acting-in Inv-loop μ-loop) → agents (start (head c)
 row-fits c = let h = head c in row-there (agents (start h)) (start h .args .n) (j h) (rest h) (more c) (h .loop .inv .0 .whole)
 
 sub-rest : tie.Need-sub-rest Inv-loop μ-loop
-sub-rest c = row-fits (acts (marks (allows (c .before .before))))
+sub-rest c = omega (arith, row-fits (acts (marks (allows (c .before .before)))))
 
 part-rest-start : tie.Need-part-rest-start Inv-loop μ-loop
-part-rest-start c = row-fits (acts (marks (allows (c .before .before))))
+part-rest-start c = omega (arith, row-fits (acts (marks (allows (c .before .before)))))
 
 part-rest-end : tie.Need-part-rest-end Inv-loop μ-loop
 part-rest-end c = search needs

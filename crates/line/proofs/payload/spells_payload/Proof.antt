@@ -85,8 +85,8 @@ returns-5 c =
     (λ w. record {
       most = omega arith;
       feed = fed (c .before .before .before .before .before .before .before .before .before .before .before .before .before);
-      first = sym (c .before .before .before .before .before .before .before .before .before .before .pair .ensures) ∙ c .before .before .before .before .before .before .before .before .before .if3 .left;
-      second = sym (c .before .before .before .before .before .before .pair2 .ensures) ∙ c .before .before .before .before .before .if4 .left;
+      first = omega (arith, c .before .before .before .before .before .before .before .before .before .before .pair .ensures);
+      second = omega (arith, c .before .before .before .before .before .before .pair2 .ensures);
       pairs = w;
     })
     (p .ensures)

@@ -1,6 +1,7 @@
 -- The judgement as a call: its refusals in their order, and what it leaves in the levels buffer. Assumes nothing.
 use Prim.Native.Nat.{ℕ, _+_, _*_, _/_, _%_, _≤_, _<_}
 use mathlib.Core.Path.{_≡_, refl, sym, ap, _∙_}
+use mathlib.Core.Bool.{true}
 use mathlib.Core.List.{List, []}
 use native.Mathlib.Omega.{arith}
 use native.Mathlib.Nat.{div-add-mod'}
@@ -22,7 +23,10 @@ use Rattle.supplement.specs.declared.under.Under.{Under}
 use Rattle.supplement.proofs.Accepted.{UnderIs}
 use Rattle.supplement.proofs.EmptyLaws.{zeros-judged}
 use Rattle.supplement.proofs.Theorems.{empty-changes-nothing}
-use Rattle.judge.specs.Answer.{statesIn, statesWritten, statesWrittenUnder, judgeFor, statesWrittenFor}
+use Rattle.judge.specs.Answer.{statesIn, statesWritten, statesWrittenUnder, judgeFor, statesWrittenFor, Bounded, turnedBack}
+use Rattle.bmap.specs.declared.refusal.Refusal.the-variants.{NoRoom, NotDomain}
+use Rattle.judge.specs.Prepared.{InLimits, Anyhow}
+use Rattle.judge.specs.declared.judgement.Counted.{Counted}
 use Rattle.judge.proofs.IndexLaws.{domainHere}
 
 -- a sheet of whole steps
@@ -67,6 +71,18 @@ module _ (store supplement sheet : List ℕ) (levels : List ℤ) where
       × (statesIn (then (sheetOf (u .index .counts .agents) sheet) (λ steps. got (judge (domainHere here) steps))) ≡ statesWrittenUnder store supplement sheet levels)
   unfolding judgeUnder statesWrittenUnder domainOf
   call-judged here h = rw (le-leb levelsSize (length levels) h, here .domain, here .accepted) (refl, refl)
+
+-- ---- whatever was found
+
+module _ (u : Under) (levels : List ℤ) (r : Counted) where
+  pub turned-short : r ≡ turnedBack NoRoom → length levels < levelsSize → Anyhow u levels r levels
+  turned-short e h = rw e (record { bounded = record { few = omega arith; past = refl }; short = λ g. refl; unfound = λ g n. absurd (omega (arith, g, h)) })
+
+  pub turned-unfound : r ≡ turnedBack NotDomain → levelsSize ≤ length levels → Anyhow u levels r levels
+  turned-unfound e h = rw e (record { bounded = record { few = omega arith; past = refl }; short = λ g. absurd (omega (arith, g, h)); unfound = λ g n. refl })
+
+  pub judged-anyhow : {left : List ℤ} → Bounded (u .index .counts .fluents) levels r left → levelsSize ≤ length levels → u .ok ≡ true → InLimits (u .index .counts) → Anyhow u levels r left
+  judged-anyhow b h ok limits = record { bounded = b; short = λ g. absurd (omega (arith, g, h)); unfound = λ g n. absurd (n ok limits) }
 
 -- "an empty supplement changes nothing": what it answers is supplement's theorem
 pub states-alike : (store sheet : List ℕ) (levels : List ℤ) → statesWrittenUnder store [] sheet levels ≡ statesWritten store sheet levels

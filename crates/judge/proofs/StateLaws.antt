@@ -4,17 +4,18 @@ use mathlib.Core.Path.{_≡_, refl, sym, ap, _∙_}
 use mathlib.Core.Bool.{Bool, true, false}
 use mathlib.Core.List.{List, [], _∷_, _++_, map, append-assoc, append-nil}
 use native.Mathlib.Numerals.{add-one}
+use native.Mathlib.Nat.{suc-mul}
 use native.Mathlib.Omega.{arith}
 use native.Mathlib.Decide.{decLt}
 use lib.IntN.{ℤ, pos}
 use lib.ListN.{length, getD, take, drop, set, length-drop, length-append, length-set, List·getD-append}
-use lib.Seq.{getD-set-same, getD-set-other, getD-append-seam, getD-take, getD-drop, take-take, take-suc-set, take-set-le, drop-set-lt, drop-set-add, length-take-le, paste, paste-suc, length-paste, take-paste, drop-paste, take-at, take-append-add, drop-drop}
+use lib.Seq.{getD-set-same, getD-set-other, getD-append-seam, getD-take, getD-drop, take-take, take-suc-set, take-set-le, drop-set-lt, drop-set-add, length-take-le, paste, paste-suc, length-paste, take-paste, drop-paste, take-at, drop-at, take-append-add, drop-drop}
 use Rattle.bmap.specs.Plain.{flat, numbers}
-use Rattle.bmap.specs.Limits.{mostFluents, mostEntries}
+use Rattle.bmap.specs.Limits.{mostFluents, mostEntries, mostSteps}
 use Rattle.bmap.specs.Domain.{State, has}
 use Rattle.law.proofs.Bits.{no-bit}
 use Rattle.bmap.specs.Buffer.{over}
-use Rattle.law.specs.Evaluate.{rowSize, cellAt, marked, inStep}
+use Rattle.law.specs.Evaluate.{rowSize, historySize, cellAt, marked, inStep}
 use Rattle.judge.specs.States.{stateAt, statesOf, Between, Blank, marksFrom, markOf}
 
 -- ---- numbers copied one by one
@@ -149,6 +150,20 @@ module _ (w k : ℕ) (h : List ℤ) (p : rowSize * k + w ≤ length h) where
 
   pub flat-length : length (flat (statesOf w (k + 1) h)) ≡ length (flat (statesOf w k h)) + w
   flat-length = ap length flat-more ∙ (length-append (flat (statesOf w k h)) (stateAt w h k) ∙ ap (λ (n : ℕ). length (flat (statesOf w k h)) + n) state-length)
+
+-- so many states of so many levels
+pub states-size : (w n : ℕ) (h : List ℤ) → n ≤ mostSteps + 1 → w ≤ mostFluents → length h ≡ historySize → length (flat (statesOf w n h)) ≡ n * w
+unfolding statesOf flat
+states-size w zero h few wide long = let e : 0 * w ≡ 0 = omega arith in sym e
+states-size w (suc n) h few wide long =
+    ap (λ (k : ℕ). length (flat (statesOf w k h))) (sym (add-one n)) ∙ flat-length w n h (omega arith)
+    ∙ (let z : length (flat (statesOf w n h)) ≡ n * w = states-size w n h (omega arith) wide long in omega (arith, suc-mul n w))
+
+-- and nothing changes after them
+pub past-states : (w n : ℕ) (h levels left : List ℤ) → n ≤ mostSteps + 1 → w ≤ mostFluents → length h ≡ historySize → left ≡ over (flat (statesOf w n h)) levels → drop (n * w) left ≡ drop (n * w) levels
+past-states w n h levels left few wide long e =
+    let z : length (flat (statesOf w n h)) ≡ n * w = states-size w n h few wide long in
+    ap (drop (n * w)) e ∙ drop-at (flat (statesOf w n h)) (drop (length (flat (statesOf w n h))) levels) (n * w) z ∙ ap (λ (k : ℕ). drop k levels) z
 
 -- levels moved by way of another list are those that were there
 pub row-moved : (h row : List ℤ) (from at n : ℕ) → from + n ≤ length h → paste h at (paste row 0 (drop from h) n) n ≡ paste h at (drop from h) n

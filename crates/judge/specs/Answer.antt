@@ -1,8 +1,10 @@
 -- The paper's number and values of each answer.
-use Prim.Native.Nat.{ℕ}
-use lib.ListN.{length}
+use Prim.Native.Nat.{ℕ, _+_, _*_, _≤_}
+use mathlib.Core.Path.{_≡_}
+use lib.ListN.{length, drop}
 use lib.Dec.{eqb, leb}
-use Rattle.bmap.specs.Limits.{levelsSize}
+use Rattle.bmap.specs.Limits.{mostSteps, levelsSize}
+use Rattle.bmap.specs.declared.refusal.Refusal.{Refusal}
 use Rattle.bmap.specs.Refusal.{Answer, got, refused, need, then, numberOf}
 use Rattle.bmap.specs.Store.{domainIn}
 use Rattle.bmap.specs.Sheet.{sheetOf}
@@ -21,6 +23,7 @@ use Rattle.judge.specs.declared.verdict.Verdict.{Verdict}
 use Rattle.judge.specs.declared.verdict.Verdict.the-variants.{Accepted, Broken}
 use Rattle.judge.specs.declared.verdict.Judgement.{Judgement}
 use Rattle.judge.specs.declared.verdict.Judgement.the-variants.{Refused, Judged}
+use Rattle.judge.specs.declared.judgement.Counted.{Counted}
 use Rattle.judge.specs.declared.verdict.Check.{Check}
 use Rattle.judge.specs.declared.verdict.Check.the-variants.{Passed, Failed}
 use Rattle.judge.specs.declared.reading.Wants.{Wants}
@@ -68,6 +71,17 @@ statesWritten store sheet levels = statesIn (sheetJudged store sheet levels)
 -- those of `judgeUnder`
 unfoldable pub statesWrittenUnder : List ℕ → List ℕ → List ℕ → List ℤ → ℕ
 statesWrittenUnder store supplement sheet levels = statesIn (sheetJudgedUnder store supplement sheet levels)
+
+-- ---- by what was found, whatever it was found of
+
+-- no more states than the longest sheet has, and nothing changed after them
+pub record Bounded (fluents : ℕ) (levels : List ℤ) (r : Counted) (left : List ℤ) : Type 0 where
+  pub few : r .states ≤ mostSteps + 1
+  pub past : drop (r .states * fluents) left ≡ drop (r .states * fluents) levels
+
+-- refused, and no state written
+abbrev pub turnedBack : Refusal → Counted
+turnedBack why = record { judgement = Refused why; states = 0 }
 
 -- ---- a sheet for so many agents
 

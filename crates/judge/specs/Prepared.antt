@@ -6,7 +6,7 @@ use mathlib.Core.List.{List, map}
 use lib.IntN.{ℤ}
 use lib.ListN.{length, getD}
 use Rattle.bmap.specs.Plain.{numbers}
-use Rattle.bmap.specs.Limits.{mostAgents, mostFluents, mostKnowledge, mostEntries, mostLaws, mostSteps}
+use Rattle.bmap.specs.Limits.{mostAgents, mostFluents, mostKnowledge, mostEntries, mostLaws, mostSteps, levelsSize}
 use Rattle.bmap.specs.Refusal.{got}
 use Rattle.bmap.specs.Domain.{Domain}
 use Rattle.bmap.specs.Supplement.{Replacement, replaced, supplementIn}
@@ -16,7 +16,9 @@ use Rattle.law.specs.Evaluate.{historySize}
 use Rattle.index.specs.Index.{domainOf}
 use Rattle.supplement.specs.Under.{underIn}
 use Rattle.supplement.specs.declared.under.Under.{Under}
-use Rattle.judge.specs.Answer.{verdictOf}
+use Rattle.bmap.specs.declared.refusal.Refusal.the-variants.{NoRoom, NotDomain}
+use Rattle.judge.specs.Answer.{verdictOf, Bounded, turnedBack}
+use Rattle.judge.specs.declared.judgement.Counted.{Counted}
 use Rattle.judge.specs.States.{statesOf, Blank, Kept}
 use Rattle.judge.specs.Landing.{Ranged, Storable}
 use Rattle.judge.specs.Told.{Lawful, Owned, Ordered, Few}
@@ -49,6 +51,12 @@ pub record InLimits (n : Counts) : Type 0 where
 pub record KeepsLimits (n : Counts) (r : Bool) : Type 0 where
   pub yes : r ≡ true → InLimits n
   pub no : r ≡ false → InLimits n → ⊥
+
+-- what is said whatever was found: 10, 15 for what is not accepted or beyond the limits, and what is left after the states
+pub record Anyhow (u : Under) (levels : List ℤ) (r : Counted) (left : List ℤ) : Type 0 where
+  pub bounded : Bounded (u .index .counts .fluents) levels r left
+  pub short : length levels < levelsSize → r ≡ turnedBack NoRoom
+  pub unfound : levelsSize ≤ length levels → (u .ok ≡ true → InLimits (u .index .counts) → ⊥) → r ≡ turnedBack NotDomain
 
 -- a sheet of so many steps that can be judged by it
 pub record Judgeable (u : Under) (sheet : List ℕ) (n : ℕ) (history : List ℤ) : Type 0 where

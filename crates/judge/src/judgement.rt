@@ -10,9 +10,8 @@ ghost use Rattle.bmap.specs.Supplement.{judgeUnder};
 ghost use Rattle.bmap.specs.Judge.{judge};
 ghost use Rattle.bmap.specs.Verdict.{judgement, judgeSheet};
 ghost use Rattle.law.specs.Evaluate.{historySize};
-ghost use Rattle.judge.specs.Answer.{answerOf, statesIn, statesWritten, statesWrittenUnder, judgeFor, statesWrittenFor};
-ghost use Rattle.judge.specs.declared.verdict.Judgement.the-variants.{Refused};
-ghost use Rattle.judge.specs.Prepared.{judgedOf, Governs, InLimits, KeepsLimits, Judgeable};
+ghost use Rattle.judge.specs.Answer.{answerOf, statesIn, statesWritten, statesWrittenUnder, judgeFor, statesWrittenFor, Bounded, turnedBack};
+ghost use Rattle.judge.specs.Prepared.{judgedOf, Governs, InLimits, KeepsLimits, Anyhow, Judgeable};
 ghost use Rattle.supplement.specs.Under.{underIn};
 use crate::held::hold_laws;
 use crate::knowledge::all_knowers;
@@ -99,7 +98,7 @@ fn judge_by<'a>(
         → (record { answer = answerOf (r .judgement); levels = now (levels .exit) }
         ≡ judgement (now (levels .entry)) (then (sheetOf (under .index .counts .agents) (now (sheet .entry))) (λ steps. got (judge d steps))))
         × (r .states ≡ statesIn (then (sheetOf (under .index .counts .agents) (now (sheet .entry))) (λ steps. got (judge d steps))))) ⌝ }
-    ensures { λ r. ⌜ r .states ≤ mostSteps + 1 ⌝ }
+    ensures { λ r. ⌜ Bounded (under .index .counts .fluents) (now (levels .entry)) r (now (levels .exit)) ⌝ }
 {
     let counts = under.index.counts;
     let agents = counts.agents;
@@ -169,7 +168,7 @@ pub fn judge_under_counted<'a>(
     )
 }
 
-// By what was found of the two stores: nothing in them is looked at again. What was found of others says nothing of these; it is
+// By what was found of the two stores: no frame in them is checked again. What was found of others says nothing of these: it is
 // refused where it is beyond the limits, and else judged without harm.
 pub fn judge_found<'a>(
     store: &'a [u8],
@@ -181,7 +180,7 @@ pub fn judge_found<'a>(
     ensures { λ r. ⌜ (under ≡ underIn (now (store .entry)) (now (supplement .entry))
         → (record { answer = answerOf (r .judgement); levels = now (levels .exit) } ≡ judgeUnder (now (store .entry)) (now (supplement .entry)) (now (sheet .entry)) (now (levels .entry)))
         × (r .states ≡ statesWrittenUnder (now (store .entry)) (now (supplement .entry)) (now (sheet .entry)) (now (levels .entry)))) ⌝ }
-    ensures { λ r. ⌜ r .states ≤ mostSteps + 1 ⌝ }
+    ensures { λ r. ⌜ Anyhow under (now (levels .entry)) r (now (levels .exit)) ⌝ }
 {
     if levels.len() < LEVELS {
         return refused(Refusal::NoRoom);
@@ -238,7 +237,7 @@ pub fn judge_for(agents: usize, store: &[u8], sheet: &[u8], levels: &mut [i16]) 
 
 // No state is written.
 fn refused(why: Refusal) -> Counted
-    ensures { λ r. ⌜ r ≡ record { judgement = Refused why; states = 0 } ⌝ }
+    ensures { λ r. ⌜ r ≡ turnedBack why ⌝ }
 {
     let judgement = Judgement::Refused(why);
     Counted {

@@ -12,7 +12,7 @@ abbrev start : tie.After-judge-found → tie.Start
 start c = c .before .before .before .before .before .before
 
 few : (c : tie.After-judge-found) → c .judge-found .result .states ≤ 65
-few c = c .judge-found .ensures .1
+few c = c .judge-found .ensures .1 .bounded .few
 
 slice-aggregate-judge-found : tie.Need-slice-aggregate-judge-found
 slice-aggregate-judge-found c = search needs

@@ -58,11 +58,11 @@ enum { WAROTH_INPUT = 60000 };
 
 /* The most stack of a call, in bytes: what was measured, with room to spare. Measured by reference/beside/stack.c:
  *
- *   waroth_read_domain   2,544   waroth_read_supplement  6,128   waroth_judge        35,952   waroth_open    5,648
- *   waroth_write_domain  5,696   waroth_law              8,432   waroth_judge_under  35,968   waroth_enter  20,976
- *   waroth_counts        5,632   waroth_lay             10,544   waroth_answer       76,448   waroth_strike 25,632
- *   waroth_frame             8   waroth_read_sheet         296   waroth_low_water    92,512   waroth_amend  20,992
- *                                waroth_write_sheet         69   waroth_verdict      44,352   waroth_undo   17,360
+ *   waroth_read_domain   6,624   waroth_read_supplement  9,280   waroth_judge        35,824   waroth_open    5,648
+ *   waroth_write_domain  5,696   waroth_law              8,432   waroth_judge_under  35,840   waroth_enter  20,976
+ *   waroth_counts        5,632   waroth_lay             10,544   waroth_answer       78,272   waroth_strike 25,632
+ *   waroth_frame             8   waroth_read_sheet         312   waroth_low_water    92,544   waroth_amend  20,992
+ *                                waroth_write_sheet         69   waroth_verdict      44,224   waroth_undo   17,360
  *                                                                                             waroth_redo   20,992 */
 enum {
     WAROTH_STACK_TEXTS = 8192,        /* domains and sheets */

@@ -84,7 +84,7 @@ fn put_judged<'a>(
     }
 }
 
-// The sheet's lines after so many of an accepted domain and its supplement, of which nothing is read again.
+// The sheet's lines after so many of an accepted domain and its supplement, of which no frame is checked again.
 fn put_sheet<'a>(
     store: &'a [u8],
     supplement: &'a [u8],

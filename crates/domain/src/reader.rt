@@ -35,7 +35,7 @@ pub enum ReadStore {
     Refused { refusal: Refusal, line: usize },
 }
 
-// A reading, and what was found of the store that it leaves: who needs it looks at no frame again.
+// A reading, and what was found of the store that it leaves: who needs it checks no frame again.
 pub struct ReadFound {
     pub answer: ReadStore,
     pub found: Found,

@@ -37,8 +37,8 @@ fn move_row(history: &mut [i16; HISTORY], from: usize, at: usize)
     copy_levels(&row, 0, Counts::FLUENTS, history, at);
 }
 
-// "The levels buffer … receives the states reached, fluent by fluent"; "Numbers after them are untouched". The history is not read
-// again: the states are closed up in it, each over what its row has past the fluents of the one before, and copied at once.
+// "The levels buffer … receives the states reached, fluent by fluent"; "Numbers after them are untouched". No law is read
+// any more: so the states are closed up in the history itself, each moved to just after the one before, and copied at once.
 pub(crate) fn copy_states(history: &mut [i16; HISTORY], n: usize, w: usize, levels: &mut [i16])
     requires { ⌜ Copyable n w (now history) (now levels) ⌝ }
     ensures { λ _. ⌜ now (levels .exit) ≡ over (flat (statesOf w n (now (history .entry)))) (now (levels .entry)) ⌝ }

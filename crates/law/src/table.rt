@@ -1,6 +1,6 @@
 // "The number of operands of each code is kept as one table, code by code": what the operands of a code are, how many there
 // are, and which operator is made of them. The checker, the evaluator and the search for fluents take the three from a row,
-// the leaves 10 and 11 too, and look at no code a second time. Sort and count are asked in one, so that no code passes by its
+// the leaves 10, 11 and 29 too, and look at no code a second time. Sort and count are asked in one, so that no code passes by its
 // sort alone.
 ghost use mathlib.Core.Path.{_≡_};
 ghost use Prim.Native.Nat.{_+_, _≤_, _<_};

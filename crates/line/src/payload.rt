@@ -63,7 +63,7 @@ fn spell_all(text: &[u8], out: &mut [u8]) -> bool
     spell_rest(&text[2 * at..], &mut out[at..])
 }
 
-// The same of a block, by way of an array of its own, which no store to `out` can change: so the compiler takes it as one.
+// The same of a block, tested before it is written, by way of an array of its own, which no store to `out` can change: so the compiler takes it as one.
 fn spell_block(text: &[u8], out: &mut [u8]) -> bool
     requires { ⌜ (32 ≤ length (now text)) × (16 ≤ length (now out)) ⌝ }
     ensures { λ r. ⌜ BlockIf 16 (now (text .entry)) (now (out .entry)) (now (out .exit)) r ⌝ }

@@ -3,7 +3,7 @@ use Prim.Native.Nat.{ℕ}
 use mathlib.Core.Path.{_≡_}
 use mathlib.Core.List.{List, []}
 use lib.ListN.{length}
-use Rattle.bmap.specs.Refusal.{got, refused, Reading, read, refusedAt, numberOf, afterwards}
+use Rattle.bmap.specs.Refusal.{got, refused, Reading, read, refusedAt, afterwards}
 use Rattle.bmap.specs.Domain.{Domain}
 use Rattle.bmap.specs.Store.{framesOf}
 use Rattle.bmap.specs.Supplement.{Replacement, supplementFrom, readSupplement}

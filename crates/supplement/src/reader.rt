@@ -21,7 +21,7 @@ ghost use Rattle.index.specs.Index.{domainOf, Sound};
 ghost use Rattle.domain.specs.Read.{readingOf};
 ghost use Rattle.supplement.specs.Read.{UnderRead, RefusedAt, LinesUnder};
 
-// A reading, and what was found of the domain and of the supplement that it leaves: who needs it looks at neither again.
+// A reading, and what was found of the domain and of the supplement that it leaves: who needs it checks neither again.
 pub struct ReadUnder {
     pub answer: ReadStore,
     pub under: Under,

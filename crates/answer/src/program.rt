@@ -140,13 +140,7 @@ pub fn answer(input: &[u8], out: &mut [u8]) -> usize
 }
 
 // What follows the lines of an accepted domain in an input that is cut twice: the supplement's, then the sheet's.
-fn put_under(
-    store: &[u8],
-    input: &[u8],
-    supplement: Cut,
-    sheet: Cut,
-    out: &mut [u8],
-) -> usize
+fn put_under(store: &[u8], input: &[u8], supplement: Cut, sheet: Cut, out: &mut [u8]) -> usize
     requires { ⌜ CutTwice (now input) supplement sheet × (outputSize ≤ length (now out)) ⌝ }
     ensures { λ r. ⌜ ((d : Domain) → domainIn (now (store .entry)) ≡ got d
         → Put (now (out .entry)) 0 (answeredUnder (split sheetMark (linesOf (now (input .entry)))) (read d)) r (now (out .exit))) ⌝ }

@@ -39,9 +39,11 @@ same-length : tie.Need-same-length
 same-length c = search needs
 
 returns-3 : tie.Need-returns-3
-returns-3 c = let s = c .before .before .before .before .before .before .before .before .before .before .before .before .args in let ran = c .before .before .before .before .judge-steps in let copy = c .before .copy-states in
-    (λ d f. by-steps d (s .under .index .counts .agents) (s .sheet .now) (s .levels .now) (judgedOf (s .under .index .counts .fluents) (ran .result) (ran .last .1 .1 .1 .1 .1 .0)) (copy .last .1 .1 .1 .0) (ran .result .reached) (sym (states-length _ _ _))
-    (c .before .before .before .before .before .before .before .if1 .left) (c .before .before .before .before .before .before .if2 .left) (ran .ensures .1 d f) (copy .ensures), record { few = ran .ensures .0 .0; past = past-states _ _ (ran .last .1 .1 .1 .1 .1 .0) _ _ (ran .ensures .0 .0) (c .before .before .before .before .before .before .before .before .before .before .before .before .pre .0 .fluents) (ran .ensures .0 .1) (copy .ensures) })
+returns-3 c = let s = c .before .before .before .before .before .before .before .before .before .before .before .before .args in let ran = c .before .before .before .before .judge-steps in let copy = c .before .copy-states in (
+  λ d f. by-steps d (s .under .index .counts .agents) (s .sheet .now) (s .levels .now) (judgedOf (s .under .index .counts .fluents) (ran .result) (ran .last .1 .1 .1 .1 .1 .0)) (copy .last .1 .1 .1 .0) (ran .result .reached) (sym (states-length _ _ _))
+      (c .before .before .before .before .before .before .before .if1 .left) (c .before .before .before .before .before .before .if2 .left) (ran .ensures .1 d f) (copy .ensures),
+  record { few = ran .ensures .0 .0; past = past-states _ _ (ran .last .1 .1 .1 .1 .1 .0) _ _ (ran .ensures .0 .0) (c .before .before .before .before .before .before .before .before .before .before .before .before .pre .0 .fluents) (ran .ensures .0 .1) (copy .ensures) },
+)
 
 pub judge-by-spec : {M : Type 1} → statement M
 judge-by-spec =

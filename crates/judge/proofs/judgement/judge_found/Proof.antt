@@ -42,7 +42,7 @@ returns-4 c =
           let called = call-judged (s .store .now) (s .supplement .now) (s .sheet .now) (s .levels .now) here (c .before .before .before .before .before .before .before .if1 .left) in
           (judged .0 ∙ called .0, judged .1 ∙ called .1),
       (let k = c .before .before .before .before in
-      judged-anyhow _ _ (c .before .judge-by .result) (c .before .judge-by .ensures .1) (c .before .before .before .before .before .before .before .if1 .left) (not-false (s .under .ok) (k .before .if2 .left)) (k .keeps-limits .ensures .yes (not-false (k .keeps-limits .result) (c .before .before .before .if3 .left)))),
+          judged-anyhow _ _ (c .before .judge-by .result) (c .before .judge-by .ensures .1) (c .before .before .before .before .before .before .before .if1 .left) (not-false (s .under .ok) (k .before .if2 .left)) (k .keeps-limits .ensures .yes (not-false (k .keeps-limits .result) (c .before .before .before .if3 .left)))),
     )
 
 pub judge-found-spec : {M : Type 1} → statement M

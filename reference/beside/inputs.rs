@@ -246,6 +246,20 @@ pub fn large_crews() -> Input {
     }
 }
 
+/// The same, but every second entry has another action, and the agents name the two in turns: no step has the names of the
+/// one before.
+pub fn crews_in_turns() -> Input {
+    let entries: Vec<_> = pairs()
+        .zip([1, 2].into_iter().cycle())
+        .map(|(absent, action)| (action, !absent))
+        .collect();
+    Input {
+        name: "who names what in turns, 64 crews of 14",
+        draft: Draft::new(16, &[[0, 100, 1]], &entries).free(),
+        sheet: [[1; 16], [2; 16]].concat().repeat(STEPS / 2),
+    }
+}
+
 /// A domain and two supplements for it.
 pub struct Two {
     pub name: &'static str,

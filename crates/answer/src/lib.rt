@@ -1,6 +1,6 @@
 // The programs' functions, from input bytes to output bytes: the cuts into the texts of a domain, a supplement and a sheet, and what
-// is printed. It stands on `domain`, `supplement`, `sheet` and `judge`, on `index` for a domain's counts, on `number` for the bytes of a
-// level and on `line` for a law of its proofs; the programs `waroth` and `low_water` and `desk` stand on it.
+// is printed. It stands on `domain`, `supplement`, `sheet` and `judge`, on `index` for a domain's counts, on `number` for the
+// bytes of a level and on `line` for a law of its proofs; the programs `waroth` and `low_water` and `desk` stand on it.
 mod cut;
 mod print;
 mod program;

@@ -63,7 +63,8 @@ fn spell_all(text: &[u8], out: &mut [u8]) -> bool
     spell_rest(&text[2 * at..], &mut out[at..])
 }
 
-// The same of a block, tested before it is written, by way of an array of its own, which no store to `out` can change: so the compiler takes it as one.
+// The same of a block, tested before it is written, by way of an array of its own, which no store to `out` can change: so the
+// compiler takes it as one. That array's size has to be a constant, so a block and a few are two functions.
 fn spell_block(text: &[u8], out: &mut [u8]) -> bool
     requires { ⌜ (32 ≤ length (now text)) × (16 ≤ length (now out)) ⌝ }
     ensures { λ r. ⌜ BlockIf 16 (now (text .entry)) (now (out .entry)) (now (out .exit)) r ⌝ }
@@ -92,6 +93,7 @@ fn spell_rest(text: &[u8], out: &mut [u8]) -> bool
     spell_each(&text[2 * at..], &mut out[at..])
 }
 
+// As `spell_block`, of a few.
 fn spell_few(text: &[u8], out: &mut [u8]) -> bool
     requires { ⌜ (8 ≤ length (now text)) × (4 ≤ length (now out)) ⌝ }
     ensures { λ r. ⌜ BlockIf 4 (now (text .entry)) (now (out .entry)) (now (out .exit)) r ⌝ }
@@ -105,6 +107,7 @@ fn spell_few(text: &[u8], out: &mut [u8]) -> bool
     true
 }
 
+// Byte by byte.
 fn spell_each(text: &[u8], out: &mut [u8]) -> bool
     requires { ⌜ 2 * length (now out) ≤ length (now text) ⌝ }
     ensures { λ r. ⌜ SpeltIf (now (text .entry)) (now (out .exit)) r ⌝ }

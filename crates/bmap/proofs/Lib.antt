@@ -1,4 +1,5 @@
 pub mod PayloadLaws
 pub mod PlainLaws
+pub mod LineLaws
 pub mod NumbersLaws
 pub mod RefusalLaws

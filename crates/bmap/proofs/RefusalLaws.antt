@@ -5,12 +5,12 @@ use mathlib.Core.List.{List, [], _∷_}
 use lib.ListN.{getD}
 use Rattle.bmap.specs.Refusal.{numberOf}
 use Rattle.bmap.specs.declared.refusal.Refusal.{Refusal}
-use Rattle.bmap.specs.declared.refusal.Refusal.the-variants.{BadLine, BadCount, BadKind, BadPayload, TooMany, Repeated, Incomplete, NotWhole, TooLong, NoRoom, NoStep, NothingStands, NothingUndone, LogFull, NotDomain, OtherAgents, NotSession, LongInput, OtherLaw}
+use Rattle.bmap.specs.declared.refusal.Refusal.the-variants.{BadLine, BadCount, BadKind, BadPayload, TooMany, Repeated, Incomplete, NotWhole, TooLong, NoRoom, NoStep, NothingStands, NothingUndone, LogFull, NotDomain, OtherAgents, NotSession, LongInput, TooManySheets, OtherLaw}
 
--- the refusals by their number; there is no 19
+-- the refusals by their number
 refusals : List Refusal
 refusals =
-    BadLine ∷ BadCount ∷ BadKind ∷ BadPayload ∷ TooMany ∷ Repeated ∷ Incomplete ∷ NotWhole ∷ TooLong ∷ NoRoom ∷ NoStep ∷ NothingStands ∷ NothingUndone ∷ LogFull ∷ NotDomain ∷ OtherAgents ∷ NotSession ∷ LongInput ∷ BadLine ∷ OtherLaw ∷ []
+    BadLine ∷ BadCount ∷ BadKind ∷ BadPayload ∷ TooMany ∷ Repeated ∷ Incomplete ∷ NotWhole ∷ TooLong ∷ NoRoom ∷ NoStep ∷ NothingStands ∷ NothingUndone ∷ LogFull ∷ NotDomain ∷ OtherAgents ∷ NotSession ∷ LongInput ∷ TooManySheets ∷ OtherLaw ∷ []
 
 of-number : (r : Refusal) → getD refusals (numberOf r - 1) BadLine ≡ r
 unfolding refusals
@@ -32,6 +32,7 @@ of-number NotDomain = refl
 of-number OtherAgents = refl
 of-number NotSession = refl
 of-number LongInput = refl
+of-number TooManySheets = refl
 of-number OtherLaw = refl
 
 pub same-refusal : (a b : Refusal) → numberOf a ≡ numberOf b → a ≡ b

@@ -1,17 +1,18 @@
 -- The cases of document 01: those marked with a star in one list, the others in a second; beside them what they leave open, and the
--- sentences of document 02. One statement.
+-- sentences of document 02. Two statements, since one may compute only so much.
 use Prim.Native.Nat.{ℕ, _+_}
 use mathlib.Core.Path.{_≡_, refl}
 use mathlib.Core.Bool.{false}
 use mathlib.Core.List.{List, [], _∷_, _++_}
 use lib.IntN.{ℤ, pos, negsuc}
-use lib.ListN.{take, replicate}
-use Rattle.bmap.specs.Plain.{any, all, flat, numbers, text}
+use lib.ListN.{length, take, replicate}
+use Rattle.bmap.specs.Plain.{any, all, those, flat, numbers, text}
+use Rattle.bmap.specs.Limits.{beginsSize, reportInput}
 use Rattle.bmap.specs.Number.{Valued, value, no-value, bounded, operate, signedWord}
 use Rattle.bmap.specs.Tree.{fluent, namedE, namedC, allowedE, allowedC}
 use Rattle.bmap.specs.Meaning.{History, evalE, evalC}
 use Rattle.bmap.specs.Code.{codeOf, parseE, parseC}
-use Rattle.bmap.specs.Line.{linesOf, digit, bytes, framed, decode, digitFor, hex, lineFor}
+use Rattle.bmap.specs.Line.{linesOf, startsWith, digit, bytes, framed, decode, digitFor, hex, lineFor}
 use Rattle.bmap.specs.Domain.{Names, occursIn, knownTo, readable}
 use Rattle.bmap.specs.Payload.{maskFits, agentsFit, fluentFits, knowledgeFits, entryFits, executableIn, effectIn, mustIn, lawIn, itemIn}
 use Rattle.bmap.specs.Refusal.{Answer, Reading, read, refusedAt, got, refused, orElse, then}
@@ -25,6 +26,7 @@ use Rattle.bmap.specs.Session.{enter, strike, amend, edited, replayed, s
 use Rattle.bmap.specs.Supplement.{replacementOf, inForceFrom, replaced, replacementIn, supplementFrom, readSupplement, supplementIn, judgeUnder, inDomain, inSupplement, Part, lawParts, replacementPart, lawInForce}
 use Rattle.bmap.specs.Laying.{byNumber, ordered, laid, bytesOf, bothLaid, laySupplements, orderSupplement}
 use Rattle.bmap.specs.Program.{digitsOf, spaced, stateLines, split, output, lowWater}
+use Rattle.bmap.specs.Report.{sheetBegins, textsOf, lowestOf, highestOf, sumOf, sheetsFrom, report}
 use Rattle.bmap.specs.River.{p, judgedUnder, gives}
 use Rattle.bmap.specs.declared.Operation.the-variants.{Product, Quotient, Remainder}
 use Rattle.bmap.specs.declared.session.Session.{Session}
@@ -494,10 +496,119 @@ layings =
     ∷ lowPrints (oursInForce ++ text "AF0404A9282A\nAF0802A6002A0010012B\nB1020100\n") (text "S 0 300\nS 1 299\nBROKEN 8 1 4\n")
     ∷ []
 
+-- a report; so many empty sheets
+abbrev reports : List ℕ → List ℕ → Case
+reports input out = record { Of = List ℕ; left = report input; right = out }
+
+abbrev emptySheets : ℕ → List ℕ
+emptySheets n = flat (replicate n sheetBegins)
+
+-- one line of so many characters, none of which is a digit, and LF
+abbrev longLine : ℕ → List ℕ
+longLine n = replicate n 120 ++ (10 ∷ [])
+
+-- levels below 0: fluent 0 from -10 to 5 starts at -1 and falls by 3, fluent 1 stays
+abbrev tidal : List ℕ
+tidal = text "A10101\nA206FFF60005FFFF\nA206800080018000\nA403010001\nA502002A\nA60A002A0013110000100003\n"
+
+-- a level that rises by 3 and falls by 4
+abbrev lifted : List ℕ
+lifted = text "A10101\nA206FFF60005FFFF\nA403010001\nA403020001\nA502002A\nA502012A\nA60A002A0012110000100003\nA60A012A0013110000100004\n"
+
+-- document 02, K1
+abbrev pub mornings : List Case
+mornings =
+    -- "P with the sheets (1,0) and (1,2) gives "SHEETS 1 1" and "F 0 286 300 586 2""
+    reports (p ++ text "B000\nB1020100\nB000\nB1020102\n") (text "SHEETS 1 1\nF 0 286 300 586 2\n")
+    -- no B000: no sheet
+    ∷ reports p (text "SHEETS 0 0\n")
+    -- B000 with nothing after it: an empty sheet, accepted
+    ∷ reports (p ++ text "B000\n") (text "SHEETS 1 0\nF 0 300 300 300 1\n")
+    ∷ reports (p ++ text "B000\nB000\nB1020100\n") (text "SHEETS 2 0\nF 0 286 300 886 3\n")
+    -- "a line of exactly B000 and LF": without LF, with CR, in lower case, with more or fewer digits it is a line of its text
+    ∷ reports (p ++ text "B000") (text "REFUSED 1 11\n")
+    ∷ reports (p ++ text "B000\nB1020100\nB000") (text "REFUSED 1 13\n")
+    ∷ reports (p ++ text "B000\r\n") (text "REFUSED 1 11\n")
+    ∷ reports (p ++ text "b000\n") (text "REFUSED 1 11\n")
+    ∷ reports (p ++ text "B0000\n") (text "REFUSED 1 11\n")
+    ∷ reports (p ++ text "B00000\n") (text "REFUSED 2 11\n")
+    ∷ reports (p ++ text "B000\nB0\n") (text "REFUSED 2 12\n")
+    ∷ reports (p ++ text "B000\n B000\n") (text "REFUSED 1 12\n")
+    -- a B1 line before the first B000 is a line of the domain
+    ∷ reports (p ++ text "B1020100\nB000\n") (text "REFUSED 3 11\n")
+    -- and a line of a domain in a sheet is one of the sheet
+    ∷ reports (p ++ text "B000\nA9012A\n") (text "REFUSED 3 12\n")
+    -- "over all states of all accepted sheets": a broken sheet between accepted ones, and one that breaks after all its states
+    ∷ reports (p ++ text "B000\nB1020100\nB000\nB1020102\nB000\nB1020100\nB1020002\n") (text "SHEETS 2 1\nF 0 280 300 1452 5\n")
+    ∷ reports (p ++ text "B000\nB1020100\nB1020100\nB000\n") (text "SHEETS 1 1\nF 0 300 300 300 1\n")
+    -- "If any was accepted": all broken
+    ∷ reports (p ++ text "B000\nB1020102\nB000\nB1020100\nB1020100\n") (text "SHEETS 0 2\n")
+    -- "lowest value, highest value, sum and count of values": neither is the first or the last
+    ∷ reports (lifted ++ text "B000\nB10101\nB10102\nB10102\nB10101\n") (text "SHEETS 1 0\nF 0 -6 2 -10 5\n")
+    -- "for each fluent": levels and sums below 0
+    ∷ reports (tidal ++ text "B000\nB10101\nB000\n") (text "SHEETS 2 0\nF 0 -4 -1 -6 3\nF 1 -32768 -32768 -98304 3\n")
+    ∷ reports (tidal ++ text "B000\nB10101\nB10101\nB10101\nB000\nB10101\nB10101\nB10101\nB10101\n") (text "SHEETS 1 1\nF 0 -10 -1 -22 4\nF 1 -32768 -32768 -131072 4\n")
+    -- steps are each sheet's own: 64 of one, then one of the next; and a 65th
+    ∷ reports (pool ++ sheetBegins ++ flat (replicate 64 (text "B1020000\n")) ++ text "B000\nB1020000\n") (text "SHEETS 2 0\nF 0 300 300 20100 67\n")
+    ∷ reports (pool ++ sheetBegins ++ flat (replicate 65 (text "B1020000\n"))) (text "REFUSED 9 70\n")
+    -- "The first refusal in input order gives the REFUSED line alone, lines counted from the input's first"
+    ∷ reports (p ++ text "B000\nB1020100\nB000\nB1020100\nB10101\n") (text "REFUSED 8 15\n")
+    ∷ reports (p ++ text "B000\nB1020102\nB000\nB1\n") (text "REFUSED 2 14\n")
+    ∷ reports (p ++ text "B000\nB1020100\n\nB000\n") (text "REFUSED 1 13\n")
+    ∷ reports (text "A10102\nB000\nB1\n") (text "REFUSED 7 1\n")
+    ∷ reports (text "A1\n" ++ emptySheets 41) (text "REFUSED 2 1\n")
+    ∷ reports [] (text "REFUSED 7 0\n")
+    ∷ reports sheetBegins (text "REFUSED 7 0\n")
+    -- "19 for a 41st sheet, at its B000 line": 40, and 41
+    ∷ reports (p ++ emptySheets 40) (text "SHEETS 40 0\nF 0 300 300 12000 40\n")
+    ∷ reports (p ++ emptySheets 41) (text "REFUSED 19 51\n")
+    -- broken ones are counted too
+    ∷ reports (p ++ flat (replicate 41 (text "B000\nB1020102\n"))) (text "REFUSED 19 91\n")
+    -- "before all else of it"
+    ∷ reports (p ++ emptySheets 41 ++ text "x\n") (text "REFUSED 19 51\n")
+    -- what is before it comes first: a refusal in the third sheet, one in the 40th
+    ∷ reports (p ++ text "B000\nB000\nB000\nB1\n" ++ emptySheets 38) (text "REFUSED 2 14\n")
+    ∷ reports (p ++ emptySheets 40 ++ text "B1\n" ++ sheetBegins) (text "REFUSED 2 51\n")
+    -- "18 … for each sheet's text by itself": 60,000 bytes, in an input that has more
+    ∷ reports (p ++ sheetBegins ++ longLine 59_999 ++ sheetBegins) (text "REFUSED 1 12\n")
+    -- "The program of document 01 stays beside it and does not take B000", nor does `low_water`
+    ∷ prints (p ++ text "B000\nB1020100\n") (text "REFUSED 3 11\n")
+    ∷ prints (p ++ text "B1020100\nB000\n") (text "REFUSED 3 12\n")
+    ∷ lowPrints (p ++ text "B000\nB1020100\n") (text "REFUSED 3 11\n")
+    -- what decides a report: the figure, and the characters of a B000 line that are counted in it
+    ∷ record { Of = ℕ; left = reportInput; right = 2_460_205 }
+    ∷ record { Of = ℕ; left = beginsSize; right = length sheetBegins }
+    ∷ []
+
+-- K1's long texts; `theorems` shows them, since each takes its time
+abbrev pub longTexts : List Case
+longTexts =
+    -- "18 (line 0) holds for the domain's text and for each sheet's text by itself": 60,000 bytes, and 60,001
+    reports (longLine 59_999 ++ sheetBegins) (text "REFUSED 1 1\n")
+    ∷ reports (longLine 60_000 ++ sheetBegins) (text "REFUSED 18 0\n")
+    ∷ reports (p ++ sheetBegins ++ longLine 60_000 ++ sheetBegins) (text "REFUSED 18 0\n")
+    -- the lines of a text together, its last without LF, and no other text with it
+    ∷ reports (p ++ text "B000\nB1\n" ++ longLine 59_996) (text "REFUSED 2 12\n")
+    ∷ reports (p ++ text "B000\nB1\n" ++ longLine 59_997) (text "REFUSED 18 0\n")
+    ∷ reports (p ++ sheetBegins ++ replicate 60_000 120) (text "REFUSED 1 12\n")
+    ∷ reports (p ++ sheetBegins ++ replicate 60_001 120) (text "REFUSED 18 0\n")
+    ∷ reports (p ++ text "B000\nB1020100\nB000\n" ++ longLine 59_999) (text "REFUSED 1 14\n")
+    -- "before the others of that text", and after those of the texts before it
+    ∷ reports (p ++ text "B000\nB1\nB000\n" ++ longLine 60_000) (text "REFUSED 2 12\n")
+    ∷ reports (p ++ text "B000\nB1020100\nB000\nB1\n" ++ longLine 60_000) (text "REFUSED 18 0\n")
+    -- 19 comes before 18 of its own sheet, and after that of the 40th
+    ∷ reports (p ++ emptySheets 41 ++ longLine 60_000) (text "REFUSED 19 51\n")
+    ∷ reports (p ++ emptySheets 40 ++ longLine 60_000 ++ sheetBegins) (text "REFUSED 18 0\n")
+    ∷ []
+
 abbrev pub AllHold : List Case → Type 0
 AllHold [] = Unit {0}
 AllHold (c ∷ l) = (c .left ≡ c .right) × AllHold l
 
 pub shown : AllHold starred × AllHold others × AllHold edges × AllHold sessions × AllHold calls × AllHold supplements × AllHold layings
-unfolding p judgedUnder text any all flat numbers bounded signedWord namedE namedC allowedE allowedC evalE evalC codeOf parseE parseC linesOf digit bytes framed decode occursIn knownTo readable maskFits agentsFit fluentFits knowledgeFits entryFits executableIn effectIn mustIn lawIn itemIn inOrder room fresh checked accept complete takenFrom stepOf stepsFrom eachFrom history holds carries placed permits permitted mayOccur sets settled levelAfter stateAfter inRange landed step carried ran judge digitsOf spaced stateLines split output edited replayed standingSheet edit undo redo turn after replies loggedAll layout openSession readDomain standsAt frameAt framesFrom domainIn start nextFrame writeDomain stepsIn readSheet rows judgeSheet sheetOf verdict digitFor hex lineFor replacementOf inForceFrom replaced replacementIn supplementFrom readSupplement supplementIn judgeUnder lawParts replacementPart lawInForce lowWater byNumber ordered laid laySupplements orderSupplement
+unfolding p judgedUnder text any all flat numbers bounded signedWord namedE namedC allowedE allowedC evalE evalC codeOf parseE parseC linesOf digit bytes framed decode occursIn knownTo readable maskFits agentsFit fluentFits knowledgeFits entryFits executableIn effectIn mustIn lawIn itemIn inOrder room fresh checked accept complete takenFrom stepOf stepsFrom eachFrom history holds carries placed permits permitted mayOccur sets settled levelAfter stateAfter inRange landed step carried ran judge digitsOf spaced stateLines split output edited replayed standingSheet edit undo redo turn after replies loggedAll layout openSession readDomain standsAt frameAt framesFrom domainIn start nextFrame writeDomain stepsIn readSheet rows judgeSheet sheetOf verdict digitFor hex lineFor replacementOf inForceFrom replaced replacementIn supplementFrom readSupplement supplementIn judgeUnder lawParts replacementPart lawInForce lowWater byNumber ordered laid laySupplements orderSupplement startsWith
 shown = ((refl, (refl, (refl, (refl, (refl, (refl, (refl, (refl, (refl, (refl, (refl, (refl, (refl, (refl, (refl, (refl, tt)))))))))))))))), (refl, (refl, (refl, (refl, (refl, (refl, tt)))))), (refl, (refl, (refl, (refl, (refl, (refl, (refl, (refl, (refl, (refl, (refl, (refl, (refl, (refl, (refl, (refl, (refl, (refl, (refl, (refl, (refl, (refl, (refl, (refl, (refl, (refl, (refl, (refl, (refl, (refl, (refl, (refl, (refl, (refl, (refl, (refl, (refl, (refl, (refl, (refl, (refl, (refl, (refl, (refl, (refl, (refl, (refl, (refl, (refl, (refl, (refl, (refl, (refl, (refl, (refl, (refl, (refl, (refl, (refl, tt))))))))))))))))))))))))))))))))))))))))))))))))))))))))))), (refl, (refl, (refl, (refl, (refl, (refl, (refl, (refl, (refl, (refl, tt)))))))))), (refl, (refl, (refl, (refl, (refl, (refl, (refl, (refl, (refl, (refl, (refl, (refl, (refl, tt))))))))))))), (refl, (refl, (refl, (refl, (refl, (refl, (refl, (refl, (refl, (refl, (refl, (refl, (refl, (refl, (refl, (refl, (refl, (refl, (refl, (refl, (refl, (refl, (refl, (refl, (refl, (refl, (refl, (refl, (refl, (refl, (refl, (refl, (refl, (refl, (refl, (refl, (refl, (refl, (refl, (refl, (refl, (refl, (refl, (refl, (refl, (refl, (refl, (refl, (refl, (refl, (refl, (refl, (refl, (refl, (refl, (refl, (refl, (refl, (refl, (refl, (refl, tt))))))))))))))))))))))))))))))))))))))))))))))))))))))))))))), (refl, (refl, (refl, (refl, (refl, (refl, (refl, (refl, (refl, (refl, (refl, (refl, (refl, (refl, (refl, (refl, (refl, (refl, (refl, (refl, (refl, (refl, (refl, (refl, (refl, (refl, (refl, (refl, (refl, (refl, (refl, (refl, (refl, (refl, (refl, tt))))))))))))))))))))))))))))))))))))
+
+pub mornings-shown : AllHold mornings
+unfolding p text all flat any numbers bounded signedWord namedE namedC allowedE allowedC evalE evalC codeOf parseE parseC linesOf digit bytes framed decode occursIn knownTo readable maskFits agentsFit fluentFits knowledgeFits entryFits executableIn effectIn mustIn lawIn itemIn inOrder room fresh checked accept complete takenFrom stepOf stepsFrom eachFrom history holds carries placed permits permitted mayOccur sets settled levelAfter stateAfter inRange landed step carried ran judge digitsOf spaced startsWith split output replacementOf supplementFrom lowWater those textsOf sheetsFrom lowestOf highestOf sumOf report
+mornings-shown = (refl, (refl, (refl, (refl, (refl, (refl, (refl, (refl, (refl, (refl, (refl, (refl, (refl, (refl, (refl, (refl, (refl, (refl, (refl, (refl, (refl, (refl, (refl, (refl, (refl, (refl, (refl, (refl, (refl, (refl, (refl, (refl, (refl, (refl, (refl, (refl, (refl, (refl, (refl, (refl, (refl, tt)))))))))))))))))))))))))))))))))))))))))

@@ -1,5 +1,5 @@
 -- The numbers of documents 01 and 02, each once.
-use Prim.Native.Nat.{ℕ, _+_}
+use Prim.Native.Nat.{ℕ, _+_, _*_}
 use Rattle.bmap.specs.declared.limits.Limits.{Limits}
 
 -- "number of agents, 1 to 16"
@@ -59,13 +59,26 @@ sheetSize = 1_024
 abbrev pub levelsSize : ℕ
 levelsSize = 2_080
 
--- "the program's input is over 60,000 bytes"
+-- "the program's input is over 60,000 bytes"; K1: "the domain's text and … each sheet's text by itself"
 abbrev pub mostInput : ℕ
 mostInput = 60_000
 
 -- K7: "a store of at least 16,000 bytes"
 abbrev pub supplementSize : ℕ
 supplementSize = 16_000
+
+-- K1: "19 for a 41st sheet"
+abbrev pub mostSheets : ℕ
+mostSheets = 40
+
+-- "a line of exactly B000 and LF": its characters
+abbrev pub beginsSize : ℕ
+beginsSize = 5
+
+-- the bytes of an input that decide its report: the longest text of a domain, the most sheets, each with its B000 line and the longest
+-- text, and one B000 line more
+abbrev pub reportInput : ℕ
+reportInput = mostInput + mostSheets * (beginsSize + mostInput) + beginsSize
 
 abbrev pub limitsOf : Limits
 limitsOf = record {
@@ -84,4 +97,6 @@ limitsOf = record {
   levels = levelsSize;
   input = mostInput;
   supplement = supplementSize;
+  sheets = mostSheets;
+  report = reportInput;
 }

@@ -28,6 +28,20 @@ unfoldable pub linesOf : List ℕ → List Line
 linesOf [] = []
 linesOf (c ∷ rest) = if-else (eqb c lineFeed) (emptyLine ∷ linesOf rest) (before c (linesOf rest))
 
+-- the line as it stands in its text
+abbrev pub lineText : Line → List ℕ
+lineText l = l .digits ++ if-else (l .ended) (lineFeed ∷ []) []
+
+-- a word's characters, and what a text starts with
+unfoldable pub startsWith : List ℕ → List ℕ → Bool
+startsWith [] s = true
+startsWith (c ∷ word) [] = false
+startsWith (c ∷ word) (d ∷ s) = both (eqb d c) (startsWith word s)
+
+-- a line, its LF with it, that starts with a word
+abbrev pub starts : List ℕ → Line → Bool
+starts word l = startsWith word (lineText l)
+
 -- "digits 0-9 A-F"
 unfoldable pub digit : ℕ → Answer ℕ
 digit c =

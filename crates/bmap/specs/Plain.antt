@@ -37,6 +37,12 @@ module _ {A : Type 0} where
   flat [] = []
   flat (l ∷ ls) = l ++ flat ls
 
+module _ {A : Type 0} where
+  -- those of a list for which it holds
+  unfoldable pub those : (A → Bool) → List A → List A
+  those p [] = []
+  those p (a ∷ l) = let rest : List A = those p l in if-else {A = List A} (p a) (a ∷ rest) rest
+
 module _ {A B : Type 0} where
   -- n where there is nothing, and f of what there is
   abbrev pub maybe : Option A → B → (A → B) → B

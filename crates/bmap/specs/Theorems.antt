@@ -9,7 +9,7 @@ use lib.Dec.{T, leb, ltb}
 use lib.IntN.{ℤ}
 use lib.ListN.{length, getD, take, replicate}
 use Rattle.bmap.specs.Plain.{all, flat, maybe}
-use Rattle.bmap.specs.Limits.{mostAgents, mostFluents, mostKnowledge, mostEntries, mostLaws, mostPayload, mostSteps, storeSize, sheetSize, levelsSize, supplementSize}
+use Rattle.bmap.specs.Limits.{mostAgents, mostFluents, mostKnowledge, mostEntries, mostLaws, mostPayload, mostSteps, storeSize, sheetSize, levelsSize, supplementSize, reportInput}
 use Rattle.bmap.specs.Refusal.{got, refused, need, then, read}
 use Rattle.bmap.specs.Line.{linesOf, lineSize}
 use Rattle.bmap.specs.Domain.{Domain, Names, Law}
@@ -23,6 +23,7 @@ use Rattle.bmap.specs.Verdict.{judgement, judgeSheet}
 use Rattle.bmap.specs.Supplement.{Replacement, replaces, replacementOf, replaced, lawNumbered, supplementFrom, readSupplement, supplementIn, judgeUnder, Part, bytesThere, lawParts, noPart, lawInForce}
 use Rattle.bmap.specs.Laying.{ordered, winning, laid, bytesOf, laySupplements, orderSupplement}
 use Rattle.bmap.specs.Program.{split, sheetMark, supplemented, output, lowWater}
+use Rattle.bmap.specs.Report.{report}
 use Rattle.bmap.specs.Session.{isOpen, CouldBeLeft, Call, opened, after, replies, standingSheet, replayed, layout, openSession, verdictOf}
 use Rattle.bmap.specs.Series.{sessionAfter, repliesOf}
 use Rattle.bmap.specs.declared.session.Session.{Session}
@@ -95,6 +96,12 @@ pub record SheetStands (store : List ℕ) (d : Domain) (calls : List Call) : Typ
 
 abbrev pub SheetsStand : Type 0
 SheetsStand = (store : List ℕ) (d : Domain) (calls : List Call) → domainIn store ≡ got d → SheetStands store d calls
+
+-- ---- K1
+
+-- what is read decides: the bytes after so many change no report
+abbrev pub RestUnread : Type 0
+RestUnread = (input : List ℕ) → report (take reportInput input) ≡ report input
 
 -- ---- K7
 

@@ -61,6 +61,14 @@ pub const LEVELS: usize = (Sheet::STEPS + 1) * Counts::FLUENTS;
 
 pub const INPUT: usize = 60_000;
 
+// The sheets of a report, at most; the characters of the line that begins each; and the bytes that decide a report: whatever stands
+// after them is behind a text that is too long, or one sheet too many.
+pub const SHEETS: usize = 40;
+
+pub const SHEET_BEGINS: usize = 5;
+
+pub const REPORT_INPUT: usize = INPUT + SHEETS * (SHEET_BEGINS + INPUT) + SHEET_BEGINS;
+
 // Every limit, for the promise below.
 pub struct Limits {
     pub agents: usize,
@@ -78,6 +86,8 @@ pub struct Limits {
     pub levels: usize,
     pub input: usize,
     pub supplement: usize,
+    pub sheets: usize,
+    pub report: usize,
 }
 
 // The code's limits are the definitions'.
@@ -100,5 +110,7 @@ pub fn every_limit() -> Limits
         levels: LEVELS,
         input: INPUT,
         supplement: SUPPLEMENT,
+        sheets: SHEETS,
+        report: REPORT_INPUT,
     }
 }

@@ -37,8 +37,10 @@ pub enum Refusal {
     OtherAgents,
     // 17: session closed, or not one that an accepted opening and calls after it could leave
     NotSession,
-    // 18: the program's input is over 60,000 bytes
+    // 18: the program's input is over 60,000 bytes, or in a report the domain's text or a sheet's
     LongInput,
+    // 19: a 41st sheet in a report
+    TooManySheets,
     // 20: law number not in the domain, a kind or entry that differs, or a law number given twice
     OtherLaw,
 }
@@ -66,6 +68,7 @@ impl Refusal {
             Refusal::OtherAgents => 16,
             Refusal::NotSession => 17,
             Refusal::LongInput => 18,
+            Refusal::TooManySheets => 19,
             Refusal::OtherLaw => 20,
         }
     }

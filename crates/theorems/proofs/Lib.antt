@@ -3,3 +3,6 @@
 pub mod ByNumberLaws
 pub mod RisingLaws
 pub mod LayingLaws
+-- K1: what is read of an input decides its report.
+pub mod UnreadLaws
+pub mod LongTexts

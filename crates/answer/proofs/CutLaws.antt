@@ -1,20 +1,20 @@
--- The lines of a text up to a place, and the cut at the first line that starts with two characters. Assumes nothing.
+-- The lines of a text up to a place, and the cut at the first line that starts with a word. Assumes nothing.
 use Prim.Native.Nat.{ℕ, suc, _+_, _≤_, _<_}
 use mathlib.Core.Path.{_≡_, refl, sym, ap, _∙_, subst}
-use mathlib.Core.Bool.{true, false}
+use mathlib.Core.Bool.{Bool, true, false, not}
 use mathlib.Core.List.{List, [], _∷_, _++_, append-nil, append-assoc}
 use native.Mathlib.Omega.{arith}
 use native.Mathlib.Numerals.{add-one}
-use native.Mathlib.Nat.{add-zero}
 use native.Mathlib.Decide.{ℕ-discrete, decLt}
-use lib.Dec.{eqb}
-use lib.ListN.{length, take, drop, getD, length-append, length-drop, take-append-drop, drop-of-length-le, List·getD-eq-default}
-use lib.Seq.{take-all, drop-cons, getD-drop, take-add}
+use lib.Dec.{T, eqb}
+use lib.ListN.{length, take, drop, getD, length-append, length-drop, take-append-drop, drop-of-length-le}
+use lib.Seq.{take-all, drop-cons, take-add}
 use borrow.Author.Tests.{eq-eqb, ne-eqb}
-use Rattle.bmap.proofs.PlainLaws.{both-false}
-use Rattle.bmap.specs.Line.{Line, linesOf, lineFeed, before}
-use Rattle.bmap.specs.Program.{Mark, starts, split}
-use Rattle.answer.specs.Cut.{CutIn, startsAt, feedIn}
+use Rattle.bmap.proofs.PlainLaws.{both-parts}
+use Rattle.bmap.specs.Plain.{both}
+use Rattle.bmap.specs.Line.{Line, linesOf, lineFeed, lineText, startsWith, starts, before}
+use Rattle.bmap.specs.Program.{split}
+use Rattle.answer.specs.Cut.{InLine, feedsLast, CutIn, feedIn}
 
 -- ---- the first line feed
 
@@ -58,60 +58,92 @@ closed-line (c ∷ s) b h =
       | no q ↦ rw (ne-eqb _ _ q) (ap (before c) (closed-line s b (omega (arith, rw (ne-eqb _ _ q) at h))))
     ]
 
--- ---- the test of the two characters
+-- ---- the test of the word
 
--- the characters of hex lines come after LF
-abbrev pub Hex : Mark → Type 0
-Hex m = (lineFeed < m .first) × (lineFeed < m .second)
+-- nothing of the word is left, nothing of the text, the next characters differ, or they agree
+pub starts-all : (word s : List ℕ) (i at : ℕ) → length word ≤ i → startsWith (drop i word) (drop at s) ≡ true
+unfolding startsWith
+starts-all word s i at h = rw (drop-of-length-le word h)
 
-module _ (m : Mark) (s : List ℕ) (at : ℕ) where
-  pub too-short : lineFeed < m .second → length s < at + 2 → false ≡ startsAt m s at
-  too-short g h = rw (List·getD-eq-default s 0 {n = at + 1} (omega arith), ne-eqb 0 (m .second) (λ e. omega arith)) (sym (both-false (eqb (getD s at 0) (m .first))))
+module _ (word s : List ℕ) (i at : ℕ) (h : i < length word) where
+  pub starts-end : length s ≤ at → startsWith (drop i word) (drop at s) ≡ false
+  unfolding startsWith
+  starts-end g = rw (drop-cons word i 0 h, drop-of-length-le s g)
 
-  pub not-first : (getD s at 0 ≡ m .first → ⊥) → false ≡ startsAt m s at
-  not-first h = rw (ne-eqb _ _ h)
+  module _ (g : at < length s) where
+    pub starts-not : (getD s at 0 ≡ getD word i 0 → ⊥) → startsWith (drop i word) (drop at s) ≡ false
+    unfolding startsWith
+    starts-not e = rw (drop-cons word i 0 h, drop-cons s at 0 g, ne-eqb _ _ e)
 
-  pub is-first : getD s at 0 ≡ m .first → eqb (getD s (at + 1) 0) (m .second) ≡ startsAt m s at
-  is-first h = rw (eq-eqb _ _ h)
+    pub starts-on : getD s at 0 ≡ getD word i 0 → startsWith (drop i word) (drop at s) ≡ startsWith (drop (i + 1) word) (drop (at + 1) s)
+    unfolding startsWith
+    starts-on e = rw (add-one i, add-one at, drop-cons word i 0 h, drop-cons s at 0 g, eq-eqb _ _ e)
 
--- whether a line starts with two characters is seen at its place in the text: neither of them is LF
-seen-first : (m : Mark) → Hex m → (s : List ℕ) → starts m (take (feedIn s) s) ≡ startsAt m s 0
-unfolding feedIn
-seen-first m h [] = too-short m [] 0 (h .1) (omega arith)
-seen-first m h (c ∷ []) = elim (ℕ-discrete c lineFeed) [ yes q ↦ rw (eq-eqb _ _ q) (too-short m (c ∷ []) 0 (h .1) (omega arith)) | no q ↦ rw (ne-eqb _ _ q) (too-short m (c ∷ []) 0 (h .1) (omega arith)) ]
-seen-first m h (c ∷ d ∷ s) =
-    elim (ℕ-discrete c lineFeed) [
-      | yes q ↦ rw (eq-eqb _ _ q, ne-eqb c (m .first) (λ e. omega (arith, h .0)))
-      | no q ↦ rw (ne-eqb _ _ q) (elim (ℕ-discrete d lineFeed) [
-        | yes r ↦ rw (eq-eqb _ _ r, ne-eqb d (m .second) (λ e. omega (arith, h .1))) (sym (both-false (eqb c (m .first))))
-        | no r ↦ rw (ne-eqb _ _ r)
-      ])
+-- the text's first line, as it stands in it
+abbrev firstText : List ℕ → List ℕ
+firstText s = take (suc (feedIn s)) s
+
+rest-in-line : (c : ℕ) (word : List ℕ) → InLine (c ∷ word) → InLine word
+unfolding feedsLast
+rest-in-line c [] h = tt
+rest-in-line c (d ∷ word) h = both-parts (not (eqb c lineFeed)) (feedsLast (d ∷ word)) h .1
+
+no-feed : {c : ℕ} → c ≡ lineFeed → T (not (eqb c lineFeed)) → ⊥
+no-feed {c} e h = rw (eq-eqb c lineFeed e) at h
+
+-- LF ends the line, and the word
+word-ends : (c d : ℕ) (word s : List ℕ) → InLine (c ∷ word) → d ≡ lineFeed → both (eqb d c) (startsWith word []) ≡ both (eqb d c) (startsWith word s)
+unfolding startsWith feedsLast
+word-ends c d [] s h q = refl
+word-ends c d (e ∷ word) s h q = rw (ne-eqb d c (λ (r : d ≡ c). no-feed (sym r ∙ q) (both-parts (not (eqb c lineFeed)) (feedsLast (e ∷ word)) h .0)))
+
+-- whether a line starts with a word is seen at its place in the text
+seen-first : (word : List ℕ) → InLine word → (s : List ℕ) → startsWith word (firstText s) ≡ startsWith word s
+unfolding startsWith feedIn
+seen-first [] h s = refl
+seen-first (c ∷ word) h [] = refl
+seen-first (c ∷ word) h (d ∷ s) =
+    elim (ℕ-discrete d lineFeed) [
+      | yes q ↦ rw (eq-eqb _ _ q) (word-ends c d word s h q)
+      | no q ↦ rw (ne-eqb _ _ q) (ap (both (eqb d c)) (seen-first word (rest-in-line c word h) s))
     ]
 
 -- ---- the lines before a place
 
 -- lines none of which starts so
-abbrev pub Skips : Mark → List Line → Type 0
-Skips m d = (rest : List Line) → (split m (d ++ rest) .before ≡ d ++ split m rest .before) × (split m (d ++ rest) .from ≡ split m rest .from)
+abbrev pub Skips : List ℕ → List Line → Type 0
+Skips word d = (rest : List Line) → (split word (d ++ rest) .before ≡ d ++ split word rest .before) × (split word (d ++ rest) .from ≡ split word rest .from)
 
 -- the text up to a place ends with its lines, and none of them starts so
-pub record Before (m : Mark) (input : List ℕ) (at lines : ℕ) : Type 0 where
-  pub hex : Hex m
+pub record Before (word input : List ℕ) (at lines : ℕ) : Type 0 where
+  pub inLine : InLine word
   pub within : at ≤ length input
   pub closed : (b : List ℕ) → linesOf (take at input ++ b) ≡ linesOf (take at input) ++ linesOf b
-  pub skips : Skips m (linesOf (take at input))
+  pub skips : Skips word (linesOf (take at input))
   pub count : lines ≡ length (linesOf (take at input))
 
-pub nothing-before : (m : Mark) (input : List ℕ) → Hex m → Before m input 0 0
+pub nothing-before : (word input : List ℕ) → InLine word → Before word input 0 0
 unfolding linesOf
-nothing-before m input h = record { hex = h; within = omega arith; closed = λ b. refl; skips = λ rest. (refl, refl); count = refl }
+nothing-before word input h = record { inLine = h; within = omega arith; closed = λ b. refl; skips = λ rest. (refl, refl); count = refl }
 
 -- the first line of a text
 record First (s : List ℕ) : Type 0 where
   line : Line
   others : List Line
   lines : linesOf s ≡ line ∷ others
-  digits : line .digits ≡ take (feedIn s) s
+  says : lineText line ≡ firstText s
+
+closed-text : (s : List ℕ) → feedIn s < length s → take (feedIn s) s ++ (lineFeed ∷ []) ≡ firstText s
+unfolding feedIn
+closed-text [] h = absurd (omega arith)
+closed-text (c ∷ s) h =
+    elim (ℕ-discrete c lineFeed) [
+      | yes q ↦ rw (eq-eqb _ _ q) (ap (λ d. d ∷ []) (sym q))
+      | no q ↦ rw (ne-eqb _ _ q) (ap (λ l. c ∷ l) (closed-text s (omega (arith, rw (ne-eqb _ _ q) at h))))
+    ]
+
+open-text : (s : List ℕ) → feedIn s ≡ length s → s ++ [] ≡ firstText s
+open-text s e = append-nil s ∙ sym (take-all (suc (feedIn s)) s (omega arith))
 
 first : (s : List ℕ) → 0 < length s → First s
 first s h =
@@ -120,79 +152,77 @@ first s h =
         line = record { digits = take (feedIn s) s; ended = true };
         others = linesOf (drop (suc (feedIn s)) s);
         lines = ap linesOf (sym (take-append-drop (suc (feedIn s)) s)) ∙ closed-line s (drop (suc (feedIn s)) s) e;
-        digits = refl;
+        says = closed-text s e;
       }
       | no e ↦
           let all : feedIn s ≡ length s = omega (arith, feed-most s) in
-          record {
-            line = record { digits = s; ended = false };
-            others = [];
-            lines = open-line s h all;
-            digits = sym (take-all (feedIn s) s (omega arith));
-          }
+          record { line = record { digits = s; ended = false }; others = []; lines = open-line s h all; says = open-text s all }
     ]
 
 -- a line that does not start so is skipped
-skip-one : (m : Mark) (l : Line) → starts m (l .digits) ≡ false → Skips m (l ∷ [])
+skip-one : (word : List ℕ) (l : Line) → starts word l ≡ false → Skips word (l ∷ [])
 unfolding split
-skip-one m l t rest = (rw t, rw t)
+skip-one word l t rest = (rw t, rw t)
 
-skip-more : (m : Mark) (d : List Line) (l : Line) → Skips m d → Skips m (l ∷ []) → Skips m (d ++ (l ∷ []))
-skip-more m d l f g rest = rw (append-assoc d (l ∷ []) rest) (f (l ∷ rest) .0 ∙ ap (λ r. d ++ r) (g rest .0) ∙ sym (append-assoc d (l ∷ []) _), f (l ∷ rest) .1 ∙ g rest .1)
+skip-more : (word : List ℕ) (d : List Line) (l : Line) → Skips word d → Skips word (l ∷ []) → Skips word (d ++ (l ∷ []))
+skip-more word d l f g rest = rw (append-assoc d (l ∷ []) rest) (f (l ∷ rest) .0 ∙ ap (λ r. d ++ r) (g rest .0) ∙ sym (append-assoc d (l ∷ []) _), f (l ∷ rest) .1 ∙ g rest .1)
 
-module _ {m : Mark} {input : List ℕ} {at lines : ℕ} (x : Before m input at lines) where
+module _ {word input : List ℕ} {at lines : ℕ} (x : Before word input at lines) where
   whole : linesOf input ≡ linesOf (take at input) ++ linesOf (drop at input)
   whole = ap linesOf (sym (take-append-drop at input)) ∙ x .closed (drop at input)
 
-  close : split m (linesOf (drop at input)) .before ≡ [] → split m (linesOf (drop at input)) .from ≡ linesOf (drop at input) → CutIn m input at lines
-  close d s =
-      let here : linesOf (take at input) ≡ split m (linesOf input) .before = sym (rw (whole, x .skips (linesOf (drop at input)) .0, d) (append-nil _)) in
+  close : (at < length input → startsWith word (drop at input) ≡ true) → split word (linesOf (drop at input)) .before ≡ [] → split word (linesOf (drop at input)) .from ≡ linesOf (drop at input) → CutIn word input at lines
+  close there d s =
+      let here : linesOf (take at input) ≡ split word (linesOf input) .before = sym (rw (whole, x .skips (linesOf (drop at input)) .0, d) (append-nil _)) in
       record {
         within = x .within;
         before = here;
         from = sym (rw whole (x .skips (linesOf (drop at input)) .1 ∙ s));
         count = x .count ∙ ap length here;
+        stands = there;
       }
 
-  pub cut-end : length input ≤ at → CutIn m input at lines
+  pub cut-end : length input ≤ at → CutIn word input at lines
   unfolding split linesOf
-  cut-end g = close (rw (drop-of-length-le input g)) (rw (drop-of-length-le input g))
+  cut-end g = close (λ h. absurd (omega arith)) (rw (drop-of-length-le input g)) (rw (drop-of-length-le input g))
 
   module _ (h : at < length input) where
     some : 0 < length (drop at input)
     some = rw (length-drop at input) (omega arith)
 
-    seen : starts m (take (feedIn (drop at input)) (drop at input)) ≡ startsAt m input at
-    seen = seen-first m (x .hex) (drop at input) ∙ rw (getD-drop at input 0 0, getD-drop at input 1 0, add-zero at)
+    -- what the line says decides
+    seen : (l : Line) {b : Bool} → lineText l ≡ firstText (drop at input) → startsWith word (drop at input) ≡ b → starts word l ≡ b
+    seen l e t = ap (startsWith word) e ∙ seen-first word (x .inLine) (drop at input) ∙ t
 
     -- the part begins here
-    pub cut-here : startsAt m input at ≡ true → CutIn m input at lines
+    pub cut-here : startsWith word (drop at input) ≡ true → CutIn word input at lines
     unfolding split
     cut-here t =
         let f : First (drop at input) = first (drop at input) some in
-        let s : starts m (f .line .digits) ≡ true = ap (starts m) (f .digits) ∙ seen ∙ t in
-        close (rw (f .lines, s)) (rw (f .lines, s))
+        let s : starts word (f .line) ≡ true = seen (f .line) (f .says) t in
+        close (λ _. t) (rw (f .lines, s)) (rw (f .lines, s))
 
-    module _ (t : startsAt m input at ≡ false) where
+    module _ (t : startsWith word (drop at input) ≡ false) where
       -- the rest is one line without LF
-      open-end : at + feedIn (drop at input) ≡ length input → CutIn m input (length input) (lines + 1)
+      open-end : at + feedIn (drop at input) ≡ length input → CutIn word input (length input) (lines + 1)
       unfolding split linesOf
       open-end e =
           let all : feedIn (drop at input) ≡ length (drop at input) = rw (length-drop at input) (omega arith) in
           let l : Line = record { digits = drop at input; ended = false } in
           let only : linesOf (drop at input) ≡ l ∷ [] = open-line (drop at input) some all in
-          let s : starts m (drop at input) ≡ false = ap (starts m) (sym (take-all (feedIn (drop at input)) (drop at input) (omega arith))) ∙ seen ∙ t in
-          let k : Skips m (linesOf (take at input) ++ (l ∷ [])) = skip-more m (linesOf (take at input)) l (x .skips) (skip-one m l s) in
+          let s : starts word l ≡ false = seen l (open-text (drop at input) all) t in
+          let k : Skips word (linesOf (take at input) ++ (l ∷ [])) = skip-more word (linesOf (take at input)) l (x .skips) (skip-one word l s) in
           let now : linesOf input ≡ (linesOf (take at input) ++ (l ∷ [])) ++ [] = whole ∙ ap (λ r. linesOf (take at input) ++ r) only ∙ sym (append-nil _) in
-          let here : linesOf input ≡ split m (linesOf input) .before = now ∙ sym (ap (λ r. split m r .before) now ∙ k [] .0) in
+          let here : linesOf input ≡ split word (linesOf input) .before = now ∙ sym (ap (λ r. split word r .before) now ∙ k [] .0) in
           record {
             within = omega arith;
             before = ap linesOf (take-all (length input) input (omega arith)) ∙ here;
-            from = rw (drop-of-length-le input {i = length input} (omega arith)) (sym (ap (λ r. split m r .from) now ∙ k [] .1));
+            from = rw (drop-of-length-le input {i = length input} (omega arith)) (sym (ap (λ r. split word r .from) now ∙ k [] .1));
             count = rw (x .count) (sym (ap length (sym here ∙ now ∙ append-nil (linesOf (take at input) ++ (l ∷ []))) ∙ length-append (linesOf (take at input)) (l ∷ [])));
+            stands = λ h. absurd (omega arith);
           }
 
-      next-line : at + feedIn (drop at input) < length input → Before m input (at + feedIn (drop at input) + 1) (lines + 1)
+      next-line : at + feedIn (drop at input) < length input → Before word input (at + feedIn (drop at input) + 1) (lines + 1)
       unfolding linesOf
       next-line e =
           let k : ℕ = feedIn (drop at input) in
@@ -204,19 +234,19 @@ module _ {m : Mark} {input : List ℕ} {at lines : ℕ} (x : Before m input at l
           let part : take (at + k + 1) input ≡ a ++ new = ap (λ n. take n input) size ∙ take-add at (suc k) input in
           let now : linesOf (a ++ new) ≡ linesOf a ++ (l ∷ []) = x .closed new ∙ ap (λ r. linesOf a ++ r) (ap linesOf (sym (append-nil new)) ∙ closed-line (drop at input) [] short) in
           record {
-            hex = x .hex;
+            inLine = x .inLine;
             within = omega arith;
             closed = λ b. rw part (ap linesOf (append-assoc a new b) ∙ x .closed (new ++ b) ∙ ap (λ r. linesOf a ++ r) (closed-line (drop at input) b short) ∙ sym (ap (λ r. r ++ linesOf b) now ∙ append-assoc (linesOf a) (l ∷ []) (linesOf b)));
-            skips = rw (part, now) (skip-more m (linesOf a) l (x .skips) (skip-one m l (seen ∙ t)));
+            skips = rw (part, now) (skip-more word (linesOf a) l (x .skips) (skip-one word l (seen l (closed-text (drop at input) short) t)));
             count = rw (part, now, length-append (linesOf a) (l ∷ []), x .count);
           }
 
       module _ {feed : ℕ} (f : feed ≡ at + feedIn (drop at input)) where
-        pub cut-open : feed ≡ length input → CutIn m input feed (lines + 1)
-        cut-open e = subst (λ n. CutIn m input n (lines + 1)) (sym e) (open-end (sym f ∙ e))
+        pub cut-open : feed ≡ length input → CutIn word input feed (lines + 1)
+        cut-open e = subst (λ n. CutIn word input n (lines + 1)) (sym e) (open-end (sym f ∙ e))
 
-        pub one-more : (feed ≡ length input → ⊥) → Before m input (feed + 1) (lines + 1)
-        one-more e = subst (λ n. Before m input (n + 1) (lines + 1)) (sym f) (next-line (within-line e))
+        pub one-more : (feed ≡ length input → ⊥) → Before word input (feed + 1) (lines + 1)
+        one-more e = subst (λ n. Before word input (n + 1) (lines + 1)) (sym f) (next-line (within-line e))
           where
             within-line : (feed ≡ length input → ⊥) → at + feedIn (drop at input) < length input
             within-line e = elim (decLt (at + feedIn (drop at input)) (length input)) [ yes g ↦ g | no g ↦ absurd (e (omega (arith, feed-most (drop at input), length-drop at input))) ]

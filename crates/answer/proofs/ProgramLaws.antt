@@ -25,7 +25,7 @@ use Rattle.bmap.specs.Judge.{judge}
 use Rattle.bmap.specs.Judge as paper
 use Rattle.bmap.specs.Supplement.{Replacement, replaced, supplementIn, judgeUnder}
 use Rattle.bmap.specs.Verdict as call
-use Rattle.bmap.specs.Program.{decimal, lineOf, stateLines, lastLine, judgedText, refusedText, Mark, Parts, split, sheetMark, judgedBy, answeredBy, output}
+use Rattle.bmap.specs.Program.{decimal, lineOf, stateLines, lastLine, judgedText, refusedText, Parts, split, sheetMark, judgedBy, answeredBy, output}
 use Rattle.domain.specs.Read as domains
 use Rattle.domain.specs.Found.{indexWith, foundIn}
 use Rattle.domain.specs.declared.found.Found.{Found}
@@ -76,19 +76,19 @@ pub product-most : (n w : ℕ) {most width size : ℕ} → n ≤ most → w ≤ 
 product-most n w {most} {width} h g e = omega (arith, mul-le-mul-right w h, mul-le-mul-right most g, mul-comm most w, mul-comm most width)
 
 module _ (store supplement sheet : List ℕ) (levels : List ℤ) {after : List ℤ} (j : Judgement) {states : ℕ}
-    (told : (record { answer = answerOf j; levels = after } ≡ judgeUnder store supplement sheet levels) × (states ≡ statesWrittenUnder store supplement sheet levels)) (room : length levels ≡ levelsSize)
+    (told : (record { answer = answerOf j; levels = after } ≡ judgeUnder store supplement sheet levels) × (states ≡ statesWrittenUnder store supplement sheet levels)) (room : levelsSize ≤ length levels)
     (d : Domain) (s : List Replacement) (steps : List Names) (domain : domainIn store ≡ got d) (accepted : supplementIn d supplement ≡ got s) where
   abbrev expected : paper.Judged
   expected = judge (replaced s d) steps
 
   module _ (whole : sheetOf (d .agents) sheet ≡ got steps) where
-    judged : _≡_ {A = call.Judgement} (record { answer = answerOf j; levels = after }) (record { answer = got (expected .verdict); levels = over (flat (expected .states)) levels })
+    pub judged : _≡_ {A = call.Judgement} (record { answer = answerOf j; levels = after }) (record { answer = got (expected .verdict); levels = over (flat (expected .states)) levels })
     unfolding judgeUnder
-    judged = told .0 ∙ simp (le-leb levelsSize (length levels) (omega (arith, room)), domain, accepted, whole)
+    judged = told .0 ∙ simp (le-leb levelsSize (length levels) room, domain, accepted, whole)
 
-    counted : states ≡ length (expected .states)
+    pub counted : states ≡ length (expected .states)
     unfolding statesWrittenUnder
-    counted = told .1 ∙ simp (le-leb levelsSize (length levels) (omega (arith, room)), domain, accepted, whole)
+    counted = told .1 ∙ simp (le-leb levelsSize (length levels) room, domain, accepted, whole)
 
     -- the states written are those of the judgement
     written : {fluents : ℕ} → fluents ≡ length (d .fluents) → rows fluents states after ≡ expected .states
@@ -98,7 +98,7 @@ module _ (store supplement sheet : List ℕ) (levels : List ℤ) {after : List �
         ∙ ap (λ (x : call.Judgement). rows (length (d .fluents)) (length (expected .states)) (x .levels)) judged
         ∙ rows-front (length (d .fluents)) (drop (length (flat (expected .states))) levels) (judge-reached (replaced s d) steps .whole)
 
-    verdict-is : (v : Verdict) → j ≡ said.Judged v → verdictOf v ≡ expected .verdict
+    pub verdict-is : (v : Verdict) → j ≡ said.Judged v → verdictOf v ≡ expected .verdict
     verdict-is v e = let q : answerOf j ≡ got (expected .verdict) = ap (λ (x : call.Judgement). x .answer) judged in cc
 
     pub refused-not : (r : Refusal) → j ≡ said.Refused r → ⊥
@@ -150,6 +150,12 @@ unfolding indexWith
 counts-speak {store} {d = d} k =
     ap (λ (u : Under). u .index .counts) (k .found) ∙ under-counts store _ ∙ ap (λ (f : Found). f .index .counts) (found-got store d (k .domain))
 
+-- the steps of a text, and that some names are theirs
+pub record StepsRead (agents : ℕ) (s names-left : List ℕ) : Type 0 where
+  pub steps : List Names
+  pub reads : outcome agents s ≡ read steps
+  pub names : sheetOf agents names-left ≡ got steps
+
 module _ (store : List ℕ) (counts : Counts) (few : Few counts) where
   module _ (d : Domain) (domain : domainIn store ≡ got d) (are : counts ≡ countsOf d) where
     agents-are : counts .agents ≡ d .agents
@@ -172,35 +178,45 @@ module _ (store : List ℕ) (counts : Counts) (few : Few counts) where
     pub used-most : (n : ℕ) → answer ≡ Read n → n * counts .agents ≤ sheetSize
     used-most n e = product-most n (counts .agents) (kept-at n e .few) (few .agents) refl
 
-    module _ {out new : List ℕ} {q : ℕ} (lines : ℕ) (d : Domain) (l : List Replacement) (domain : domainIn store ≡ got d) (are : counts ≡ countsOf d) where
-      pub sheet-refused : {number line : ℕ} (r : Refusal) → answer ≡ Refused r line → number ≡ numberOf r → Put out 0 (refusedText number (lines + line)) q new
-          → Put out 0 (judgedBy (replaced l d) lines (stepsFrom (d .agents) [] (map decode (linesOf s)))) q new
-      sheet-refused {number} {line} r e k x =
-          let goes : outcome (d .agents) s ≡ refusedAt (numberOf r) line = subst (λ (a : ℕ). outcome a s ≡ refusedAt (numberOf r) line) (agents-are d domain are) (turned-at r line e .goes (agents-fit d domain are)) in
-          subst (λ (o : Reading (List Names)). Put out 0 (judgedBy (replaced l d) lines o) q new) (sym goes) (subst (λ (m : ℕ). Put out 0 (refusedText m (lines + line)) q new) k x)
+    module _ (d : Domain) (domain : domainIn store ≡ got d) (are : counts ≡ countsOf d) where
+      -- the text is refused as the reader says
+      pub text-refused : {line : ℕ} (r : Refusal) → answer ≡ Refused r line → outcome (d .agents) s ≡ refusedAt (numberOf r) line
+      text-refused {line} r e = subst (λ (a : ℕ). outcome a s ≡ refusedAt (numberOf r) line) (agents-are d domain are) (turned-at r line e .goes (agents-fit d domain are))
 
-      pub sheet-judged : (n : ℕ) → answer ≡ Read n
-          → ((steps : List Names) → sheetOf (d .agents) (take (n * counts .agents) after) ≡ got steps → Put out 0 (judgedText (judge (replaced l d) steps)) q new)
-          → Put out 0 (judgedBy (replaced l d) lines (stepsFrom (d .agents) [] (map decode (linesOf s)))) q new
-      sheet-judged n e judges =
+      -- or its steps are those whose names the reader left
+      pub text-read : (n : ℕ) → answer ≡ Read n → StepsRead (d .agents) s (take (n * counts .agents) after)
+      text-read n e =
           let k = kept-at n e in
-          let goes : outcome (d .agents) s ≡ read (k .steps) = subst (λ (a : ℕ). outcome a s ≡ read (k .steps)) (agents-are d domain are) (k .goes) in
-          let names-are : sheetOf (d .agents) (take (n * counts .agents) after) ≡ got (k .steps) =
-          ap (λ (x : List ℕ). sheetOf (d .agents) (take (n * counts .agents) x)) (told .1)
-          ∙ subst (λ (a : ℕ). sheetOf a (take (n * counts .agents) (readSheet (counts .agents) s names .buffer)) ≡ got (k .steps)) (agents-are d domain are) (k .sheet) in
-          subst (λ (o : Reading (List Names)). Put out 0 (judgedBy (replaced l d) lines o) q new) (sym goes) (judges (k .steps) names-are)
+          record {
+            steps = k .steps;
+            reads = subst (λ (a : ℕ). outcome a s ≡ read (k .steps)) (agents-are d domain are) (k .goes);
+            names = ap (λ (x : List ℕ). sheetOf (d .agents) (take (n * counts .agents) x)) (told .1) ∙ subst (λ (a : ℕ). sheetOf a (take (n * counts .agents) (readSheet (counts .agents) s names .buffer)) ≡ got (k .steps)) (agents-are d domain are) (k .sheet);
+          }
+
+      module _ {out new : List ℕ} {q : ℕ} (lines : ℕ) (l : List Replacement) where
+        pub sheet-refused : {number line : ℕ} (r : Refusal) → answer ≡ Refused r line → number ≡ numberOf r → Put out 0 (refusedText number (lines + line)) q new
+            → Put out 0 (judgedBy (replaced l d) lines (stepsFrom (d .agents) [] (map decode (linesOf s)))) q new
+        sheet-refused {number} {line} r e k x =
+            subst (λ (o : Reading (List Names)). Put out 0 (judgedBy (replaced l d) lines o) q new) (sym (text-refused r e)) (subst (λ (m : ℕ). Put out 0 (refusedText m (lines + line)) q new) k x)
+
+        pub sheet-judged : (n : ℕ) → answer ≡ Read n
+            → ((steps : List Names) → sheetOf (d .agents) (take (n * counts .agents) after) ≡ got steps → Put out 0 (judgedText (judge (replaced l d) steps)) q new)
+            → Put out 0 (judgedBy (replaced l d) lines (stepsFrom (d .agents) [] (map decode (linesOf s)))) q new
+        sheet-judged n e judges =
+            let k = text-read n e in
+            subst (λ (o : Reading (List Names)). Put out 0 (judgedBy (replaced l d) lines o) q new) (sym (k .reads)) (judges (k .steps) (k .names))
 
 -- ---- a part of an input
 
 -- the lines before a cut are no more than its characters
-pub lines-small : {m : Mark} {input : List ℕ} {at lines : ℕ} → CutIn m input at lines → lines ≤ length input
+pub lines-small : {word input : List ℕ} {at lines : ℕ} → CutIn word input at lines → lines ≤ length input
 lines-small {input = input} {at = at} cut = omega (arith, cut .count, ap length (cut .before), lines-most (take at input), length-take at input, cut .within)
 
 pub rest-small : (input : List ℕ) (at : ℕ) {most : ℕ} → length input ≤ most → length (take (length input - at) (drop at input)) ≤ most
 rest-small input at h = simp length-take (omega arith)
 
 -- what is after a cut, as it is lent
-pub rest-lines : {m : Mark} {input : List ℕ} {at lines : ℕ} → CutIn m input at lines → linesOf (take (length input - at) (drop at input)) ≡ split m (linesOf input) .from
+pub rest-lines : {word input : List ℕ} {at lines : ℕ} → CutIn word input at lines → linesOf (take (length input - at) (drop at input)) ≡ split word (linesOf input) .from
 rest-lines {input = input} {at = at} cut = ap linesOf (take-all (length input - at) (drop at input) (omega (arith, length-drop at input))) ∙ cut .from
 
 -- ---- what a reader read

@@ -11,7 +11,7 @@ use lib.ListN.{length, set, take, drop, getD, length-append, length-take}
 use lib.Seq.{sets, length-sets, take-suc, take-all, drop-drop}
 use borrow.Author.Tests.{lt-ltb, le-ltb}
 use mathlib.Core.List.{map, map-append, append-nil, append-assoc}
-use lib.IntN.{ℤ, pos, negsuc}
+use lib.IntN.{ℤ, pos, negsuc, subℕ}
 use lib.Signed.{mag}
 use mir.Syntax.{w16}
 use mir.Val.{SFits}
@@ -41,6 +41,21 @@ put-byte buffer at x = record { place = refl; bytes = refl }
 
 pub put-length : {buffer new a : List ℕ} {at p : ℕ} → Put buffer at a p new → length new ≡ length buffer
 put-length {buffer} {new} {a} {at} x = ap length (x .bytes) ∙ length-sets buffer at a
+
+-- pieces of a line in turn: the buffer is as long as it was, and the place not past a limit
+pub record Near (buffer : List ℕ) (limit : ℕ) (new : List ℕ) (p : ℕ) : Type 0 where
+  pub same : length new ≡ length buffer
+  pub place : p ≤ limit
+
+pub near-byte : (buffer : List ℕ) (at x : ℕ) → Near buffer (at + 1) (set buffer at x) (at + 1)
+near-byte buffer at x = record { same = put-length (put-byte buffer at x); place = omega arith }
+
+module _ {buffer mid : List ℕ} {limit p room : ℕ} where
+  pub near-more : {new a : List ℕ} {q more : ℕ} → Near buffer limit mid p → Put mid p a q new → length a ≤ room → limit + room ≤ more → Near buffer more new q
+  near-more x y h g = record { same = put-length y ∙ x .same; place = omega (arith, x .place, y .place) }
+
+  pub near-room : {n : ℕ} → Near buffer limit mid p → n ≤ room → limit + room ≤ length buffer → p + n ≤ length mid
+  near-room x h g = omega (arith, x .same, x .place)
 
 -- more digits than the number needs change nothing
 digits-enough : (k m n : ℕ) → n < k → n < m → digitsOf k n ≡ digitsOf m n
@@ -87,33 +102,68 @@ pub put-space : {buffer new : List ℕ} {at p : ℕ} (w : List ℕ) → Put (set
 unfolding text spaced
 put-space {buffer} {at = at} w x = rw append-nil (put-then (put-byte buffer at 32) x)
 
+-- a number's text is no longer than its room, as its place says
+pub number-short : {buffer new a : List ℕ} {at p room : ℕ} → Put buffer at a p new × (p ≤ at + room) → length a ≤ room
+number-short x = omega (arith, x .0 .place, x .1)
+
+-- ---- a number with its sign
+
+pub sub-above : (n base : ℕ) {k : ℕ} → n ≡ k + base → subℕ n base ≡ pos k
+sub-above n base e = rw (le-ltb n base (omega arith)) (ap pos (omega arith))
+
+pub sub-below : (n base : ℕ) {k : ℕ} → n + suc k ≡ base → subℕ n base ≡ negsuc k
+sub-below n base e = rw (lt-ltb n base (omega arith)) (ap negsuc (omega arith))
+
+signed-above : (n base : ℕ) → base ≤ n → decimalZ (subℕ n base) ≡ decimal (n - base)
+signed-above n base h = ap decimalZ (sub-above n base {k = n - base} (omega arith))
+
+signed-below : (n base : ℕ) → n < base → decimalZ (subℕ n base) ≡ 45 ∷ decimal (base - n)
+unfolding text
+signed-below n base h = ap decimalZ (sub-below n base {k = base - suc n} (omega arith)) ∙ ap (λ m. 45 ∷ decimal m) (omega arith)
+
+pub length-spaced : (w : List ℕ) → length (spaced (w ∷ [])) ≡ 1 + length w
+unfolding text spaced
+length-spaced w = ap length (append-nil (32 ∷ w)) ∙ omega arith
+
+pub length-above : (n base : ℕ) → base ≤ n → length (spaced (decimalZ (subℕ n base) ∷ [])) ≡ 1 + length (decimal (n - base))
+length-above n base h = length-spaced (decimalZ (subℕ n base)) ∙ ap (λ w. 1 + length w) (signed-above n base h)
+
+pub length-under : (n base : ℕ) → n < base → length (spaced (decimalZ (subℕ n base) ∷ [])) ≡ 2 + length (decimal (base - n))
+length-under n base h = length-spaced (decimalZ (subℕ n base)) ∙ ap (λ w. 1 + length w) (signed-below n base h) ∙ omega arith
+
+-- of two numbers below a power of ten: a space, the sign and so many digits
+pub length-signed : (k n base : ℕ) → n < 10 ^ suc k → base < 10 ^ suc k → length (spaced (decimalZ (subℕ n base) ∷ [])) ≤ 3 + k
+length-signed k n base h g =
+    elim (decLt n base) [
+      | yes s ↦ omega (arith, length-under n base s, length-below k (base - n) (omega arith))
+      | no s ↦ omega (arith, length-above n base (omega arith), length-below k (n - base) (omega arith))
+    ]
+
+module _ {buffer new : List ℕ} {at p : ℕ} (n base : ℕ) where
+  pub put-above : base ≤ n → Put (set buffer at 32) (at + 1) (decimal (n - base)) p new → Put buffer at (spaced (decimalZ (subℕ n base) ∷ [])) p new
+  put-above h put = put-space (decimalZ (subℕ n base)) (subst (λ w. Put (set buffer at 32) (at + 1) w p new) (sym (signed-above n base h)) put)
+
+  pub put-below : n < base → Put (set (set buffer at 32) (at + 1) 45) (at + 2) (decimal (base - n)) p new → Put buffer at (spaced (decimalZ (subℕ n base) ∷ [])) p new
+  put-below h put =
+      let sign : Put (set buffer at 32) (at + 1) (45 ∷ decimal (base - n)) p new = put-then (put-byte (set buffer at 32) (at + 1) 45) (rw (add-assoc at 1 1) put) in
+      put-space (decimalZ (subℕ n base)) (subst (λ w. Put (set buffer at 32) (at + 1) w p new) (sym (signed-below n base h)) sign)
+
+-- sixteen bits, half their numbers further on and round, count from the lowest level
+raised-bits : (z : ℤ) (n : ℕ) → n ≡ bits z → mag z < 32_768 → subℕ ((n + 32_768) % 65_536) 32_768 ≡ z
+raised-bits (pos k) n e h = sub-above ((n + 32_768) % 65_536) 32_768 (omega arith)
+raised-bits (negsuc k) n e h = sub-below ((n + 32_768) % 65_536) 32_768 (omega arith)
+
 -- a level by its sixteen bits, from its two bytes
 module _ (z : ℤ) {a b high low : ℕ} (f : SFits w16 z) (x : a ≡ high) (y : b ≡ low) (e : (high ≡ bytesOf (back w16 z) .high) × (low ≡ bytesOf (back w16 z) .low)) where
   bits-are : a * 256 + b ≡ bits z
   unfolding bytesOf
   bits-are = let d : (high ≡ bytesOf z .high) × (low ≡ bytesOf z .low) = rw (toZ-ofZ f) at e in omega (arith, x, y)
 
-  level-above : a * 256 + b < 32_768 → decimal (a * 256 + b) ≡ decimalZ z
-  level-above h = above z (a * 256 + b) bits-are (f .sfits) h
-    where
-      above : (z : ℤ) (n : ℕ) → n ≡ bits z → mag z < 32_768 → n < 32_768 → decimal n ≡ decimalZ z
-      above (pos k) n q g h = ap decimal q
-      above (negsuc k) n q g h = absurd (omega arith)
+  pub raised-is : subℕ ((a * 256 + b + 32_768) % 65_536) 32_768 ≡ z
+  raised-is = raised-bits z (a * 256 + b) bits-are (f .sfits)
 
-  level-below : 32_768 ≤ a * 256 + b → 45 ∷ decimal (65_536 - (a * 256 + b)) ≡ decimalZ z
-  unfolding text
-  level-below h = below z (a * 256 + b) bits-are (f .sfits) h
-    where
-      below : (z : ℤ) (n : ℕ) → n ≡ bits z → mag z < 32_768 → 32_768 ≤ n → 45 ∷ decimal (65_536 - n) ≡ decimalZ z
-      below (pos k) n q g h = absurd (omega arith)
-      below (negsuc k) n q g h = ap (λ m. 45 ∷ decimal m) (omega arith)
-
-  module _ {buffer new : List ℕ} {at p : ℕ} where
-    pub put-above : a * 256 + b < 32_768 → Put (set buffer at 32) (at + 1) (decimal (a * 256 + b)) p new → Put buffer at (spaced (decimalZ z ∷ [])) p new
-    put-above h put = put-space (decimalZ z) (subst (λ w. Put (set buffer at 32) (at + 1) w p new) (level-above h) put)
-
-    pub put-below : 32_768 ≤ a * 256 + b → Put (set (set buffer at 32) (at + 1) 45) (at + 2) (decimal (65_536 - (a * 256 + b))) p new → Put buffer at (spaced (decimalZ z ∷ [])) p new
-    put-below h put = put-space (decimalZ z) (subst (λ w. Put (set buffer at 32) (at + 1) w p new) (level-below h) (put-then (put-byte (set buffer at 32) (at + 1) 45) (rw (add-assoc at 1 1) put)))
+pub put-raised : {buffer new : List ℕ} {at p : ℕ} {z : ℤ} (n : ℕ) → SFits w16 z → subℕ n 32_768 ≡ back w16 z → Put buffer at (spaced (decimalZ (subℕ n 32_768) ∷ [])) p new → Put buffer at (spaced (decimalZ z ∷ [])) p new
+put-raised {buffer} {new} {at} {p} n f e x = subst (λ z. Put buffer at (spaced (decimalZ z ∷ [])) p new) (e ∙ toZ-ofZ f) x
 
 -- the first bytes of a text
 pub put-none : (buffer : List ℕ) (at : ℕ) → Put buffer at [] (at + 0) buffer
@@ -161,7 +211,7 @@ put-state-line {buffer} {at = at} k levels x y =
 
 -- ---- states in turn
 
-rows-more : (w n : ℕ) (l : List ℤ) → rows w (suc n) l ≡ rows w n l ++ (take w (drop (n * w) l) ∷ [])
+pub rows-more : (w n : ℕ) (l : List ℤ) → rows w (suc n) l ≡ rows w n l ++ (take w (drop (n * w) l) ∷ [])
 unfolding rows
 rows-more w zero l = rw (zero-mul w)
 rows-more w (suc n) l = ap (λ r. take w l ∷ r) (rows-more w n (drop w l) ∙ ap (λ r. rows w n (drop w l) ++ (take w r ∷ [])) (drop-drop (n * w) w l ∙ ap (λ k. drop k l) (add-comm w (n * w) ∙ sym (suc-mul n w))))

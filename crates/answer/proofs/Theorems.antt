@@ -9,22 +9,22 @@ use Rattle.bmap.specs.Plain.{if-else}
 use Rattle.bmap.specs.Limits.{mostInput}
 use Rattle.bmap.specs.Refusal.{Reading, read, refusedAt}
 use Rattle.bmap.specs.Theorems.{LowWaterAlike}
-use Rattle.bmap.specs.Line.{Line, linesOf, decode}
+use Rattle.bmap.specs.Line.{Line, linesOf, starts, decode}
 use Rattle.bmap.specs.Domain.{Domain}
 use Rattle.bmap.specs.Accept.{taken}
 use Rattle.bmap.specs.Sheet.{stepsFrom}
 use Rattle.bmap.specs.Supplement.{supplementFrom}
-use Rattle.bmap.specs.Program.{refusedText, Mark, starts, Parts, split, sheetMark, supplementMark, supplemented, judgedBy, answeredBy, answered, output, sheetUnder, answeredUnder, answeredLowWater, lowWater}
+use Rattle.bmap.specs.Program.{refusedText, Parts, split, sheetMark, supplementMark, supplemented, judgedBy, answeredBy, answered, output, sheetUnder, answeredUnder, answeredLowWater, lowWater}
 use Rattle.supplement.proofs.Theorems.{empty-changes-nothing}
 
 -- a split loses no line
 abbrev joined : Parts → List Line
 joined p = p .before ++ p .from
 
-split-whole : (m : Mark) (lines : List Line) → joined (split m lines) ≡ lines
+split-whole : (word : List ℕ) (lines : List Line) → joined (split word lines) ≡ lines
 unfolding split
-split-whole m [] = refl
-split-whole m (l ∷ lines) = go (starts m (l .digits)) (split m lines) (split-whole m lines)
+split-whole word [] = refl
+split-whole word (l ∷ lines) = go (starts word l) (split word lines) (split-whole word lines)
   where
     go : (b : Bool) (p : Parts) → joined p ≡ lines → joined (if-else b (record { before = []; from = l ∷ lines }) (record { before = l ∷ p .before; from = p .from })) ≡ l ∷ lines
     go true p e = refl

@@ -31,6 +31,18 @@ lastRoom = 6 + 3 * numberRoom + 1
 abbrev pub refusedRoom : ℕ
 refusedRoom = 7 + 2 * numberRoom + 1
 
+-- "SHEETS", two numbers, LF
+abbrev pub sheetsRoom : ℕ
+sheetsRoom = 6 + 2 * numberRoom + 1
+
+-- "F" and five numbers, LF
+abbrev pub fluentRoom : ℕ
+fluentRoom = 1 + 5 * numberRoom + 1
+
+-- the lines of the most fluents
+abbrev pub figuresRoom : ℕ
+figuresRoom = fluentRoom * mostFluents
+
 -- room for every output: the states of the longest sheet, and the last line
 abbrev pub outputSize : ℕ
 outputSize = statesRoom (mostSteps + 1) + lastRoom

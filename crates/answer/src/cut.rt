@@ -1,9 +1,9 @@
-// Where a part of the input begins: at the first line that starts with two characters.
+// Where a part of the input begins: at the first line that starts with a word.
 ghost use mathlib.Core.Path.{_≡_};
-ghost use Prim.Native.Nat.{_+_, _≤_, _<_};
+ghost use Prim.Native.Nat.{_+_, _≤_};
 ghost use lib.ListN.{length, drop};
-ghost use Rattle.bmap.specs.Line.{lineFeed};
-ghost use Rattle.answer.specs.Cut.{CutIn, startsAt, feedIn};
+ghost use Rattle.bmap.specs.Line.{startsWith};
+ghost use Rattle.answer.specs.Cut.{InLine, CutIn, feedIn};
 
 // The place of that line, or the input's end, and the number of lines before it.
 pub struct Cut {
@@ -13,17 +13,21 @@ pub struct Cut {
 
 pub(crate) const LINE_FEED: u8 = 10;
 
-fn starts(input: &[u8], at: usize, first: u8, second: u8) -> bool
-    requires { ⌜ (at ≤ length (now input)) × (lineFeed < second) ⌝ }
-    ensures { λ r. ⌜ r ≡ startsAt (record { first = first; second = second }) (now (input .entry)) at ⌝ }
+fn starts(input: &[u8], at: usize, word: &[u8]) -> bool
+    requires { ⌜ at ≤ length (now input) ⌝ }
+    ensures { λ r. ⌜ r ≡ startsWith (now (word .entry)) (drop at (now (input .entry))) ⌝ }
 {
-    if input.len() - at < 2 {
-        return false;
+    let mut i: usize = 0;
+    while i < word.len() {
+        if at + i == input.len() {
+            return false;
+        }
+        if input[at + i] != word[i] {
+            return false;
+        }
+        i += 1;
     }
-    if input[at] == first {
-        return input[at + 1] == second;
-    }
-    false
+    true
 }
 
 // The place of the first LF from a place on, or the input's end.
@@ -41,15 +45,15 @@ fn feed_from(input: &[u8], at: usize) -> usize
     i
 }
 
-// The two characters are hex digits, which come after LF.
-pub(crate) fn line_starting(input: &[u8], first: u8, second: u8) -> Cut
-    requires { ⌜ (lineFeed < first) × (lineFeed < second) ⌝ }
-    ensures { λ r. ⌜ CutIn (record { first = first; second = second }) (now (input .entry)) (r .at) (r .lines) ⌝ }
+// The first line that starts with the word; LF may be its last character, which then is the line's.
+pub(crate) fn line_starting(input: &[u8], word: &[u8]) -> Cut
+    requires { ⌜ InLine (now word) ⌝ }
+    ensures { λ r. ⌜ CutIn (now (word .entry)) (now (input .entry)) (r .at) (r .lines) ⌝ }
 {
     let mut at: usize = 0;
     let mut lines: usize = 0;
     while at < input.len() {
-        if starts(input, at, first, second) {
+        if starts(input, at, word) {
             return Cut { at, lines };
         }
         let feed = feed_from(input, at);

@@ -4,14 +4,15 @@ use bmap::Counts;
 ghost use Prim.Native.Nat.{_+_, _*_, _≤_, _<_};
 ghost use mathlib.Core.List.{map, _∷_, []};
 ghost use mathlib.Core.Path.{_≡_};
-ghost use lib.IntN.{pos};
+ghost use lib.IntN.{pos, subℕ};
 ghost use lib.ListN.{length, getD};
 ghost use Rattle.bmap.specs.Plain.{text};
 ghost use Rattle.bmap.specs.Limits.{mostFluents, mostSteps};
 ghost use Rattle.bmap.specs.Sheet.{rows};
 ghost use Rattle.bmap.specs.Program.{decimal, decimalZ, spaced, lineOf, stateLines, refusedText};
 ghost use Rattle.answer.specs.Put.{Put};
-ghost use Rattle.answer.specs.Room.{numberRoom, levelRoom, stateRoom, statesRoom, acceptedRoom, lastRoom, refusedRoom};
+ghost use Rattle.answer.specs.Room.{numberRoom, levelRoom, stateRoom, statesRoom, acceptedRoom, lastRoom, refusedRoom, sheetsRoom};
+ghost use Rattle.answer.specs.Figures.{levelZero};
 
 const SPACE: u8 = 32;
 
@@ -25,6 +26,9 @@ const NUMBER: usize = 1 + 20;
 
 // A level's: a space, the sign and the digits of 16 bits.
 const LEVEL: usize = 1 + 1 + 5;
+
+// Where 0 is among the levels, counted from the lowest that 16 bits hold.
+pub(crate) const LEVEL_ZERO: usize = 32_768;
 
 // "S", the number of a state, the levels of the most fluents, LF.
 pub(crate) const STATE_LINE: usize = 1 + NUMBER + LEVEL * Counts::FLUENTS + 1;
@@ -60,7 +64,7 @@ fn put_digits(out: &mut [u8], at: usize, n: usize) -> usize
 }
 
 // A space, and the decimal digits of a number.
-fn put_number(out: &mut [u8], at: usize, n: usize) -> usize
+pub(crate) fn put_number(out: &mut [u8], at: usize, n: usize) -> usize
     requires { ⌜ at + numberRoom ≤ length (now out) ⌝ }
     ensures { λ r. ⌜ Put (now (out .entry)) at (spaced (decimal n ∷ [])) r (now (out .exit)) ⌝ }
     ensures { λ r. ⌜ r ≤ at + numberRoom ⌝ }
@@ -69,20 +73,36 @@ fn put_number(out: &mut [u8], at: usize, n: usize) -> usize
     put_digits(out, at + 1, n)
 }
 
-// A space, and a level with its sign: two's complement bits from 32,768 on stand for what is missing to 65,536.
+// A space, and n − base with its sign.
+pub(crate) fn put_signed(out: &mut [u8], at: usize, n: usize, base: usize) -> usize
+    requires { ⌜ at + length (spaced (decimalZ (subℕ n base) ∷ [])) ≤ length (now out) ⌝ }
+    ensures { λ r. ⌜ Put (now (out .entry)) at (spaced (decimalZ (subℕ n base) ∷ [])) r (now (out .exit)) ⌝ }
+{
+    out[at] = SPACE;
+    if base <= n {
+        return put_digits(out, at + 1, n - base);
+    }
+    out[at + 1] = MINUS;
+    put_digits(out, at + 2, base - n)
+}
+
+// A level counted from the lowest that 16 bits hold: its two's complement bits, with 0 moved to LEVEL_ZERO.
+pub(crate) fn raised(level: i16) -> usize
+    ensures { λ r. ⌜ subℕ r levelZero ≡ level ⌝ }
+    ensures { λ r. ⌜ r < 2 * levelZero ⌝ }
+{
+    let two = number::bytes_of(level);
+    let bits = wide(two.high) * 256 + wide(two.low);
+    (bits + LEVEL_ZERO) % 65_536
+}
+
+// A space, and a level with its sign.
 fn put_level(out: &mut [u8], at: usize, level: i16) -> usize
     requires { ⌜ at + levelRoom ≤ length (now out) ⌝ }
     ensures { λ r. ⌜ Put (now (out .entry)) at (spaced (decimalZ level ∷ [])) r (now (out .exit)) ⌝ }
     ensures { λ r. ⌜ r ≤ at + levelRoom ⌝ }
 {
-    let two = number::bytes_of(level);
-    let bits = wide(two.high) * 256 + wide(two.low);
-    out[at] = SPACE;
-    if bits < 32_768 {
-        return put_digits(out, at + 1, bits);
-    }
-    out[at + 1] = MINUS;
-    put_digits(out, at + 2, 65_536 - bits)
+    put_signed(out, at, raised(level), LEVEL_ZERO)
 }
 
 // A call, so that a proof has the byte's range by the call's answer.
@@ -92,7 +112,7 @@ fn wide(x: u8) -> usize
     x as usize
 }
 
-fn level(levels: &[i16], i: usize) -> i16
+pub(crate) fn level(levels: &[i16], i: usize) -> i16
     ensures { λ r. ⌜ r ≡ getD (now (levels .entry)) i (pos 0) ⌝ }
 {
     if i < levels.len() { levels[i] } else { 0 }
@@ -181,4 +201,17 @@ pub(crate) fn put_refused(out: &mut [u8], refusal: usize, line: usize) -> usize
     let two = put_number(out, one, line);
     out[two] = LINE_FEED;
     two + 1
+}
+
+// "a line SHEETS with the count of accepted and of broken sheets"
+pub(crate) fn put_sheets(out: &mut [u8], accepted: usize, broken: usize) -> usize
+    requires { ⌜ sheetsRoom ≤ length (now out) ⌝ }
+    ensures { λ r. ⌜ Put (now (out .entry)) 0 (lineOf (text "SHEETS") (decimal accepted ∷ decimal broken ∷ [])) r (now (out .exit)) ⌝ }
+    ensures { λ r. ⌜ r ≤ sheetsRoom ⌝ }
+{
+    let word = put_text(out, 0, b"SHEETS");
+    let one = put_number(out, word, accepted);
+    let end = put_number(out, one, broken);
+    out[end] = LINE_FEED;
+    end + 1
 }

@@ -120,7 +120,7 @@ pub fn answer(input: &[u8], out: &mut [u8]) -> usize
     if INPUT < input.len() {
         return put_refused(out, Refusal::LongInput.number(), 0);
     }
-    let cut = line_starting(input, b'B', b'1');
+    let cut = line_starting(input, b"B1");
     let at = cut.at;
     let mut store = [0u8; STORE];
     let reading = domain::read_found(&input[..at], &mut store);
@@ -176,9 +176,9 @@ pub fn low_water(input: &[u8], out: &mut [u8]) -> usize
     if INPUT < input.len() {
         return put_refused(out, Refusal::LongInput.number(), 0);
     }
-    let sheet = line_starting(input, b'B', b'1');
+    let sheet = line_starting(input, b"B1");
     let end = sheet.at;
-    let supplement = line_starting(&input[..end], b'A', b'F');
+    let supplement = line_starting(&input[..end], b"AF");
     let at = supplement.at;
     let mut store = [0u8; STORE];
     let answer = domain::read(&input[..at], &mut store);

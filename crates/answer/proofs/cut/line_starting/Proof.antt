@@ -8,16 +8,16 @@ use Rattle.answer.proofs.cut.line_starting.Statement.{statement}
 use Rattle.answer.proofs.cut.line_starting.Tie as tie
 
 abbrev Inv-loop : tie.InvT-loop
-Inv-loop input first second at₀ lines₀ at lines = (lines ≤ at) × Before (record { first = first; second = second }) input at lines
+Inv-loop input word at₀ lines₀ at lines = (lines ≤ at) × Before word input at lines
 
 abbrev μ-loop : tie.MeasureT-loop
-μ-loop input first second at₀ lines₀ at lines = length input - at
+μ-loop input word at₀ lines₀ at lines = length input - at
 
 loop-holds : tie.Need-loop-holds Inv-loop μ-loop
-loop-holds c = (omega arith, nothing-before _ _ (c .before .pre))
+loop-holds c = (omega arith, nothing-before _ _ (c .before .before .pre))
 
 starts-requires : tie.Need-starts-requires Inv-loop μ-loop
-starts-requires c κs = (c .before .loop .inv .1 .within, c .before .loop .inv .1 .hex .1)
+starts-requires c κs = c .before .loop .inv .1 .within
 
 returns : tie.Need-returns Inv-loop μ-loop
 returns c = cut-here (c .before .before .before .loop .inv .1) (c .before .before .loop-test .taken) (sym (c .before .starts .ensures) ∙ c .if1 .taken)

@@ -4,17 +4,19 @@ use Prim.Native.Nat.{ℕ}
 use native.Mathlib.Omega.{arith}
 use lib.Seq.{length-take-le}
 use Rattle.answer.proofs.ProgramLaws.{no-room, long-output, answered-refusal, answered-by, output-refused, output-read, lines-small, rest-small, few-found, found-alone}
+use Rattle.bmap.specs.Plain.{text}
 use Rattle.supplement.specs.Under.{underIn}
+use Rattle.answer.specs.Cut.{feedsLast}
 use borrow.Author.Needs.{needs}
 use Rattle.answer.proofs.program.answer.Statement.{statement}
 use Rattle.answer.proofs.program.answer.Tie as tie
 
 -- the cut, after the two tests
 abbrev room : tie.After-line-starting → tie.Else1
-room c = c .before .before
+room c = c .before .before .before
 
 abbrev short : tie.After-line-starting → tie.Else2
-short c = c .before
+short c = c .before .before
 
 returns : tie.Need-returns
 returns c = no-room _ _ (c .if1 .taken)
@@ -32,7 +34,11 @@ returns-2 : tie.Need-returns-2
 returns-2 c = let p = c .before .before in
     answered-refusal (c .before .before .before .before .before .before .if1 .left) (omega (arith, p .put-refused .ensures .1)) 0 (long-output _ (c .before .before .before .before .before .if2 .taken)) (c .before .before .before .number .ensures) (p .put-refused .ensures .0)
 
+slice-aggregate-line-starting : tie.Need-slice-aggregate-line-starting
+slice-aggregate-line-starting c = search needs
+
 line-starting-requires : tie.Need-line-starting-requires
+unfolding feedsLast
 line-starting-requires c κs = search needs
 
 slice-aggregate-read-found : tie.Need-slice-aggregate-read-found
@@ -83,12 +89,13 @@ found c = let r = c .before .before .before .before .before .before .read-found 
 
 put-sheet-requires : tie.Need-put-sheet-requires
 put-sheet-requires c κs = let l = c .before .before .before .before .before .before .before .before .before .before .before in
-    ((omega (arith, lines-small (l .line-starting .ensures), short l .if2 .left), rest-small (c .before .before .before .before .before .before .before .before .before .before .before .before .before .before .before .before .args .input .now) (l .line-starting .result .at) (short l .if2 .left), room l .if1 .left), few-found _ _ (found (c .before .before)))
+    ((omega (arith, lines-small (l .line-starting .ensures), short l .if2 .left), rest-small (room l .before .before .before .args .input .now) (l .line-starting .result .at) (short l .if2 .left), room l .if1 .left), few-found _ _ (found (c .before .before)))
 
 same-length-2 : tie.Need-same-length-2
 same-length-2 c = search needs
 
 returns-3 : tie.Need-returns-3
+unfolding text
 returns-3 c = let l = c .before .before .before .before .before .before .before .before .before .before .before .before in let p = c .before .before in
     answered-refusal (room l .if1 .left) (omega (arith, p .put-refused2 .ensures .1)) _ (output-refused _ (short l .if2 .left) (l .line-starting .ensures) _ _ (let r = c .before .before .before .before .before .before .before .before .before .read-found .ensures in (r .answer, r .buffer)) _ refl (c .before .before .before .before .before .before .answer .given .1)) (c .before .before .before .number2 .ensures) (p .put-refused2 .ensures .0)
 
@@ -96,6 +103,7 @@ same-length-3 : tie.Need-same-length-3
 same-length-3 c = search needs
 
 returns-4 : tie.Need-returns-4
+unfolding text
 returns-4 c = let l = c .before .before .before .before .before .before .before .before .before .before .before .before .before .before in let p = c .before .before in
     answered-by (room l .if1 .left) (p .put-sheet .ensures .1) refl (output-read _ (short l .if2 .left) (l .line-starting .ensures) _ _ (let r = c .before .before .before .before .before .before .before .before .before .before .before .read-found .ensures in (r .answer, r .buffer)) _ (found (c .before .before .before .before .before)) (c .before .before .before .before .before .before .before .before .enum-told .given .1) (p .put-sheet .ensures .0))
 
@@ -108,6 +116,7 @@ answer-spec =
     put-refused-requires
     same-length
     returns-2
+    slice-aggregate-line-starting
     line-starting-requires
     slice-aggregate-read-found
     slice-aggregate-read-found-2

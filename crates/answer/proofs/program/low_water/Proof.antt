@@ -2,18 +2,20 @@ use mathlib.Core.Path.{refl, sym}
 use native.Mathlib.Omega.{arith}
 use lib.Seq.{length-take-le}
 use borrow.Author.Needs.{needs}
-use Rattle.answer.specs.Cut.{CutTwice}
+use Rattle.bmap.specs.Plain.{text}
+use Rattle.answer.specs.Cut.{CutTwice, feedsLast}
 use Rattle.answer.proofs.ProgramLaws.{no-room, answered-refusal, answered-by}
 use Rattle.answer.proofs.LowWaterLaws.{long-low-water, in-order, low-water-refused, low-water-read}
 use Rattle.answer.proofs.program.low_water.Statement.{statement}
 use Rattle.answer.proofs.program.low_water.Tie as tie
 
 abbrev room : tie.After-line-starting2 → tie.Else1
-room c = c .before .before .before .before
+room c = c .before .before .before .before .before .before
 
 -- both cuts, after the two tests
-cut : (c : tie.After-line-starting2) → CutTwice (c .before .before .before .before .before .before .before .args .input .now) (c .line-starting2 .result) (c .before .before .line-starting .result)
-cut c = record { short = c .before .before .before .if2 .left; outer = c .before .before .line-starting .ensures; inner = c .line-starting2 .ensures }
+cut : (c : tie.After-line-starting2) → CutTwice (room c .before .before .before .args .input .now) (c .line-starting2 .result) (c .before .before .before .line-starting .result)
+unfolding text
+cut c = record { short = c .before .before .before .before .before .if2 .left; outer = c .before .before .before .line-starting .ensures; inner = c .line-starting2 .ensures }
 
 returns : tie.Need-returns
 returns c = no-room _ _ (c .if1 .taken)
@@ -31,13 +33,21 @@ returns-2 : tie.Need-returns-2
 returns-2 c = let p = c .before .before in
     answered-refusal (c .before .before .before .before .before .before .if1 .left) (omega (arith, p .put-refused .ensures .1)) 0 (long-low-water _ (c .before .before .before .before .before .if2 .taken)) (c .before .before .before .number .ensures) (p .put-refused .ensures .0)
 
+slice-aggregate-line-starting : tie.Need-slice-aggregate-line-starting
+slice-aggregate-line-starting c = search needs
+
 line-starting-requires : tie.Need-line-starting-requires
+unfolding feedsLast
 line-starting-requires c κs = search needs
 
-slice-aggregate-line-starting : tie.Need-slice-aggregate-line-starting
-slice-aggregate-line-starting c = sym (length-take-le _ _ (omega (arith, c .before .line-starting .ensures .within)))
+slice-aggregate-line-starting-2 : tie.Need-slice-aggregate-line-starting-2
+slice-aggregate-line-starting-2 c = sym (length-take-le _ _ (omega (arith, c .before .line-starting .ensures .within)))
+
+slice-aggregate-line-starting-3 : tie.Need-slice-aggregate-line-starting-3
+slice-aggregate-line-starting-3 c = search needs
 
 line-starting-requires-2 : tie.Need-line-starting-requires-2
+unfolding feedsLast
 line-starting-requires-2 c κs = search needs
 
 slice-aggregate-read : tie.Need-slice-aggregate-read
@@ -92,8 +102,10 @@ low-water-spec =
     put-refused-requires
     same-length
     returns-2
-    line-starting-requires
     slice-aggregate-line-starting
+    line-starting-requires
+    slice-aggregate-line-starting-2
+    slice-aggregate-line-starting-3
     line-starting-requires-2
     slice-aggregate-read
     slice-aggregate-read-2

@@ -1,5 +1,6 @@
 use Prim.Native.Nat.{_*_, _≤_}
 use mathlib.Core.Path.{refl, ap, subst}
+use native.Mathlib.Nat.{le-refl}
 use native.Mathlib.Omega.{arith}
 use Rattle.answer.proofs.PutLaws.{put-length}
 use Rattle.bmap.specs.declared.limits.Counts.{Counts}
@@ -42,14 +43,14 @@ same-length c = search needs
 
 returns : tie.Need-returns
 returns c = let j = c .before .before .before .before .before .before .before .before .before .before .before .before .before in let p = c .before .before .before .before .before .before .before .before .before in let v = c .before .before in
-    (λ d s steps k sheet. judged-text _ _ _ _ _ (j .judge-found .ensures .0 (k .found)) refl d s steps (k .domain) (k .accepted) (ap (λ (n : Counts). n .fluents) (counts-speak k)) sheet _ (c .before .before .before .before .before .judgement .given .1) (p .put-states .ensures .0) (v .put-verdict .ensures .0), omega (arith, few j, p .put-states .ensures .1, v .put-verdict .ensures .1))
+    (λ d s steps k sheet. judged-text _ _ _ _ _ (j .judge-found .ensures .0 (k .found)) (le-refl _) d s steps (k .domain) (k .accepted) (ap (λ (n : Counts). n .fluents) (counts-speak k)) sheet _ (c .before .before .before .before .before .judgement .given .1) (p .put-states .ensures .0) (v .put-verdict .ensures .0), omega (arith, few j, p .put-states .ensures .1, v .put-verdict .ensures .1))
 
 same-length-2 : tie.Need-same-length-2
 same-length-2 c = search needs
 
 returns-2 : tie.Need-returns-2
 returns-2 c = let j = c .before .before .before .before .before .before .before .before in
-    (λ d s steps k sheet. absurd (refused-not _ _ _ _ _ (j .judge-found .ensures .0 (k .found)) refl d s steps (k .domain) (k .accepted) sheet _ (c .enum-told .given .1)), omega (arith, few j, c .before .before .before .before .put-states .ensures .1))
+    (λ d s steps k sheet. absurd (refused-not _ _ _ _ _ (j .judge-found .ensures .0 (k .found)) (le-refl _) d s steps (k .domain) (k .accepted) sheet _ (c .enum-told .given .1)), omega (arith, few j, c .before .before .before .before .put-states .ensures .1))
 
 pub put-judged-spec : {M : Type 1} → statement M
 put-judged-spec =

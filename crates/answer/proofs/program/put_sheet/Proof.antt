@@ -51,14 +51,14 @@ same-length c = search needs
 
 returns : tie.Need-returns
 returns c = let r = c .before .before .before .before .before .before .before .before .before in let p = c .before .before in
-    (λ d s k. sheet-refused (start r .args .store .now) _ (start r .pre .1) _ _ _ (r .read .ensures) refl _ d s (k .domain) (counts-speak k) _ (c .before .before .before .before .before .before .answer .given .1) (c .before .before .before .number .ensures) (p .put-refused .ensures .0), omega (arith, p .put-refused .ensures .1))
+    (λ d s k. sheet-refused (start r .args .store .now) _ (start r .pre .1) _ _ _ (r .read .ensures) refl d (k .domain) (counts-speak k) _ s _ (c .before .before .before .before .before .before .answer .given .1) (c .before .before .before .number .ensures) (p .put-refused .ensures .0), omega (arith, p .put-refused .ensures .1))
 
 same-length-2 : tie.Need-same-length-2
 same-length-2 c = search needs
 
 returns-2 : tie.Need-returns-2
 returns-2 c = let r = c .before .before .before .before .before .before .before .before .before in let p = c .before .before in
-    (λ d s k. sheet-judged (start r .args .store .now) _ (start r .pre .1) _ _ _ (r .read .ensures) refl _ d s (k .domain) (counts-speak k) _ (c .before .before .before .before .before .before .answer2 .given .1) (λ steps. p .put-judged .ensures .0 d s steps k), p .put-judged .ensures .1)
+    (λ d s k. sheet-judged (start r .args .store .now) _ (start r .pre .1) _ _ _ (r .read .ensures) refl d (k .domain) (counts-speak k) _ s _ (c .before .before .before .before .before .before .answer2 .given .1) (λ steps. p .put-judged .ensures .0 d s steps k), p .put-judged .ensures .1)
 
 pub put-sheet-spec : {M : Type 1} → statement M
 put-sheet-spec =

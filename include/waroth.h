@@ -36,7 +36,8 @@ enum {
     WAROTH_LAWS = 128,
     WAROTH_PAYLOAD = 120, /* bytes of a line's payload */
     WAROTH_STEPS = 64,
-    WAROTH_EDITS = 200
+    WAROTH_EDITS = 200,
+    WAROTH_SHEETS = 40 /* of a report */
 };
 
 /* The characters of a line of a program's output, at most: "S", a number, a level for each fluent, LF; then "BROKEN", three
@@ -53,8 +54,12 @@ enum {
     WAROTH_OUTPUT = (WAROTH_STEPS + 1) * WAROTH_STATE_LINE + WAROTH_LAST_LINE /* bytes: a program's output */
 };
 
-/* The most bytes of a program's input. */
+/* The most bytes of a program's input; in a report, of the domain's text and of each sheet's. */
 enum { WAROTH_INPUT = 60000 };
+
+/* The bytes that decide a report: the domain's text, a line of 5 characters and a text for each sheet, and the line of one
+ * sheet too many. Whatever stands after them changes nothing (crates/bmap/specs/Theorems.antt, RestUnread, proved). */
+enum { WAROTH_REPORT_INPUT = WAROTH_INPUT + WAROTH_SHEETS * (5 + WAROTH_INPUT) + 5 };
 
 /* The most stack of a call, in bytes: what was measured, with room to spare. Measured by reference/beside/stack.c:
  *
@@ -62,13 +67,14 @@ enum { WAROTH_INPUT = 60000 };
  *   waroth_write_domain  5,696   waroth_law              8,432   waroth_judge_under  35,840   waroth_enter  20,976
  *   waroth_counts        5,632   waroth_lay             10,544   waroth_answer       78,272   waroth_strike 25,632
  *   waroth_frame             8   waroth_read_sheet         312   waroth_low_water    92,544   waroth_amend  20,992
- *                                waroth_write_sheet         69   waroth_verdict      44,224   waroth_undo   17,360
- *                                                                                             waroth_redo   20,992 */
+ *                                waroth_write_sheet         69   waroth_report      239,536   waroth_undo   17,360
+ *                                                                waroth_verdict      44,224   waroth_redo   20,992 */
 enum {
     WAROTH_STACK_TEXTS = 8192,        /* domains and sheets */
     WAROTH_STACK_SUPPLEMENTS = 16384, /* waroth_read_supplement, waroth_law, waroth_lay */
     WAROTH_STACK_VERDICTS = 65536,    /* waroth_judge, waroth_judge_under, waroth_verdict */
     WAROTH_STACK_ANSWER = 131072,     /* waroth_answer, waroth_low_water */
+    WAROTH_STACK_REPORT = 262144,     /* waroth_report */
     WAROTH_STACK_SESSIONS = 32768     /* sessions, but for the verdict */
 };
 
@@ -86,27 +92,29 @@ enum {
 /* ---- Answers: 64 bits each, to be read by the functions below */
 
 enum waroth_refusal_number {
-    WAROTH_BAD_LINE = 1,        /* character, odd or empty line, missing LF */
-    WAROTH_BAD_COUNT = 2,       /* no count byte, count over 120, or count not the bytes present */
-    WAROTH_BAD_KIND = 3,        /* kind unknown, out of order, or not allowed here */
-    WAROTH_BAD_PAYLOAD = 4,     /* payload not as described; agents not 1 to 16 */
-    WAROTH_TOO_MANY = 5,        /* more of a kind, or more laws, than allowed */
-    WAROTH_REPEATED = 6,        /* entry with name and mask of an earlier one */
-    WAROTH_INCOMPLETE = 7,      /* at the end: no A1, A2 or A4, or an entry without A5 */
-    WAROTH_NOT_WHOLE = 8,       /* step not one byte per agent; sheet not whole steps */
-    WAROTH_TOO_LONG = 9,        /* a 65th step */
-    WAROTH_NO_ROOM = 10,        /* buffer lent to be written is shorter than named here, or than the text to be written */
-    WAROTH_NO_STEP = 11,        /* strike on an empty sheet, amend of a step not there */
-    WAROTH_NOTHING_STANDS = 12, /* undo with no standing edit */
-    WAROTH_NOTHING_UNDONE = 13, /* redo with no undone edit */
-    WAROTH_LOG_FULL = 14,       /* 200 edits stand */
-    WAROTH_NOT_DOMAIN = 15,     /* store is not an accepted domain followed by zeros; supplement's store is not one accepted
-                                 * for this domain, zeros after */
-    WAROTH_OTHER_AGENTS = 16,   /* the domain's number of agents differs from the session's */
-    WAROTH_NOT_SESSION = 17,    /* session closed, or not one that an accepted opening and calls after it could leave */
-    WAROTH_LONG_INPUT = 18,     /* a program's input is over 60,000 bytes */
-    WAROTH_OTHER_LAW = 20       /* a supplement's law number is not in the domain or was given before, or its law's kind or
-                                 * entry differs; a law is asked for that the domain lacks */
+    WAROTH_BAD_LINE = 1,         /* character, odd or empty line, missing LF */
+    WAROTH_BAD_COUNT = 2,        /* no count byte, count over 120, or count not the bytes present */
+    WAROTH_BAD_KIND = 3,         /* kind unknown, out of order, or not allowed here */
+    WAROTH_BAD_PAYLOAD = 4,      /* payload not as described; agents not 1 to 16 */
+    WAROTH_TOO_MANY = 5,         /* more of a kind, or more laws, than allowed */
+    WAROTH_REPEATED = 6,         /* entry with name and mask of an earlier one */
+    WAROTH_INCOMPLETE = 7,       /* at the end: no A1, A2 or A4, or an entry without A5 */
+    WAROTH_NOT_WHOLE = 8,        /* step not one byte per agent; sheet not whole steps */
+    WAROTH_TOO_LONG = 9,         /* a 65th step */
+    WAROTH_NO_ROOM = 10,         /* buffer lent to be written is shorter than named here, or than the text to be written */
+    WAROTH_NO_STEP = 11,         /* strike on an empty sheet, amend of a step not there */
+    WAROTH_NOTHING_STANDS = 12,  /* undo with no standing edit */
+    WAROTH_NOTHING_UNDONE = 13,  /* redo with no undone edit */
+    WAROTH_LOG_FULL = 14,        /* 200 edits stand */
+    WAROTH_NOT_DOMAIN = 15,      /* store is not an accepted domain followed by zeros; supplement's store is not one accepted
+                                  * for this domain, zeros after */
+    WAROTH_OTHER_AGENTS = 16,    /* the domain's number of agents differs from the session's */
+    WAROTH_NOT_SESSION = 17,     /* session closed, or not one that an accepted opening and calls after it could leave */
+    WAROTH_LONG_INPUT = 18,      /* a program's input is over 60,000 bytes, or in a report the domain's text or a sheet's
+                                  * by itself */
+    WAROTH_TOO_MANY_SHEETS = 19, /* a 41st sheet in a report */
+    WAROTH_OTHER_LAW = 20        /* a supplement's law number is not in the domain or was given before, or its law's kind or
+                                  * entry differs; a law is asked for that the domain lacks */
 };
 
 /* What a judgement says: accepted, refused, or what is at fault. None of them is 0. */
@@ -300,6 +308,12 @@ uint64_t waroth_answer(const uint8_t *input, size_t input_size, uint8_t *output,
 /* The same of the program `low_water`, whose input has a supplement's lines between the domain's and the sheet's: from the
  * first line before the sheet that starts "AF". */
 uint64_t waroth_low_water(const uint8_t *input, size_t input_size, uint8_t *output, size_t output_size);
+
+/* What the program `report` writes for an input of any size, of which the first WAROTH_REPORT_INPUT bytes decide: a domain's
+ * lines, then at most WAROTH_SHEETS sheets, each begun by a line "B000". SHEETS with the count of accepted and of broken
+ * sheets; then, if any was accepted, for each fluent F with its number, lowest value, highest value, sum and count of values
+ * over all states of the accepted sheets; or REFUSED with number and line alone. Answer and output: as waroth_answer. */
+uint64_t waroth_report(const uint8_t *input, size_t input_size, uint8_t *output, size_t output_size);
 
 /* ---- Sessions. All of it is plain bytes that may be kept and copied; unused ones are zero. */
 struct waroth_session {

@@ -1,4 +1,4 @@
-// Standard input, taken whole: the programs `waroth` and `low_water` stand on it.
+// Standard input, taken whole: the programs `waroth`, `low_water` and `report` stand on it.
 use libc::STDIN_FILENO;
 ghost use Prim.Native.Nat.{_≤_};
 ghost use lib.ListN.{length};

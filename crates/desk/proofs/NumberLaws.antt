@@ -6,7 +6,7 @@ use mathlib.Core.List.{List}
 use lib.IntN.{ℤ}
 use Rattle.bmap.specs.Refusal.{numberOf}
 use Rattle.bmap.specs.declared.refusal.Refusal.{Refusal}
-use Rattle.bmap.specs.declared.refusal.Refusal.the-variants.{BadLine, BadCount, BadKind, BadPayload, TooMany, Repeated, Incomplete, NotWhole, TooLong, NoRoom, NoStep, NothingStands, NothingUndone, LogFull, NotDomain, OtherAgents, NotSession, LongInput, OtherLaw}
+use Rattle.bmap.specs.declared.refusal.Refusal.the-variants.{BadLine, BadCount, BadKind, BadPayload, TooMany, Repeated, Incomplete, NotWhole, TooLong, NoRoom, NoStep, NothingStands, NothingUndone, LogFull, NotDomain, OtherAgents, NotSession, LongInput, TooManySheets, OtherLaw}
 use Rattle.bmap.specs.Verdict.{Judgement}
 use Rattle.judge.specs.Answer.{kindOf, verdictOf, answerOf}
 use Rattle.judge.specs.declared.judgement.Counted.{Counted}
@@ -35,6 +35,7 @@ number-small NotDomain = omega arith
 number-small OtherAgents = omega arith
 number-small NotSession = omega arith
 number-small LongInput = omega arith
+number-small TooManySheets = omega arith
 number-small OtherLaw = omega arith
 
 pub kind-small : (f : Fault) → kindOf f ≤ 8

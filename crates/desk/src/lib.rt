@@ -25,6 +25,7 @@ pub use judgements::waroth_judge_under;
 pub use judgements::waroth_verdict;
 pub use program::waroth_answer;
 pub use program::waroth_low_water;
+pub use program::waroth_report;
 pub use sheets::waroth_read_sheet;
 pub use sheets::waroth_write_sheet;
 pub use supplements::waroth_law;

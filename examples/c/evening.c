@@ -1,7 +1,8 @@
 /* An evening at the desk, by the calls of include/waroth.h: the file named on the command line has a domain's hex lines
  * and then a sheet's, as the program takes them. It is read and judged; then the sheet is entered into a session and a
- * step amended, and that is undone and redone, with the verdict each time. If a second file is named, it has a
- * supplement's lines: instead of the session, every law in force is asked for, and the sheet judged under the supplement.
+ * step amended, and that is undone and redone, with the verdict each time; and in the morning the file's sheet and the
+ * session's are reported on. If a second file is named, it has a supplement's lines: instead of the session and the report,
+ * every law in force is asked for, and the sheet judged under the supplement.
  * A third has those of a supplement that is laid over it first. Nothing is allocated: the header names the size of every
  * buffer.
  *
@@ -27,6 +28,8 @@ static uint8_t theirs[WAROTH_SUPPLEMENT];   /* the third's */
 static uint8_t combined[WAROTH_SUPPLEMENT]; /* theirs over ours */
 static uint8_t names[WAROTH_SHEET];
 static uint8_t text[WAROTH_SHEET_TEXT];
+static uint8_t morning[WAROTH_INPUT + WAROTH_SHEET_TEXT + 10]; /* the file's lines, the session's sheet, two lines B000 */
+static uint8_t output[WAROTH_OUTPUT];
 static int16_t levels[WAROTH_LEVELS];
 static struct waroth_session session;
 
@@ -53,6 +56,7 @@ static const char *refusal_words(unsigned number)
     case WAROTH_OTHER_AGENTS: return "the domain has another number of agents than the session";
     case WAROTH_NOT_SESSION: return "the session is closed or damaged";
     case WAROTH_LONG_INPUT: return "the input is too long";
+    case WAROTH_TOO_MANY_SHEETS: return "there are too many sheets";
     case WAROTH_OTHER_LAW: return "no such law, another kind or entry, or replaced already";
     default: return "unknown";
     }
@@ -254,6 +258,34 @@ static void edit(unsigned agents, unsigned fluents, unsigned steps)
     printf("%u of %d edits stand\n", (unsigned)session.standing, WAROTH_EDITS);
 }
 
+/* ---- The morning */
+
+/* Puts bytes behind those that the report's input has; answers how many it has then. */
+static size_t put(size_t used, const void *bytes, size_t size)
+{
+    memcpy(morning + used, bytes, size);
+    return used + size;
+}
+
+/* A report over two sheets, the file's, which begins at a place of the input, and the session's. */
+static void report(size_t place, size_t size)
+{
+    static const char begins[] = "B000\n";
+    size_t used;
+    uint64_t answer;
+    used = put(0, input, place);
+    used = put(used, begins, sizeof begins - 1);
+    used = put(used, input + place, size - place);
+    used = put(used, begins, sizeof begins - 1);
+    answer = waroth_write_sheet(session.names, session.steps * session.agents, session.agents, morning + used,
+                                sizeof morning - used);
+    if (refused("write the sheet", answer) != 0)
+        return;
+    used += waroth_count(answer);
+    answer = waroth_report(morning, used, output, sizeof output);
+    printf("in the morning, over the file's sheet and the session's:\n%.*s", (int)answer, (const char *)output);
+}
+
 int main(int argc, char **argv)
 {
     size_t size, place;
@@ -287,6 +319,7 @@ int main(int argc, char **argv)
     end = print_judgement("the file's sheet", answer, fluents);
     if (argc == 2) {
         edit(agents, fluents, steps);
+        report(place, size);
         return end;
     }
     if ((end = read_supplement(argv[2], ours)) != 0)

@@ -12,9 +12,11 @@ use inputs::{Input, Two};
 use std::hint::black_box;
 use std::time::{Duration, Instant};
 use waroth_reference::generate::draft::sheet_text;
+use waroth_reference::generate::report::input_of;
 use waroth_reference::generate::{random::Random, sheets, Answer};
 use waroth_reference::judge::{Judged, Verdict, LEVELS};
 use waroth_reference::program::{Program, OUTPUT_BYTES};
+use waroth_reference::report::MAX_SHEETS;
 use waroth_reference::sheet::SHEET_BYTES;
 use waroth_reference::store::STORE_BYTES;
 use waroth_reference::supplement::SUPPLEMENT_BYTES;
@@ -160,20 +162,36 @@ fn sheet_texts(input: &Input) {
 fn programs(input: &Input) {
     let sheet = sheet_text(&input.sheet, input.draft.agents);
     let text = [input.draft.text(), sheet].concat();
+    let printed = printed_by(Program::Waroth, &format!("program: {}", input.name), &text);
+    assert!(printed.ends_with(b"ACCEPTED\n"));
+}
+
+/// The same of the report, over as many sheets as it takes.
+fn reports(input: &Input) {
+    let sheet = sheet_text(&input.sheet, input.draft.agents);
+    let text = input_of(&input.draft.text(), &vec![sheet; MAX_SHEETS]);
+    let name = format!("report: {MAX_SHEETS} sheets, {}", input.name);
+    let printed = printed_by(Program::Report, &name, &text);
+    assert!(printed.starts_with(format!("SHEETS {MAX_SHEETS} 0\n").as_bytes()));
+}
+
+/// Compares a program on an input, and hands out what it prints.
+fn printed_by(program: Program, name: &str, text: &[u8]) -> Vec<u8> {
     let (mut output, mut other) = (vec![0; OUTPUT_BYTES], vec![0; OUTPUT_BYTES]);
-    let printed = Program::Waroth.answer(&text, &mut other);
-    assert!(other[..printed].ends_with(b"ACCEPTED\n"));
-    let answer = desk::answer(Program::Waroth, &text, &mut output);
+    let printed = program.answer(text, &mut other);
+    let answer = desk::answer(program, text, &mut output);
     assert!(answer == printed && output == other, "the outputs differ");
     compared(
-        &format!("program: {}", input.name),
+        name,
         || {
-            black_box(desk::answer(Program::Waroth, black_box(&text), &mut output));
+            black_box(desk::answer(program, black_box(text), &mut output));
         },
         || {
-            black_box(Program::Waroth.answer(black_box(&text), &mut other));
+            black_box(program.answer(black_box(text), &mut other));
         },
     );
+    output.truncate(printed);
+    output
 }
 
 /// Verdicts of a session into which the sheet was entered.
@@ -266,6 +284,9 @@ fn main() {
     }
     for input in [&two_steps, &pool, &full, &filled] {
         programs(input);
+    }
+    for input in [&two_steps, &pool, &full] {
+        reports(input);
     }
     for input in [&pool, &full] {
         session_verdicts(input);

@@ -86,6 +86,7 @@ extern "C" {
     ) -> u64;
     fn waroth_answer(input: *const u8, length: usize, output: *mut u8, room: usize) -> u64;
     fn waroth_low_water(input: *const u8, length: usize, output: *mut u8, room: usize) -> u64;
+    fn waroth_report(input: *const u8, length: usize, output: *mut u8, room: usize) -> u64;
 }
 
 /// What include/waroth.h calls WAROTH_ACCEPTED and WAROTH_REFUSED.
@@ -320,6 +321,7 @@ pub fn answer(program: Program, input: &[u8], output: &mut [u8]) -> usize {
     let call = match program {
         Program::Waroth => waroth_answer,
         Program::LowWater => waroth_low_water,
+        Program::Report => waroth_report,
     };
     let (room, to) = (output.len(), output.as_mut_ptr());
     unsafe { call(input.as_ptr(), input.len(), to, room) as usize }

@@ -40,7 +40,7 @@ enum { COMBINED_BYTES = (sizeof combined - 1 - 3) / 2, LONGER = WAROTH_SUPPLEMEN
 
 static uint8_t store[WAROTH_STORE], supplement[WAROTH_SUPPLEMENT], names[WAROTH_SHEET];
 static uint8_t lower[WAROTH_SUPPLEMENT], upper[WAROTH_SUPPLEMENT], expected[LONGER], result[LONGER];
-static uint8_t text[WAROTH_DOMAIN_TEXT], output[WAROTH_OUTPUT];
+static uint8_t text[WAROTH_DOMAIN_TEXT], output[WAROTH_OUTPUT], report_input[2 * WAROTH_INPUT];
 static int16_t levels[WAROTH_LEVELS];
 static struct waroth_session session;
 
@@ -49,6 +49,8 @@ static const uint8_t seven[] = {1, 0, 1, 0, 1, 0, 1, 0, 1, 0, 1, 0, 1, 0};
 
 static_assert(WAROTH_SUPPLEMENT == 16000 && WAROTH_LAWS * (2 + WAROTH_PAYLOAD) <= WAROTH_SUPPLEMENT, "every law replaced");
 static_assert(WAROTH_SHEET == 1024 && WAROTH_LEVELS == 2080, "the paper's buffers");
+static_assert(WAROTH_SHEETS == 40 && WAROTH_TOO_MANY_SHEETS == 19, "the paper's numbers of a report");
+static_assert(WAROTH_REPORT_INPUT == 2460205, "what decides a report");
 static_assert(WAROTH_DOMAIN_TEXT == 33319 && WAROTH_SHEET_TEXT == 2368, "the longest texts");
 static_assert(sizeof(struct waroth_session) == 4 * sizeof(size_t) + WAROTH_SHEET + sizeof session.log, "no gaps");
 
@@ -410,6 +412,56 @@ static int programs(void)
     return 0;
 }
 
+/* The line that begins a sheet of a report. */
+#define MARK "B000\n"
+
+/* The river and so many sheets of no steps, the last of them with this text. */
+static size_t with_sheets(int sheets, const uint8_t *last, size_t size)
+{
+    size_t used = DOMAIN_SIZE;
+    memcpy(report_input, domain, used);
+    for (; sheets > 0; sheets--, used += sizeof MARK - 1)
+        memcpy(report_input + used, MARK, sizeof MARK - 1);
+    memcpy(report_input + used, last, size);
+    return used + size;
+}
+
+static int reports(program_call call, int sheets, const char *last, const char *expected)
+{
+    size_t size = with_sheets(sheets, bytes(last), strlen(last));
+    return writes(call, report_input, size, expected);
+}
+
+static int reporting(void)
+{
+    static const uint8_t zeros[WAROTH_INPUT + 1] = {0};
+    size_t size = with_sheets(1, bytes(sheet), SHEET_SIZE);
+    memset(output, 0xEE, sizeof output);
+    EXPECT(waroth_report(report_input, size, output, WAROTH_OUTPUT - 1) == 0 && output[0] == 0xEE);
+    EXPECT(writes(waroth_report, report_input, size, "SHEETS 1 0\nF 0 280 300 866 3\n") && output[29] == 0xEE);
+    EXPECT(reports(waroth_report, 1, "B1020100\n" MARK "B1020102\n", "SHEETS 1 1\nF 0 286 300 586 2\n"));
+    EXPECT(reports(waroth_report, 0, "", "SHEETS 0 0\n"));
+    EXPECT(reports(waroth_report, 1, "B1020102\n", "SHEETS 0 1\n"));
+    EXPECT(reports(waroth_report, WAROTH_SHEETS, "", "SHEETS 40 0\nF 0 300 300 12000 40\n"));
+    /* A sheet too many, before all else of it. */
+    size = with_sheets(WAROTH_SHEETS + 1, zeros, WAROTH_INPUT + 1);
+    EXPECT(prints(waroth_report, report_input, size, WAROTH_TOO_MANY_SHEETS, LINES + WAROTH_SHEETS + 1));
+    /* A domain's text and a sheet's, each by itself. */
+    EXPECT(prints(waroth_report, zeros, WAROTH_INPUT, WAROTH_BAD_LINE, 1));
+    EXPECT(prints(waroth_report, zeros, WAROTH_INPUT + 1, WAROTH_LONG_INPUT, 0));
+    size = with_sheets(2, zeros, WAROTH_INPUT);
+    EXPECT(prints(waroth_report, report_input, size, WAROTH_BAD_LINE, LINES + 3));
+    size = with_sheets(2, zeros, WAROTH_INPUT + 1);
+    EXPECT(prints(waroth_report, report_input, size, WAROTH_LONG_INPUT, 0));
+    /* The other programs take no such line, and this one no step before the first. */
+    size = with_sheets(1, bytes(sheet), SHEET_SIZE);
+    EXPECT(prints(waroth_answer, report_input, size, WAROTH_BAD_KIND, LINES + 1));
+    EXPECT(prints(waroth_low_water, report_input, size, WAROTH_BAD_KIND, LINES + 1));
+    size = with_sheets(0, bytes(sheet), SHEET_SIZE);
+    EXPECT(prints(waroth_report, report_input, size, WAROTH_BAD_KIND, LINES + 1));
+    return 0;
+}
+
 static int edits(void)
 {
     EXPECT(refuses_alone(waroth_open(&session, store, 0), WAROTH_NOT_DOMAIN));
@@ -459,8 +511,8 @@ int main(void)
 {
     static int (*const parts[])(void) = {refusals,    kinds,           domains,    refused_supplements,
                                          supplements, sheets,          judgements, judgements_under,
-                                         layings,     refused_layings, programs,   edits,
-                                         session_verdicts};
+                                         layings,     refused_layings, programs,   reporting,
+                                         edits,       session_verdicts};
     size_t part;
     for (part = 0; part < sizeof parts / sizeof parts[0]; part++) {
         int line = parts[part]();

@@ -19,7 +19,7 @@ static int16_t levels[WAROTH_LEVELS];
 static struct waroth_session session;
 
 /* What the calls below work on, and what the last of them answered. */
-static uint8_t input[2 * WAROTH_INPUT]; /* of a program */
+static uint8_t input[4 * WAROTH_INPUT]; /* of a program */
 static struct part {
     const uint8_t *text;
     size_t size;
@@ -52,6 +52,7 @@ static void judge_under(void)
 }
 static void low_water(void) { answer = waroth_low_water(input, input_size, output, sizeof output); }
 static void program(void) { answer = waroth_answer(input, input_size, output, sizeof output); }
+static void report(void) { answer = waroth_report(input, input_size, output, sizeof output); }
 static void open_session(void) { answer = waroth_open(&session, store, sizeof store); }
 static void enter(void) { answer = waroth_enter(&session, names + step * agents, agents); }
 static void strike(void) { answer = waroth_strike(&session); }
@@ -79,6 +80,7 @@ static struct call {
     {judge_under, "waroth_judge_under", WAROTH_STACK_VERDICTS, 0},
     {program, "waroth_answer", WAROTH_STACK_ANSWER, 0},
     {low_water, "waroth_low_water", WAROTH_STACK_ANSWER, 0},
+    {report, "waroth_report", WAROTH_STACK_REPORT, 0},
     {open_session, "waroth_open", WAROTH_STACK_SESSIONS, 0},
     {enter, "waroth_enter", WAROTH_STACK_SESSIONS, 0},
     {strike, "waroth_strike", WAROTH_STACK_SESSIONS, 0},
@@ -126,6 +128,32 @@ static int put(struct part part)
     return 1;
 }
 
+/* The report over the domain and as many sheets as it takes, each of them this one; then with a sheet more, and with a last
+ * one that is too long, which it refuses. 0 where there is no room for them. */
+static int reported(void)
+{
+    static const uint8_t zeros[WAROTH_INPUT + 1] = {0};
+    const struct part mark = {(const uint8_t *)"B000\n", 5}, too_long = {zeros, sizeof zeros};
+    size_t taken;
+    int sheets;
+    input_size = 0;
+    if (!put(domain))
+        return 0;
+    for (sheets = 0; sheets < WAROTH_SHEETS; sheets++)
+        if (!put(mark) || !put(sheet))
+            return 0;
+    refused(report);
+    taken = input_size;
+    if (answer == 0 || !put(mark))
+        return 0;
+    refused(report);
+    input_size = taken;
+    if (answer == 0 || !put(too_long))
+        return 0;
+    refused(report);
+    return answer != 0;
+}
+
 /* Every call over the lines of a domain, a supplement and a sheet; those of a session with a log that gets full. 0 where
  * something is refused that is not tried for that. */
 int stack_tried(struct part of_domain, struct part of_supplement, struct part of_sheet);
@@ -145,7 +173,9 @@ int stack_tried(struct part of_domain, struct part of_supplement, struct part of
     if (!put(domain) || !put(replacing) || !put(sheet))
         return 0;
     refused(low_water);
-    if (answer == 0 || refused(read_domain) != 0 || refused(counts) != 0)
+    if (answer == 0 || !reported())
+        return 0;
+    if (refused(read_domain) != 0 || refused(counts) != 0)
         return 0;
     agents = waroth_agents(answer);
     refused(frame);

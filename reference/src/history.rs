@@ -34,6 +34,16 @@ impl<'a> History<'a> {
         }
     }
 
+    /// Stands at state 0 again. Nobody asks what occurred in a step to come.
+    pub fn restart(&mut self) {
+        self.position = 0;
+    }
+
+    /// The states reached, and after them whatever was there.
+    pub fn levels(&self) -> &[i16] {
+        self.levels
+    }
+
     /// These entries occur in the present step.
     pub fn occur(&mut self, entries: u64) {
         self.occurring[self.position + 1] = entries;

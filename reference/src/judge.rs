@@ -74,6 +74,13 @@ thread_local! {
 
 /// Judges whole steps, at most 64 of them, over a domain.
 pub fn run(laws: &InForce, sheet: &[u8], levels: &mut [i16]) -> Judged {
+    over(laws, levels, |trial| trial.run(sheet))
+}
+
+/// Judges as many sheets as are asked for over a domain, all into the same levels.
+/// Who is in what is found out once, and a law is compiled once for all of them.
+#[inline]
+pub(crate) fn over<T>(laws: &InForce, levels: &mut [i16], ask: impl FnOnce(&mut Trial) -> T) -> T {
     ROOM.with_borrow_mut(|room| {
         let mut trial = Trial {
             laws,
@@ -87,7 +94,7 @@ pub fn run(laws: &InForce, sheet: &[u8], levels: &mut [i16]) -> Judged {
             next: [0; Domain::MAX_LAWS + 1],
         };
         trial.arrange();
-        trial.run(sheet)
+        ask(&mut trial)
     })
 }
 
@@ -124,7 +131,7 @@ impl Compiled {
     };
 }
 
-struct Trial<'a> {
+pub(crate) struct Trial<'a> {
     laws: &'a InForce<'a>,
     history: History<'a>,
     compiled: [Compiled; Domain::MAX_LAWS],
@@ -141,12 +148,9 @@ struct Trial<'a> {
 }
 
 impl Trial<'_> {
-    /// Starts from the domain's values, and finds out once who is in what.
+    /// Finds out who is in what.
     fn arrange(&mut self) {
         let domain = self.laws.domain;
-        for (number, fluent) in domain.fluents().iter().enumerate() {
-            self.history.set(number, fluent.start);
-        }
         for (number, entry) in domain.entries().iter().enumerate() {
             self.named[usize::from(entry.name())] |= 1 << number;
             bits(entry.crew().into()).for_each(|agent| self.member[agent] |= 1 << number);
@@ -158,7 +162,12 @@ impl Trial<'_> {
         }
     }
 
-    fn run(&mut self, sheet: &[u8]) -> Judged {
+    /// Judges whole steps, at most 64 of them, from the domain's values on.
+    pub fn run(&mut self, sheet: &[u8]) -> Judged {
+        self.history.restart();
+        for (number, fluent) in self.laws.domain.fluents().iter().enumerate() {
+            self.history.set(number, fluent.start);
+        }
         if let Err(fault) = self.all_true(STATIC, STATE_REFUSED) {
             return fault.at(0, 0);
         }
@@ -179,6 +188,11 @@ impl Trial<'_> {
             },
             Err(fault) => fault.at(step, states),
         }
+    }
+
+    /// The states reached, fluent by fluent, and after them whatever was there.
+    pub fn levels(&self) -> &[i16] {
+        self.history.levels()
     }
 
     /// The law compiled, which is done once.

@@ -1,5 +1,5 @@
 //! A reader and writer of domains and sheets, supplements read and laid one over
-//! another, a judge, an editing session and two programs, in plain Rust. See
+//! another, a judge, an editing session and three programs, in plain Rust. See
 //! README.md for what it is for.
 
 pub mod code;
@@ -10,9 +10,11 @@ pub mod judge;
 pub mod law;
 pub mod line;
 pub mod number;
+mod page;
 pub mod plain;
 pub mod program;
 pub mod refusal;
+pub mod report;
 pub mod session;
 pub mod sheet;
 pub mod store;

@@ -130,9 +130,15 @@ impl<'a> Lines<'a> {
         self.number
     }
 
-    /// Whether the line to come starts so.
-    pub fn at(&self, start: &[u8]) -> bool {
-        self.rest.starts_with(start)
+    /// The text from the line to come on.
+    pub fn rest(&self) -> &'a [u8] {
+        self.rest
+    }
+
+    /// Whether the line to come starts in one of these ways.
+    #[inline]
+    pub fn at(&self, starts: &[&[u8]]) -> bool {
+        starts.iter().any(|start| self.rest.starts_with(start))
     }
 
     /// The next line, refusal 1 or 2, or `None` at the end. Its first digits say

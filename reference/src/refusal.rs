@@ -18,4 +18,5 @@ pub const STORE: u8 = 15;
 pub const AGENTS_DIFFER: u8 = 16;
 pub const SESSION: u8 = 17;
 pub const INPUT: u8 = 18;
+pub const SHEET_41: u8 = 19;
 pub const OTHER_LAW: u8 = 20;

@@ -33,12 +33,13 @@ pub fn steps_of(sheet: &[u8], agents: usize) -> Result<usize, u8> {
 /// Reads a sheet text into the buffer and returns the number of steps, or the
 /// refusal and its line.
 pub fn read_sheet(text: &[u8], agents: usize, buffer: &mut [u8]) -> Result<usize, (u8, usize)> {
-    read_lines(&mut Lines::of(text), agents, buffer)
+    read_lines(&mut Lines::of(text), |_| false, agents, buffer)
 }
 
-/// Reads lines to their end, as [`read_sheet`] does.
+/// Reads lines as [`read_sheet`] does, until they have ended so or at all.
 pub(crate) fn read_lines(
     lines: &mut Lines,
+    ended: impl Fn(&Lines) -> bool,
     agents: usize,
     buffer: &mut [u8],
 ) -> Result<usize, (u8, usize)> {
@@ -46,7 +47,7 @@ pub(crate) fn read_lines(
         return Err((refusal::BUFFER, 0));
     }
     let read = match check_agents(agents) {
-        Ok(()) => fill(lines, agents, buffer).map_err(|number| (number, lines.number())),
+        Ok(()) => fill(lines, ended, agents, buffer).map_err(|number| (number, lines.number())),
         Err(number) => Err((number, 0)),
     };
     let used = read.map_or(0, |steps| steps * agents);
@@ -55,10 +56,16 @@ pub(crate) fn read_lines(
 }
 
 /// Each step goes from its line straight to its place.
-fn fill(lines: &mut Lines, agents: usize, buffer: &mut [u8]) -> Result<usize, u8> {
+fn fill(
+    lines: &mut Lines,
+    ended: impl Fn(&Lines) -> bool,
+    agents: usize,
+    buffer: &mut [u8],
+) -> Result<usize, u8> {
     let mut places = buffer.chunks_exact_mut(agents).take(MAX_STEPS);
     let mut steps = 0;
-    while let Some(line) = lines.next_line() {
+    while !ended(lines) {
+        let Some(line) = lines.next_line() else { break };
         let line = line?;
         match places.next() {
             Some(place) if line.kind == STEP && line.count() == agents => line.read(place)?,

@@ -50,7 +50,7 @@ pub(crate) fn fill(
     mut take: impl FnMut(&[u8], usize) -> Result<(), u8>,
 ) -> Result<usize, (u8, usize)> {
     let mut used = 0;
-    while !ends.iter().any(|end| lines.at(end)) {
+    while !lines.at(ends) {
         let Some(line) = lines.next_line() else { break };
         let taken = line.and_then(|line| {
             let frame = &mut store[used..][..2 + line.count()];

@@ -9,6 +9,7 @@ use super::faults::{Lines, LINE_FAULTS};
 use super::laying::{self, LAYING, WRONG};
 use super::low_water::LOW_WATER;
 use super::random::Random;
+use super::report::{self, has_mark, input_of, reporting};
 use super::sheets::{self, SESSION_FAULTS};
 use super::supplements::{self, Place, PLACES};
 use super::texts::{damaged_line, CHARACTER_FAULTS, ORDER_FAULTS, SHEET_FAULTS};
@@ -47,6 +48,12 @@ pub enum Expect {
     Same,
     /// The program's call prints nothing.
     Silent,
+    /// The report counts so many sheets.
+    Sheets { accepted: usize, broken: usize },
+    /// The report has figures of so many fluents.
+    Figures(usize),
+    /// The program's call prints this.
+    Printed(&'static str),
     /// The last call is not refused.
     Fine,
 }
@@ -254,7 +261,8 @@ impl Aims {
     /// A domain text, read by the reader and by the programs.
     fn domain_text(&mut self, label: &str, number: u8, text: impl MakesText) {
         self.read_domain(label, number, text);
-        // For the programs a B1 line ends the domain.
+        self.report_over(label, number, text);
+        // For the other programs a B1 line ends the domain.
         if label != "B1 in a domain" {
             self.program(label, number, text);
             self.low_water_over(label, number, text);
@@ -292,6 +300,24 @@ impl Aims {
                 input.extend(b"AF00\nB100\n");
             }
             printing_by(Program::LowWater, r, input)
+        });
+    }
+
+    fn report_over(&mut self, label: &str, number: u8, text: impl MakesText) {
+        let expect = refused_or_fine(number);
+        self.add(format!("report: {label}"), expect, move |r| {
+            let mut domain = text(r);
+            // A spoilt line that is a mark would end the domain.
+            while has_mark(&domain) {
+                domain = text(r);
+            }
+            // The domain's refusals go before the sheets'.
+            let sheets = match number {
+                0 => vec![vec![]; r.below(3)],
+                _ if domain.ends_with(b"\n") => vec![b"x\n".to_vec(); *r.pick(&[0, 1, 41])],
+                _ => vec![],
+            };
+            reporting(r, input_of(&domain, &sheets))
         });
     }
 
@@ -335,6 +361,24 @@ impl Aims {
             let input = [draft.text(), text_of(&lines), text(r, agents)].concat();
             printing_by(Program::LowWater, r, input)
         });
+        for &(at, place) in report::PLACES {
+            // Behind a text without LF no mark can stand.
+            if label.starts_with("missing LF") && place != report::Place::Last {
+                continue;
+            }
+            let label = format!("report: {at} sheet with {label}");
+            self.add(label, expect, move |r| {
+                let agents = r.from_to(1, 16);
+                let draft = Draft::new(agents, &[[0, 9, 5]], &[(1, 1)]).free();
+                let other = |r: &mut Random| {
+                    let steps = r.below(3);
+                    sheet_text(&vec![0; steps * agents], agents)
+                };
+                let sheet = text(r, agents);
+                let sheets = report::among(r, place, sheet, number != 0, other);
+                reporting(r, input_of(&draft.text(), &sheets))
+            });
+        }
     }
 
     /// A supplement for a domain: its text before the reader, its bytes before
@@ -423,9 +467,9 @@ impl Aims {
         }
     }
 
-    /// A trial, before the judge, as a session and as a program's input; and
-    /// with laws that only a supplement has, or two that are laid one over the
-    /// other.
+    /// A trial, before the judge, as a session and as a program's input; with
+    /// laws that only a supplement has, or two that are laid one over the other;
+    /// and as sheets of a report.
     fn trial(&mut self, (label, expect, make): Trial) {
         let make = Rc::new(make);
         let again = make.clone();
@@ -481,12 +525,27 @@ impl Aims {
                 calls: vec![laying(r, 0, 1), judging],
             }
         });
+        let again = make.clone();
         self.add(format!("low_water: {label}"), expect, move |r| {
-            let (draft, sheet) = make(r);
+            let (draft, sheet) = again(r);
             let (other, lines) = supplements::behind(r, &draft);
             let sheet = sheet_text(&sheet, draft.agents);
             let input = [other.text(), text_of(&lines), sheet].concat();
             printing_by(Program::LowWater, r, input)
+        });
+        // Twice, and twice an empty sheet, which almost every trial's domain accepts.
+        let empty = report::accepts_empty(&make(&mut Random::seeded(1)).0);
+        let accepted = 2 * usize::from(expect == Expect::Accepted) + 2 * usize::from(empty);
+        let broken = 4 - accepted;
+        let counted = Expect::Sheets { accepted, broken };
+        self.add(format!("report: {label}"), counted, move |r| {
+            let (draft, sheet) = make(r);
+            let mut sheets = vec![vec![]; 2];
+            for _ in 0..2 {
+                let place = r.below(sheets.len() + 1);
+                sheets.insert(place, sheet_text(&sheet, draft.agents));
+            }
+            reporting(r, input_of(&draft.text(), &sheets))
         });
     }
 }
@@ -582,6 +641,7 @@ pub fn aims() -> Vec<Aim> {
             laying::wrong(r, spoil, result)
         });
     }
+    aims.0.extend(report::aims());
     trials().into_iter().for_each(|trial| aims.trial(trial));
     aims.0
 }

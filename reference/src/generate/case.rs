@@ -287,6 +287,7 @@ pub fn program_name(program: Program) -> &'static str {
     match program {
         Program::Waroth => "program",
         Program::LowWater => "low_water",
+        Program::Report => "report",
     }
 }
 

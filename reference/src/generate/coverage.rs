@@ -31,6 +31,7 @@ pub const ORDERS: &[(&str, &[u8])] = &[
     ("write_sheet", &[4, 8, 9, 10]),
     ("program", &[18, 1, 2, 3, 5, 4, 6, 7, 9, 8]),
     ("low_water", &[18, 1, 2, 3, 5, 4, 6, 7, 20, 9, 8]),
+    ("report", &[18, 1, 2, 3, 5, 4, 6, 7, 9, 8, 19]),
 ];
 
 /// Calls that are never refused.
@@ -77,12 +78,19 @@ enum Sense {
     Counts(Counts),
     Law(LawInForce),
     Count(usize),
+    /// Sheets, and fluents of which there are figures.
+    Report {
+        accepted: usize,
+        broken: usize,
+        fluents: usize,
+    },
     /// The program's call had no room and printed nothing.
     Silent,
     Other,
 }
 
-/// Reads the program's last line again, so that its answers count as well.
+/// Reads again what a program printed, so that its answers count as well: the
+/// last line, and a report's first.
 fn sense(answer: &Answer) -> Sense {
     match answer {
         Answer::Refused { number, .. } => Sense::Refused(*number),
@@ -102,20 +110,43 @@ fn sense(answer: &Answer) -> Sense {
         Answer::Printed(text) if text.is_empty() => Sense::Silent,
         Answer::Printed(text) => {
             let text = String::from_utf8_lossy(text);
-            let last: Vec<_> = text.lines().last().unwrap_or("").split(' ').collect();
-            let number = |at: usize| last.get(at).and_then(|word| word.parse().ok()).unwrap_or(0);
-            let states = text.lines().count() - 1;
-            match last[0] {
-                "REFUSED" => Sense::Refused(number(1)),
-                "BROKEN" => Sense::Broken {
-                    kind: number(1),
-                    step: number(2).into(),
-                    states,
+            let more = text.lines().count() - 1;
+            let first = Words::of(text.lines().next());
+            let last = Words::of(text.lines().last());
+            match (first.word(), last.word()) {
+                ("SHEETS", _) => Sense::Report {
+                    accepted: first.number(1),
+                    broken: first.number(2),
+                    fluents: more,
                 },
-                _ => Sense::Accepted { states },
+                (_, "REFUSED") => Sense::Refused(last.number(1) as u8),
+                (_, "BROKEN") => Sense::Broken {
+                    kind: last.number(1) as u8,
+                    step: last.number(2),
+                    states: more,
+                },
+                _ => Sense::Accepted { states: more },
             }
         }
         _ => Sense::Other,
+    }
+}
+
+/// A printed line: a word and numbers.
+struct Words<'a>(Vec<&'a str>);
+
+impl<'a> Words<'a> {
+    fn of(line: Option<&'a str>) -> Self {
+        Words(line.unwrap_or("").split(' ').collect())
+    }
+
+    fn word(&self) -> &'a str {
+        self.0[0]
+    }
+
+    fn number(&self, at: usize) -> usize {
+        let word = self.0.get(at);
+        word.and_then(|word| word.parse().ok()).unwrap_or(0)
     }
 }
 
@@ -156,6 +187,8 @@ pub struct Coverage {
     at_start: BTreeMap<Fault, usize>,
     /// Faults that left neither the states before their step nor all.
     odd_states: usize,
+    /// Reports with figures of no accepted sheet, or without those of one.
+    odd_reports: usize,
     /// By aim: how often tried and met.
     aims: Vec<(String, usize, usize)>,
 }
@@ -190,6 +223,13 @@ impl Coverage {
                     *self.accepted.entry(call).or_default() += 1;
                     self.accepted_states.insert((call, states));
                 }
+                Sense::Report {
+                    accepted, fluents, ..
+                } => {
+                    let figures = fluents > 0;
+                    self.odd_reports += (figures != (accepted > 0)) as usize;
+                    *self.accepted.entry(call).or_default() += figures as usize;
+                }
                 Sense::Counts(_)
                 | Sense::Law(_)
                 | Sense::Count(_)
@@ -218,6 +258,18 @@ impl Coverage {
             (Expect::Law(wanted), Sense::Law(law)) => wanted == law,
             (Expect::Count(wanted), Sense::Count(count)) => wanted == count,
             (Expect::Silent, Sense::Silent) => true,
+            (
+                Expect::Sheets { accepted, broken },
+                Sense::Report {
+                    accepted: a,
+                    broken: b,
+                    ..
+                },
+            ) => (accepted, broken) == (a, b),
+            (Expect::Figures(wanted), Sense::Report { fluents, .. }) => wanted == fluents,
+            (Expect::Printed(wanted), _) => {
+                matches!(answer, Answer::Printed(text) if text == wanted.as_bytes())
+            }
             (Expect::Fine, Sense::Refused(_)) => false,
             (Expect::Fine, _) => true,
             _ => false,
@@ -285,6 +337,10 @@ impl Coverage {
         if self.odd_states > 0 {
             let number = self.odd_states;
             complaints.push(format!("{number} faults left another number of states"));
+        }
+        if self.odd_reports > 0 {
+            let number = self.odd_reports;
+            complaints.push(format!("{number} reports have other figures"));
         }
         for (label, tried, met) in &self.aims {
             if met < tried || *tried == 0 {

@@ -7,10 +7,12 @@ use super::aims::{
 use super::case::{Call, Case, SupplementCall};
 use super::draft::{sheet_text, text_of, Draft};
 use super::random::Random;
+use super::report::NEARLY_MARKS;
 use super::{sheets, supplements};
 use crate::judge::LEVELS;
 use crate::line::line_length;
 use crate::program::Program;
+use crate::report::{MARK, MAX_SHEETS};
 use crate::session::Session;
 use crate::sheet::SHEET_BYTES;
 use crate::store::STORE_BYTES;
@@ -247,6 +249,49 @@ fn program(r: &mut Random, aims: &[Aim]) -> Case {
     printing(r, input)
 }
 
+/// What begins a sheet: now and then not quite a mark.
+fn mark(r: &mut Random) -> &'static [u8] {
+    match r.one_in(40) {
+        true => r.pick(NEARLY_MARKS).2,
+        false => MARK,
+    }
+}
+
+/// A report's input: a domain's text and sheets for it, good and bad, among them
+/// what some aim gave the sheet reader.
+fn report(r: &mut Random, aims: &[Aim]) -> Case {
+    let draft = Draft::random(r);
+    let mut texts = Vec::new();
+    for _ in 0..r.from_to(1, 4) {
+        let text = sheet_text(&sheets::sheet(r, &draft), draft.agents);
+        texts.push(match r.below(24) {
+            0 => damaged(r, text, b"0123456789ABCDEF\n\r ag"),
+            1 => match (r.pick(aims).make)(r) {
+                Case::ReadSheet { text, .. } => text,
+                _ => Vec::new(),
+            },
+            _ => text,
+        });
+    }
+    let sheets = match r.below(12) {
+        0 => 0,
+        1 => r.from_to(MAX_SHEETS - 1, MAX_SHEETS + 2),
+        _ => texts.len(),
+    };
+    let mut input = match r.one_in(12) {
+        true => domain_text(r),
+        false => draft.text(),
+    };
+    for _ in 0..sheets {
+        input.extend(mark(r));
+        input.extend(r.pick(&texts));
+    }
+    if r.one_in(16) {
+        input = damaged(r, input, b"0123456789ABCDEF\n\r ag");
+    }
+    printing_by(Program::Report, r, input)
+}
+
 /// A supplement's bytes, good or bad, for a domain.
 fn any_supplement(r: &mut Random, draft: &Draft) -> Vec<u8> {
     let lines = supplements::supplement(r, draft);
@@ -375,7 +420,7 @@ fn verdict(r: &mut Random, aims: &[Aim]) -> Case {
 
 /// A random case of any call.
 pub fn any(r: &mut Random, aims: &[Aim]) -> Case {
-    match r.below(26) {
+    match r.below(28) {
         0 | 1 => Case::ReadDomain {
             text: domain_text(r),
             store: buffer(r, STORE_BYTES),
@@ -405,6 +450,7 @@ pub fn any(r: &mut Random, aims: &[Aim]) -> Case {
         16 | 17 => verdict(r, aims),
         18 | 19 => program(r, aims),
         20..=24 => under(r),
-        _ => supplement_calls(r),
+        25 => supplement_calls(r),
+        _ => report(r, aims),
     }
 }

@@ -12,6 +12,7 @@ pub mod laying;
 pub mod low_water;
 mod mix;
 pub mod random;
+pub mod report;
 pub mod shapes;
 pub mod sheets;
 pub mod supplements;

@@ -157,6 +157,15 @@ const PLAIN: &[Plain] = &[
         draft.insert(law(0xA9, &[&compare(0x24, 0, 1, 5)]));
         (draft, vec![1])
     }),
+    ("goal without value after a step", Goal(7), |_| {
+        let mut draft = counting();
+        let divided = node(
+            0x15,
+            &[&constant(1), &node(0x13, &[&read(0, 0), &constant(6)])],
+        );
+        draft.insert(law(0xA9, &[&node(0x23, &[&divided, &constant(1)])]));
+        (draft, vec![0, 1])
+    }),
     ("accepted: empty sheet", Accepted, |_| {
         (Draft::pool(), vec![])
     }),

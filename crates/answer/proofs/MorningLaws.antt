@@ -1,17 +1,14 @@
 -- A report, sheet by sheet: what the texts say of the next, and what is kept of it. Assumes nothing.
-use Prim.Native.Nat.{ℕ, zero, suc, _+_, _-_, _*_, _≤_, _<_}
+use Prim.Native.Nat.{ℕ, suc, _+_, _-_, _*_, _≤_, _<_}
 use mathlib.Core.Path.{_≡_, refl, sym, ap, _∙_, subst}
 use mathlib.Core.Bool.{Bool, true, false, not}
 use mathlib.Core.List.{List, [], _∷_, _++_, map, map-append, append-nil, append-assoc}
 use native.Mathlib.Omega.{arith}
-use native.Mathlib.Nat.{zero-add, suc-add, zero-mul}
 use native.Mathlib.Numerals.{add-one}
-use native.Mathlib.Decide.{ℕ-discrete}
-use lib.Dec.{eqb}
 use lib.IntN.{ℤ}
 use lib.ListN.{length, take, drop, length-append, length-drop, take-append-drop, drop-of-length-le}
-use lib.Seq.{take-all, drop-drop, length-take-le, take-append-le, drop-append-le}
-use borrow.Author.Tests.{ne-eqb, le-leb, lt-leb, lt-ltb, le-ltb}
+use lib.Seq.{take-all, drop-drop, length-take-le}
+use borrow.Author.Tests.{le-leb, lt-leb, lt-ltb, le-ltb}
 use Rattle.bmap.specs.Limits.{storeSize, mostFluents, levelsSize, mostInput, mostSheets}
 use Rattle.bmap.specs.declared.refusal.Refusal.{Refusal}
 use Rattle.bmap.specs.Accept.{taken}
@@ -32,9 +29,8 @@ use Rattle.judge.specs.declared.verdict.Verdict.the-variants.{Accepted, Broken}
 use Rattle.judge.specs.declared.verdict.Judgement.{Judgement}
 use Rattle.judge.specs.declared.verdict.Judgement.the-variants as said
 use Rattle.sheet.specs.Step.{outcome}
-use Rattle.sheet.proofs.WriteLaws.{product-suc}
 use Rattle.answer.proofs.ProgramLaws.{domain-refused, product-most, lines-most, lines-small, StepsRead, judged, counted, verdict-is, refused-not}
-use Rattle.bmap.specs.Plain.{either, if-else, any, those, flat, numbers, text}
+use Rattle.bmap.specs.Plain.{either, if-else, any, those, flat, text}
 use Rattle.bmap.specs.Refusal.{got, numberOf, Reading, read, refusedAt, afterwards}
 use Rattle.bmap.specs.Line.{Line, linesOf, startsWith, starts, decode}
 use Rattle.bmap.specs.Domain.{Domain, Names, State}
@@ -43,9 +39,9 @@ use Rattle.bmap.specs.Sheet.{rows, stepsFrom}
 use Rattle.bmap.specs.Judge.{Judged, judge}
 use Rattle.bmap.specs.Program.{decimal, lineOf, refusedText, Parts, split}
 use Rattle.bmap.specs.Report.{isAccepted, sheetBegins, Texts, textsOf, textSize, sheetsFrom, accepts, breaks, statesOf, reportText, reportedBy, reportedOn, report, sheetsLine, figuresLines}
-use Rattle.bmap.proofs.LineLaws.{lines-text}
-use Rattle.bmap.proofs.PlainLaws.{both-true, flat-one}
-use Rattle.sheet.proofs.RoundTrip.{Rows, rows-front}
+use Rattle.bmap.proofs.LineLaws.{lines-text, word-first}
+use Rattle.bmap.proofs.PlainLaws.{flat-one, one-in, one-out}
+use Rattle.sheet.proofs.RoundTrip.{Rows, rows-front, rows-alike, rows-after}
 use Rattle.answer.specs.declared.morning.Morning.{Morning}
 use Rattle.answer.specs.declared.morning.Outcome.{Outcome}
 use Rattle.answer.specs.declared.morning.Outcome.the-variants as out
@@ -105,7 +101,7 @@ modest-line s e x = subst (Modest s) e x
 -- ---- the texts
 
 -- the domain's lines are those before the first B000 line, and the sheets' those from it on
-pub domain-lines : (lines : List Line) → textsOf lines .domain ≡ split sheetBegins lines .before
+domain-lines : (lines : List Line) → textsOf lines .domain ≡ split sheetBegins lines .before
 unfolding textsOf split
 domain-lines [] = refl
 domain-lines (l ∷ lines) = go (starts sheetBegins l) (domain-lines lines)
@@ -116,7 +112,7 @@ domain-lines (l ∷ lines) = go (starts sheetBegins l) (domain-lines lines)
     go true e = refl
     go false e = ap (λ (ls : List Line). l ∷ ls) e
 
-pub sheets-lines : (lines : List Line) → textsOf lines .sheets ≡ sheetTexts (split sheetBegins lines .from)
+sheets-lines : (lines : List Line) → textsOf lines .sheets ≡ sheetTexts (split sheetBegins lines .from)
 unfolding textsOf split
 sheets-lines [] = refl
 sheets-lines (l ∷ lines) = go (starts sheetBegins l) (sheets-lines lines)
@@ -126,17 +122,6 @@ sheets-lines (l ∷ lines) = go (starts sheetBegins l) (sheets-lines lines)
         ≡ sheetTexts (if-else {A = Parts} b (record { before = []; from = l ∷ lines }) (record { before = l ∷ split sheetBegins lines .before; from = split sheetBegins lines .from }) .from)
     go true e = refl
     go false e = e
-
--- a text that starts with a word is the word and what is after it
-word-first : (word s : List ℕ) → startsWith word s ≡ true → s ≡ word ++ drop (length word) s
-unfolding startsWith
-word-first [] s t = refl
-word-first (c ∷ word) [] t = absurd (let z : _≡_ {A = ℕ} 0 1 = cc in omega arith)
-word-first (c ∷ word) (d ∷ s) t =
-    elim (ℕ-discrete d c) [
-      | yes e ↦ ap (λ (x : ℕ). x ∷ s) e ∙ ap (λ (l : List ℕ). c ∷ l) (word-first word s (both-true (eqb d c) (startsWith word s) t .1))
-      | no e ↦ absurd (let f : false ≡ true = sym (ne-eqb d c e) ∙ both-true (eqb d c) (startsWith word s) t .0 in let z : _≡_ {A = ℕ} 0 1 = cc in omega arith)
-    ]
 
 -- a sheet's B000 line, and the lines after it
 begun : (s : List ℕ) → startsWith sheetBegins s ≡ true → linesOf s ≡ record { digits = text "B000"; ended = true } ∷ linesOf (drop 5 s)
@@ -233,29 +218,8 @@ module _ (d : Domain) (input : List ℕ) (judged : List Judged) (at lines : ℕ)
 
 -- ---- what is kept
 
-those-more : {A : Type 0} (p : A → Bool) (l : List A) (a : A) → those p (l ++ (a ∷ [])) ≡ those p l ++ those p (a ∷ [])
-unfolding those
-those-more p [] a = refl
-those-more {A} p (b ∷ l) a = go (p b) (those-more p l a)
-  where
-    go : (c : Bool) → those p (l ++ (a ∷ [])) ≡ those p l ++ those p (a ∷ [])
-        → if-else {A = List A} c (b ∷ those p (l ++ (a ∷ []))) (those p (l ++ (a ∷ []))) ≡ if-else {A = List A} c (b ∷ those p l) (those p l) ++ those p (a ∷ [])
-    go true e = ap (λ (r : List A). b ∷ r) e
-    go false e = e
-
-module _ {A : Type 0} (p : A → Bool) (l : List A) (a : A) where
-  -- a sheet that is one of them
-  one-in : p a ≡ true → those p (l ++ (a ∷ [])) ≡ those p l ++ (a ∷ [])
-  unfolding those
-  one-in e = those-more p l a ∙ rw e
-
-  -- and one that is not
-  one-out : p a ≡ false → those p (l ++ (a ∷ [])) ≡ those p l
-  unfolding those
-  one-out e = those-more p l a ∙ rw e (append-nil (those p l))
-
 -- each sheet is accepted or broken
-pub both-kinds : (judged : List Judged) → length (those accepts judged) + length (those breaks judged) ≡ length judged
+both-kinds : (judged : List Judged) → length (those accepts judged) + length (those breaks judged) ≡ length judged
 unfolding those
 both-kinds [] = refl
 both-kinds (j ∷ judged) = go (accepts j) (both-kinds judged)
@@ -264,28 +228,6 @@ both-kinds (j ∷ judged) = go (accepts j) (both-kinds judged)
         → length (if-else {A = List Judged} b (j ∷ those accepts judged) (those accepts judged)) + length (if-else {A = List Judged} (not b) (j ∷ those breaks judged) (those breaks judged)) ≡ suc (length judged)
     go true e = omega (arith, e)
     go false e = omega (arith, e)
-
-module _ {A : Type 0} (w : ℕ) where
-  -- rows are those of the numbers that they take, whatever stands after them
-  rows-alike : (n : ℕ) (front x y : List A) → length front ≡ n * w → rows w n (front ++ x) ≡ rows w n (front ++ y)
-  unfolding rows
-  rows-alike zero front x y e = refl
-  rows-alike (suc n) front x y e =
-      let m : suc n * w ≡ w + n * w = product-suc n w in
-      let g : w ≤ length front = omega arith in
-      rw (take-append-le w front x g, take-append-le w front y g, drop-append-le w front x g, drop-append-le w front y g)
-      (ap (λ (r : List (List A)). take w front ∷ r) (rows-alike n (drop w front) x y (length-drop w front ∙ omega arith)))
-
-  -- and those after them
-  rows-after : (n k : ℕ) (front x : List A) → length front ≡ n * w → rows w (n + k) (front ++ x) ≡ rows w n (front ++ x) ++ rows w k x
-  unfolding rows
-  rows-after zero k [] x e = ap (λ (i : ℕ). rows w i x) (zero-add k)
-  rows-after zero k (a ∷ front) x e = absurd (omega (arith, zero-mul w))
-  rows-after (suc n) k front x e =
-      let m : suc n * w ≡ w + n * w = product-suc n w in
-      let g : w ≤ length front = omega arith in
-      ap (λ (i : ℕ). rows w i (front ++ x)) (suc-add n k)
-      ∙ rw (drop-append-le w front x g) (ap (λ (r : List (List A)). take w (front ++ x) ∷ r) (rows-after n k (drop w front) x (length-drop w front ∙ omega arith)))
 
 -- the levels kept stay; what was written after them is left or taken
 module _ (w n : ℕ) (levels x : List ℤ) (h : n * w ≤ length levels) where

@@ -121,6 +121,7 @@ fn next_sheet<'a>(
     let kept = m.states * under.index.counts.fluents;
     let outcome = outcome_of(
         store,
+        // An empty supplement changes nothing.
         &input[..0],
         under,
         &input[from..to],

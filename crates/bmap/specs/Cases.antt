@@ -1,5 +1,6 @@
 -- The cases of document 01: those marked with a star in one list, the others in a second; beside them what they leave open, and the
--- sentences of document 02. Two statements, since one may compute only so much.
+-- sentences of document 02. Two statements, since one may compute only so much; that of
+-- the long texts is in `theorems`.
 use Prim.Native.Nat.{ℕ, _+_}
 use mathlib.Core.Path.{_≡_, refl}
 use mathlib.Core.Bool.{false}

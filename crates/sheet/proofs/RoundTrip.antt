@@ -1,14 +1,14 @@
 -- There and back: what is written of the names that were read is the text that was read, and what is read of the lines that
 -- were written is the sheet that was written.
 use Prim.Native.Nat.{ℕ, zero, suc, _+_, _-_, _*_, _/_, _%_, _≤_, _<_}
-use native.Mathlib.Nat.{zero-mul, mul-mod-left, mul-div-cancel}
+use native.Mathlib.Nat.{zero-add, suc-add, zero-mul, mul-mod-left, mul-div-cancel}
 use native.Mathlib.Omega.{arith}
 use mathlib.Core.Path.{_≡_, refl, sym, ap, _∙_}
 use mathlib.Core.Bool.{Bool, true, false}
 use mathlib.Core.List.{List, [], _∷_, _++_, map, append-nil, append-assoc}
 use lib.Dec.{eqb, leb, ltb}
 use lib.ListN.{length, take, drop, replicate, length-append, length-map, length-drop, take-append-drop}
-use lib.Seq.{take-at, drop-at, length-take-le}
+use lib.Seq.{take-at, drop-at, length-take-le, take-append-le, drop-append-le}
 use borrow.Author.Tests.{ltb-true, leb-true, leb-false, eqb-true, eqb-false, lt-ltb, le-leb, eq-eqb}
 use Rattle.bmap.specs.Plain.{flat}
 use Rattle.bmap.specs.Limits.{mostAgents, mostSteps, sheetSize}
@@ -62,6 +62,28 @@ module _ {A : Type 0} where
   unfolding rows
   length-rows width zero s = refl
   length-rows width (suc n) s = ap suc (length-rows width n (drop width s))
+
+module _ {A : Type 0} (w : ℕ) where
+  -- rows are those of the numbers that they take, whatever stands after them
+  pub rows-alike : (n : ℕ) (front x y : List A) → length front ≡ n * w → rows w n (front ++ x) ≡ rows w n (front ++ y)
+  unfolding rows
+  rows-alike zero front x y e = refl
+  rows-alike (suc n) front x y e =
+      let m : suc n * w ≡ w + n * w = product-suc n w in
+      let g : w ≤ length front = omega arith in
+      rw (take-append-le w front x g, take-append-le w front y g, drop-append-le w front x g, drop-append-le w front y g)
+      (ap (λ (r : List (List A)). take w front ∷ r) (rows-alike n (drop w front) x y (length-drop w front ∙ omega arith)))
+
+  -- and those after them
+  pub rows-after : (n k : ℕ) (front x : List A) → length front ≡ n * w → rows w (n + k) (front ++ x) ≡ rows w n (front ++ x) ++ rows w k x
+  unfolding rows
+  rows-after zero k [] x e = ap (λ (i : ℕ). rows w i x) (zero-add k)
+  rows-after zero k (a ∷ front) x e = absurd (omega (arith, zero-mul w))
+  rows-after (suc n) k front x e =
+      let m : suc n * w ≡ w + n * w = product-suc n w in
+      let g : w ≤ length front = omega arith in
+      ap (λ (i : ℕ). rows w i (front ++ x)) (suc-add n k)
+      ∙ rw (drop-append-le w front x g) (ap (λ (r : List (List A)). take w (front ++ x) ∷ r) (rows-after n k (drop w front) x (length-drop w front ∙ omega arith)))
 
 -- ---- the text that was read
 

@@ -27,13 +27,17 @@ acceptedRoom = 8 + 1
 abbrev pub lastRoom : ℕ
 lastRoom = 6 + 3 * numberRoom + 1
 
--- "REFUSED", two numbers, LF
-abbrev pub refusedRoom : ℕ
-refusedRoom = 7 + 2 * numberRoom + 1
+-- a word of so many characters, two numbers, LF
+abbrev pub pairRoom : ℕ → ℕ
+pairRoom word = word + 2 * numberRoom + 1
 
--- "SHEETS", two numbers, LF
+-- "REFUSED" and its two
+abbrev pub refusedRoom : ℕ
+refusedRoom = pairRoom 7
+
+-- "SHEETS" and its two
 abbrev pub sheetsRoom : ℕ
-sheetsRoom = 6 + 2 * numberRoom + 1
+sheetsRoom = pairRoom 6
 
 -- "F" and five numbers, LF
 abbrev pub fluentRoom : ℕ

@@ -11,7 +11,7 @@ ghost use Rattle.bmap.specs.Limits.{mostFluents, mostSteps};
 ghost use Rattle.bmap.specs.Sheet.{rows};
 ghost use Rattle.bmap.specs.Program.{decimal, decimalZ, spaced, lineOf, stateLines, refusedText};
 ghost use Rattle.answer.specs.Put.{Put};
-ghost use Rattle.answer.specs.Room.{numberRoom, levelRoom, stateRoom, statesRoom, acceptedRoom, lastRoom, refusedRoom, sheetsRoom};
+ghost use Rattle.answer.specs.Room.{numberRoom, levelRoom, stateRoom, statesRoom, acceptedRoom, lastRoom, pairRoom, refusedRoom, sheetsRoom};
 ghost use Rattle.answer.specs.Figures.{levelZero};
 
 const SPACE: u8 = 32;
@@ -191,16 +191,25 @@ pub(crate) fn put_broken(
     three + 1
 }
 
+// A line of a word and two numbers.
+fn put_pair(out: &mut [u8], word: &[u8], first: usize, second: usize) -> usize
+    requires { ⌜ pairRoom (length (now word)) ≤ length (now out) ⌝ }
+    ensures { λ r. ⌜ Put (now (out .entry)) 0 (lineOf (now (word .entry)) (decimal first ∷ decimal second ∷ [])) r (now (out .exit)) ⌝ }
+    ensures { λ r. ⌜ r ≤ pairRoom (length (now (word .entry))) ⌝ }
+{
+    let named = put_text(out, 0, word);
+    let one = put_number(out, named, first);
+    let two = put_number(out, one, second);
+    out[two] = LINE_FEED;
+    two + 1
+}
+
 pub(crate) fn put_refused(out: &mut [u8], refusal: usize, line: usize) -> usize
     requires { ⌜ refusedRoom ≤ length (now out) ⌝ }
     ensures { λ r. ⌜ Put (now (out .entry)) 0 (refusedText refusal line) r (now (out .exit)) ⌝ }
     ensures { λ r. ⌜ r ≤ refusedRoom ⌝ }
 {
-    let word = put_text(out, 0, b"REFUSED");
-    let one = put_number(out, word, refusal);
-    let two = put_number(out, one, line);
-    out[two] = LINE_FEED;
-    two + 1
+    put_pair(out, b"REFUSED", refusal, line)
 }
 
 // "a line SHEETS with the count of accepted and of broken sheets"
@@ -209,9 +218,5 @@ pub(crate) fn put_sheets(out: &mut [u8], accepted: usize, broken: usize) -> usiz
     ensures { λ r. ⌜ Put (now (out .entry)) 0 (lineOf (text "SHEETS") (decimal accepted ∷ decimal broken ∷ [])) r (now (out .exit)) ⌝ }
     ensures { λ r. ⌜ r ≤ sheetsRoom ⌝ }
 {
-    let word = put_text(out, 0, b"SHEETS");
-    let one = put_number(out, word, accepted);
-    let end = put_number(out, one, broken);
-    out[end] = LINE_FEED;
-    end + 1
+    put_pair(out, b"SHEETS", accepted, broken)
 }

@@ -1,46 +1,21 @@
 use borrow.Author.Needs.{needs}
-use native.Mathlib.Omega.{arith}
-use mathlib.Core.Path.{_∙_}
-use lib.ListN.{length-set}
 use Rattle.bmap.specs.Plain.{text}
-use Rattle.answer.proofs.PutLaws.{put-length, put-line, words-more}
 use Rattle.answer.proofs.print.put_sheets.Statement.{statement}
 use Rattle.answer.proofs.print.put_sheets.Tie as tie
 
-slice-aggregate-put-text : tie.Need-slice-aggregate-put-text
-slice-aggregate-put-text c = search needs
+slice-aggregate-put-pair : tie.Need-slice-aggregate-put-pair
+slice-aggregate-put-pair c = search needs
 
-put-text-requires : tie.Need-put-text-requires
-put-text-requires c κs = search needs
-
-put-number-requires : tie.Need-put-number-requires
-put-number-requires c κs = search needs
-
-put-number-requires-2 : tie.Need-put-number-requires-2
-put-number-requires-2 c κs = search needs
-
-slice-write-out : tie.Need-slice-write-out
-slice-write-out c = search needs
-
-add-result : tie.Need-add-result
-add-result c = search needs
+put-pair-requires : tie.Need-put-pair-requires
+put-pair-requires c κs = search needs
 
 same-length : tie.Need-same-length
-same-length c = simp length-set (put-length (c .before .before .put-number2 .ensures .0) ∙ put-length (c .before .before .before .before .before .before .put-number .ensures .0) ∙ put-length (c .before .before .before .before .before .before .before .before .before .before .put-text .ensures))
+same-length c = search needs
 
 returns : tie.Need-returns
 unfolding text
-returns c = (put-line (text "SHEETS") _ (c .before .before .before .before .before .before .before .before .before .before .put-text .ensures) (words-more _ _ (c .before .before .before .before .before .before .put-number .ensures .0) (c .before .before .put-number2 .ensures .0)), omega (arith, c .before .before .before .before .before .before .before .before .before .before .put-text .ensures .place))
+returns c = c .before .before .put-pair .ensures
 
 pub put-sheets-spec : {M : Type 1} → statement M
 put-sheets-spec =
-    tie.close
-    (tie.spec
-    slice-aggregate-put-text
-    put-text-requires
-    put-number-requires
-    put-number-requires-2
-    slice-write-out
-    add-result
-    same-length
-    returns)
+    tie.close (tie.spec slice-aggregate-put-pair put-pair-requires same-length returns)

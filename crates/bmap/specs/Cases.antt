@@ -1,16 +1,16 @@
 -- The cases of document 01: those marked with a star in one list, the others in a second; beside them what they leave open, and the
--- sentences of document 02. Two statements, since one may compute only so much; that of
--- the long texts is in `theorems`.
+-- sentences of document 02. Three statements here, since one may compute only so much, and a fourth, of the long texts, in
+-- `theorems`.
 use Prim.Native.Nat.{ℕ, _+_}
 use mathlib.Core.Path.{_≡_, refl}
-use mathlib.Core.Bool.{false}
-use mathlib.Core.List.{List, [], _∷_, _++_}
+use mathlib.Core.Bool.{Bool, false}
+use mathlib.Core.List.{List, [], _∷_, _++_, map}
 use lib.IntN.{ℤ, pos, negsuc}
 use lib.ListN.{length, take, replicate}
 use Rattle.bmap.specs.Plain.{any, all, those, flat, numbers, text}
 use Rattle.bmap.specs.Limits.{beginsSize, reportInput}
 use Rattle.bmap.specs.Number.{Valued, value, no-value, bounded, operate, signedWord}
-use Rattle.bmap.specs.Tree.{fluent, namedE, namedC, allowedE, allowedC}
+use Rattle.bmap.specs.Tree.{Expr, Con, constant, fluent, two, one, reified, compared, joined, negated, always, namedE, namedC, allowedE, allowedC}
 use Rattle.bmap.specs.Meaning.{History, evalE, evalC}
 use Rattle.bmap.specs.Code.{codeOf, parseE, parseC}
 use Rattle.bmap.specs.Line.{linesOf, startsWith, digit, bytes, framed, decode, digitFor, hex, lineFor}
@@ -29,7 +29,15 @@ use Rattle.bmap.specs.Laying.{byNumber, ordered, laid, bytesOf, bothLaid
 use Rattle.bmap.specs.Program.{digitsOf, spaced, stateLines, split, output, lowWater}
 use Rattle.bmap.specs.Report.{sheetBegins, textsOf, lowestOf, highestOf, sumOf, sheetsFrom, report}
 use Rattle.bmap.specs.River.{p, judgedUnder, gives}
-use Rattle.bmap.specs.declared.Operation.the-variants.{Product, Quotient, Remainder}
+use Rattle.bmap.specs.declared.Reason.{Reason}
+use Rattle.bmap.specs.declared.Reason.the-variants.{ZeroDivisor, OutOfRange}
+use Rattle.bmap.specs.declared.Operation.{Operation}
+use Rattle.bmap.specs.declared.Operation.the-variants.{Sum, Difference, Product, Quotient, Remainder}
+use Rattle.bmap.specs.declared.Single.the-variants.{Negation, Absolute}
+use Rattle.bmap.specs.declared.Comparison.{Comparison}
+use Rattle.bmap.specs.declared.Comparison.the-variants.{Equal, Unequal, Less, AtMost, Greater, AtLeast}
+use Rattle.bmap.specs.declared.Junction.{Junction}
+use Rattle.bmap.specs.declared.Junction.the-variants.{And, Or}
 use Rattle.bmap.specs.declared.session.Session.{Session}
 
 -- one case: two things of a type that are to be equal
@@ -67,10 +75,10 @@ starred =
     ∷ sheet (first ∷ first ∷ first ∷ first ∷ first ∷ first ∷ first ∷ []) (gives (300 ∷ 286 ∷ 272 ∷ 258 ∷ 244 ∷ 230 ∷ 216 ∷ []) (broken 2 7 0))
     ∷ number (operate Quotient (negsuc 6) (pos 2)) (value (negsuc 2))
     ∷ number (operate Remainder (negsuc 6) (pos 2)) (value (negsuc 0))
-    ∷ number (operate Quotient (pos 5) (pos 0)) no-value
-    ∷ number (operate Remainder (pos 5) (pos 0)) no-value
+    ∷ number (operate Quotient (pos 5) (pos 0)) (no-value ZeroDivisor)
+    ∷ number (operate Remainder (pos 5) (pos 0)) (no-value ZeroDivisor)
     ∷ number (operate Product (pos 31_622) (pos 31_622)) (value (pos 999_950_884))
-    ∷ number (operate Product (pos 31_623) (pos 31_623)) no-value
+    ∷ number (operate Product (pos 31_623) (pos 31_623)) (no-value OutOfRange)
     ∷ number (evalE (fluent 0 3) rising 0) (value (pos 300))
     ∷ []
 
@@ -602,6 +610,145 @@ longTexts =
     ∷ reports (p ++ emptySheets 40 ++ longLine 60_000 ++ sheetBegins) (text "REFUSED 18 0\n")
     ∷ []
 
+-- K2: 1 by 0, and the first square that has no value, as expressions and in constraints
+abbrev byZero : Expr
+byZero = two Quotient (constant (pos 1)) (constant (pos 0))
+
+abbrev beyond : Expr
+beyond = two Product (constant (pos 31_623)) (constant (pos 31_623))
+
+abbrev isZero : Expr → Con
+isZero x = compared Equal x (constant (pos 0))
+
+-- why an expression, and a constraint, has no value
+abbrev lacks : Reason → Expr → Case
+lacks why x = number (evalE x rising 0) (no-value why)
+
+abbrev undecided : Reason → Con → Case
+undecided why c = record { Of = Valued Bool; left = evalC c rising 0; right = no-value why }
+
+-- the same, under every operation of two expressions, every comparison, "and" and "or"
+abbrev eachLacks : Reason → (Operation → Expr) → Case
+eachLacks why x = record { Of = List (Valued ℤ); left = map (λ o. evalE (x o) rising 0) (Sum ∷ Difference ∷ Product ∷ Quotient ∷ Remainder ∷ []); right = replicate 5 (no-value why) }
+
+abbrev eachUndecided : Reason → (Comparison → Con) → Case
+eachUndecided why c = record { Of = List (Valued Bool); left = map (λ o. evalC (c o) rising 0) (Equal ∷ Unequal ∷ Less ∷ AtMost ∷ Greater ∷ AtLeast ∷ []); right = replicate 6 (no-value why) }
+
+abbrev bothUndecided : Reason → (Junction → Con) → Case
+bothUndecided why c = record { Of = List (Valued Bool); left = map (λ o. evalC (c o) rising 0) (And ∷ Or ∷ []); right = replicate 2 (no-value why) }
+
+abbrev pub troubles : List Case
+troubles =
+    -- "a result beyond the number range": at either end, by each operation that leaves it
+    number (operate Sum (pos 999_999_999) (pos 1)) (value (pos 1_000_000_000))
+    ∷ number (operate Sum (pos 1_000_000_000) (pos 1)) (no-value OutOfRange)
+    ∷ number (operate Difference (negsuc 999_999_998) (pos 1)) (value (negsuc 999_999_999))
+    ∷ number (operate Difference (negsuc 999_999_999) (pos 1)) (no-value OutOfRange)
+    ∷ number (operate Sum (negsuc 999_999_998) (negsuc 0)) (value (negsuc 999_999_999))
+    ∷ number (operate Sum (negsuc 999_999_999) (negsuc 0)) (no-value OutOfRange)
+    ∷ number (operate Difference (pos 999_999_999) (negsuc 0)) (value (pos 1_000_000_000))
+    ∷ number (operate Difference (pos 1_000_000_000) (negsuc 0)) (no-value OutOfRange)
+    ∷ number (operate Product (pos 31_250) (pos 32_000)) (value (pos 1_000_000_000))
+    ∷ number (operate Product (pos 52_579) (pos 19_019)) (no-value OutOfRange)
+    ∷ number (operate Product (negsuc 31_249) (pos 32_000)) (value (negsuc 999_999_999))
+    ∷ number (operate Product (negsuc 52_578) (pos 19_019)) (no-value OutOfRange)
+    -- quotient, negation and absolute value of the lower end stay within it
+    ∷ number (operate Quotient (negsuc 999_999_999) (negsuc 0)) (value (pos 1_000_000_000))
+    ∷ number (evalE (one Negation (constant (negsuc 999_999_999))) rising 0) (value (pos 1_000_000_000))
+    ∷ number (evalE (one Absolute (constant (negsuc 999_999_999))) rising 0) (value (pos 1_000_000_000))
+    -- "A zero divisor": 0 by 0 too
+    ∷ number (operate Quotient (pos 0) (pos 0)) (no-value ZeroDivisor)
+    ∷ number (operate Remainder (pos 0) (pos 0)) (no-value ZeroDivisor)
+    -- "Operands are worked out left to right": both in trouble, each way round
+    ∷ eachLacks ZeroDivisor (λ o. two o byZero beyond)
+    ∷ eachLacks OutOfRange (λ o. two o beyond byZero)
+    -- one of them, "each before its operation": a dividend beyond the range by zero, a trouble times 0
+    ∷ eachLacks ZeroDivisor (λ o. two o byZero (constant (pos 0)))
+    ∷ eachLacks OutOfRange (λ o. two o beyond (constant (pos 0)))
+    ∷ eachLacks ZeroDivisor (λ o. two o (constant (pos 0)) byZero)
+    ∷ eachLacks OutOfRange (λ o. two o (constant (pos 0)) beyond)
+    -- a factor without value, of a product that would be out of range
+    ∷ lacks ZeroDivisor (two Product (constant (pos 31_623)) (two Sum (constant (pos 31_623)) byZero))
+    -- "the first trouble found": below the left operand, however deep, before the right one's
+    ∷ lacks OutOfRange (two Sum (two Sum (constant (pos 1)) beyond) byZero)
+    ∷ lacks ZeroDivisor (two Sum (two Sum (constant (pos 1)) byZero) beyond)
+    ∷ lacks OutOfRange (two Sum (constant (pos 1)) (two Sum beyond byZero))
+    ∷ lacks ZeroDivisor (two Sum (constant (pos 1)) (two Sum byZero beyond))
+    -- under negation and absolute value
+    ∷ lacks ZeroDivisor (one Negation byZero)
+    ∷ lacks OutOfRange (one Negation beyond)
+    ∷ lacks ZeroDivisor (one Absolute byZero)
+    ∷ lacks OutOfRange (one Absolute beyond)
+    -- under code 19
+    ∷ lacks OutOfRange (two Sum (reified (isZero beyond)) byZero)
+    ∷ lacks ZeroDivisor (two Sum (reified (isZero byZero)) beyond)
+    -- under a comparison
+    ∷ eachUndecided ZeroDivisor (λ o. compared o byZero beyond)
+    ∷ eachUndecided OutOfRange (λ o. compared o beyond byZero)
+    ∷ eachUndecided ZeroDivisor (λ o. compared o (constant (pos 0)) byZero)
+    ∷ eachUndecided OutOfRange (λ o. compared o (constant (pos 0)) beyond)
+    -- under "not"
+    ∷ undecided ZeroDivisor (negated (isZero byZero))
+    ∷ undecided OutOfRange (negated (isZero beyond))
+    -- under "and" and "or"
+    ∷ bothUndecided ZeroDivisor (λ o. joined o (isZero byZero) (isZero beyond))
+    ∷ bothUndecided OutOfRange (λ o. joined o (isZero beyond) (isZero byZero))
+    -- a left side that decides hides no reason: "or" after true, "and" after false
+    ∷ bothUndecided ZeroDivisor (λ o. joined o always (isZero byZero))
+    ∷ bothUndecided OutOfRange (λ o. joined o always (isZero beyond))
+    ∷ bothUndecided ZeroDivisor (λ o. joined o (negated always) (isZero byZero))
+    ∷ bothUndecided OutOfRange (λ o. joined o (negated always) (isZero beyond))
+    -- nor does a right side that would decide
+    ∷ bothUndecided ZeroDivisor (λ o. joined o (isZero byZero) always)
+    ∷ bothUndecided OutOfRange (λ o. joined o (isZero beyond) (negated always))
+    -- kind 9 where kind 7 stood, law and states as for kind 7. In A5: entry 1, law 2
+    ∷ prints (text "A10101\nA206000000090001\nA403010001\nA403020001\nA502002A\nA50301282A\nA50C012014107B87107B87100000\nB10102\n") (text "S 0 1\nBROKEN 9 1 2\n")
+    -- before a law that is true, and after one, which is the last read
+    ∷ prints (text "A10101\nA206000000090001\nA403010001\nA50C002014107B87107B87100000\nA502002A\nB10101\n") (text "S 0 1\nBROKEN 9 1 0\n")
+    ∷ prints (text "A10101\nA206000000090001\nA403010001\nA502002A\nA50C002014107B87107B87100000\nB10101\n") (text "S 0 1\nS 1 1\nACCEPTED\n")
+    -- a law that names a fluent known to nobody in the crew is not read
+    ∷ prints (gauge ++ text "A303010004\nA403010003\nA51400262014107B87107B8710000020110100100000\nB103010100\n") (text "S 0 300 1\nBROKEN 2 1 0\n")
+    -- in A6: the constraint, the expression
+    ∷ prints (pool ++ text "A610002014107B87107B871000000010012C\nB1020100\n") (text "S 0 300\nBROKEN 9 1 1\n")
+    ∷ prints (pool ++ text "A60A002A0014107B87107B87\nB1020100\n") (text "S 0 300\nBROKEN 9 1 1\n")
+    ∷ prints (pool ++ text "A60A002A0015100001100000\nB1020100\n") (text "S 0 300\nBROKEN 7 1 1\n")
+    -- the constraint's before the expression's, each way round
+    ∷ prints (pool ++ text "A6140020151000011000001000000014107B87107B87\nB1020100\n") (text "S 0 300\nBROKEN 7 1 1\n")
+    ∷ prints (pool ++ text "A614002014107B87107B871000000015100001100000\nB1020100\n") (text "S 0 300\nBROKEN 9 1 1\n")
+    -- the expression is not read where the constraint is false
+    ∷ prints (pool ++ text "A60B00282A0014107B87107B87\nB1020100\n") (text "S 0 300\nS 1 300\nACCEPTED\n")
+    -- in A7, at step 0 and later: 300 · 300 · 11,111 is in range, 301 · 301 · 11,111 is not, and 1 by the level less 301
+    ∷ prints (pool ++ text "A70B2014107B87107B87100000\nB1020000\n") (text "BROKEN 9 0 1\n")
+    ∷ prints (pool ++ text "A70B2015100001100000100000\nB1020000\n") (text "BROKEN 7 0 1\n")
+    ∷ prints (pool ++ text "A606002A0010012D\nA70F251414110000110000102B67100000\nB1020000\nB1020100\n") (text "S 0 300\nS 1 300\nBROKEN 9 2 2\n")
+    ∷ prints (pool ++ text "A606002A0010012D\nA70F25151000011311000010012D10FFFF\nB1020000\nB1020100\n") (text "S 0 300\nS 1 300\nBROKEN 7 2 2\n")
+    -- in A8
+    ∷ prints (pool ++ text "A80B2014107B87107B87100000\nB1020000\n") (text "S 0 300\nBROKEN 9 1 1\n")
+    -- in A9: states 0 to n
+    ∷ prints (pool ++ text "A90B2014107B87107B87100000\nB1020000\n") (text "S 0 300\nS 1 300\nBROKEN 9 1 1\n")
+    -- of two laws the first that is read, whatever its reason
+    ∷ prints (pool ++ text "A80B2014107B87107B87100000\nA80B2015100001100000100000\nB1020000\n") (text "S 0 300\nBROKEN 9 1 1\n")
+    ∷ prints (pool ++ text "A80B2015100001100000100000\nA80B2014107B87107B87100000\nB1020000\n") (text "S 0 300\nBROKEN 7 1 1\n")
+    -- from their bytes: "or" after true, and code 19
+    ∷ prints (pool ++ text "A80D272A2014107B87107B87100000\nB1020000\n") (text "S 0 300\nBROKEN 9 1 1\n")
+    ∷ prints (pool ++ text "A8182012192014107B87107B8710000015100001100000100000\nB1020000\n") (text "S 0 300\nBROKEN 9 1 1\n")
+    -- laws of an entry that does not occur are not read: A5 (law 0) and A6 (law 2) of entry 1
+    ∷ prints (text "A10101\nA206000000090001\nA403010001\nA403020001\nA50C012014107B87107B87100000\nA502002A\nA60A012A0014107B87107B87\nB10101\n") (text "S 0 1\nS 1 1\nACCEPTED\n")
+    -- "First fault wins": kind 2 of entry 0 and kind 9 in entry 1's law, each way round
+    ∷ prints (text "A10102\nA206000000090001\nA403010001\nA403020002\nA50300282A\nA50C012014107B87107B87100000\nB1020102\n") (text "S 0 1\nBROKEN 2 1 0\n")
+    ∷ prints (text "A10102\nA206000000090001\nA403010001\nA403020002\nA50C002014107B87107B87100000\nA50301282A\nB1020102\n") (text "S 0 1\nBROKEN 9 1 0\n")
+    -- a law that is false and one beyond the range, each way round
+    ∷ prints (pool ++ text "A802282A\nA80B2014107B87107B87100000\nB1020000\n") (text "S 0 300\nBROKEN 3 1 1\n")
+    ∷ prints (pool ++ text "A80B2014107B87107B87100000\nA802282A\nB1020000\n") (text "S 0 300\nBROKEN 9 1 1\n")
+    -- a differing value before an effect beyond the range
+    ∷ prints (pool ++ text "A606002A0010012B\nA606002A0010012C\nA60A002A0014107B87107B87\nB1020100\n") (text "S 0 300\nBROKEN 4 1 2\n")
+    -- under a supplement, and in a report, which counts the sheet as broken
+    ∷ lowPrints (kinds ++ text "AF0D03A82014107B87107B87100000\nB1020100\n") (text "S 0 300\nBROKEN 9 1 3\n")
+    ∷ reports (pool ++ text "A8182012192014107B87107B8710000015100001100000100000\nB000\nB1020000\nB000\n") (text "SHEETS 1 1\nF 0 300 300 300 1\n")
+    -- a session's verdict, and what the levels buffer receives
+    ∷ record { Of = Judgement; left = verdict (record { agents = 1; standing = enter (1 ∷ []) ∷ []; undone = [] }) (161 ∷ 1 ∷ 1 ∷ 162 ∷ 6 ∷ 0 ∷ 0 ∷ 0 ∷ 9 ∷ 0 ∷ 1 ∷ 164 ∷ 3 ∷ 1 ∷ 0 ∷ 1 ∷ 165 ∷ 12 ∷ 0 ∷ 32 ∷ 20 ∷ 16 ∷ 123 ∷ 135 ∷ 16 ∷ 123 ∷ 135 ∷ 16 ∷ 0 ∷ 0 ∷ []) (replicate 2_080 (pos 7)); right = record { answer = got (broken 9 1 0); levels = pos 1 ∷ replicate 2_079 (pos 7) } }
+    ∷ []
+
 abbrev pub AllHold : List Case → Type 0
 AllHold [] = Unit {0}
 AllHold (c ∷ l) = (c .left ≡ c .right) × AllHold l
@@ -613,3 +760,7 @@ shown = ((refl, (refl, (refl, (refl, (refl, (refl, (refl, (refl, (refl, (refl, (
 pub mornings-shown : AllHold mornings
 unfolding p text all flat any numbers bounded signedWord namedE namedC allowedE allowedC evalE evalC codeOf parseE parseC linesOf digit bytes framed decode occursIn knownTo readable maskFits agentsFit fluentFits knowledgeFits entryFits executableIn effectIn mustIn lawIn itemIn inOrder room fresh checked accept complete takenFrom stepOf stepsFrom eachFrom history holds carries placed permits permitted mayOccur sets settled levelAfter stateAfter inRange landed step carried ran judge digitsOf spaced startsWith split output replacementOf supplementFrom lowWater those textsOf sheetsFrom lowestOf highestOf sumOf report
 mornings-shown = (refl, (refl, (refl, (refl, (refl, (refl, (refl, (refl, (refl, (refl, (refl, (refl, (refl, (refl, (refl, (refl, (refl, (refl, (refl, (refl, (refl, (refl, (refl, (refl, (refl, (refl, (refl, (refl, (refl, (refl, (refl, (refl, (refl, (refl, (refl, (refl, (refl, (refl, (refl, (refl, (refl, tt)))))))))))))))))))))))))))))))))))))))))
+
+pub troubles-shown : AllHold troubles
+unfolding text all flat any numbers bounded signedWord namedE namedC allowedE allowedC evalE evalC codeOf parseE parseC linesOf digit bytes framed decode occursIn knownTo readable maskFits agentsFit fluentFits knowledgeFits entryFits executableIn effectIn mustIn lawIn itemIn inOrder room fresh checked accept complete takenFrom stepOf stepsFrom eachFrom history holds carries placed permits permitted mayOccur sets settled levelAfter stateAfter inRange landed step carried ran judge digitsOf spaced startsWith split output replacementOf supplementFrom lowWater those textsOf sheetsFrom lowestOf highestOf sumOf report stateLines inForceFrom replaced replacementIn standsAt frameAt framesFrom domainIn edited replayed standingSheet verdict
+troubles-shown = (refl, (refl, (refl, (refl, (refl, (refl, (refl, (refl, (refl, (refl, (refl, (refl, (refl, (refl, (refl, (refl, (refl, (refl, (refl, (refl, (refl, (refl, (refl, (refl, (refl, (refl, (refl, (refl, (refl, (refl, (refl, (refl, (refl, (refl, (refl, (refl, (refl, (refl, (refl, (refl, (refl, (refl, (refl, (refl, (refl, (refl, (refl, (refl, (refl, (refl, (refl, (refl, (refl, (refl, (refl, (refl, (refl, (refl, (refl, (refl, (refl, (refl, (refl, (refl, (refl, (refl, (refl, (refl, (refl, (refl, (refl, (refl, (refl, (refl, (refl, (refl, (refl, tt)))))))))))))))))))))))))))))))))))))))))))))))))))))))))))))))))))))))))))))

@@ -9,6 +9,8 @@ use lib.ListN.{length, getD}
 use lib.Signed.{leZ}
 use Rattle.bmap.specs.Plain.{both, either, implies, if-else, any, all, numbers}
 use Rattle.bmap.specs.Number.{Valued, value, no-value, with1, same}
+use Rattle.bmap.specs.declared.Reason.{Reason}
+use Rattle.bmap.specs.declared.Reason.the-variants.{ZeroDivisor, OutOfRange}
 use Rattle.bmap.specs.Meaning.{History, evalE, evalC}
 use Rattle.bmap.specs.Domain.{Domain, Fluent, Entry, Law, Scope, static, concurrency, goal, executable, effect, must, Names, State, entryAt, has, occursIn, readable}
 
@@ -33,11 +35,16 @@ abbrev pub unless : ℕ → ℕ → Bool → Pass
 unless kind n true = pass
 unless kind n false = fault kind n
 
+-- K2: "A zero divisor stays kind 7; a result beyond the number range becomes kind 9"
+abbrev pub troubleKind : Reason → ℕ
+troubleKind ZeroDivisor = 7
+troubleKind OutOfRange = 9
+
 module _ {A : Type 0} where
-  -- "A law without a value is kind 7, law, at the place where it is read"
+  -- "A law without a value is kind 7, law, at the place where it is read"; K2: or kind 9, by its reason
   abbrev pub reads : ℕ → Valued A → Checked A
   reads n (value a) = fine a
-  reads n no-value = fault 7 n
+  reads n (no-value why) = fault (troubleKind why) n
 
   -- each of a list with its number, until a fault
   unfoldable pub eachFrom : ℕ → (ℕ → A → Pass) → List A → Pass
@@ -102,7 +109,7 @@ pub record Setting : Type 0 where
   pub level : ℤ
 
 abbrev pub setsIf : ℕ → Valued ℤ → Valued Bool → Valued (Option Setting)
-setsIf f v no-value = no-value
+setsIf f v (no-value why) = no-value why
 setsIf f v (value false) = value none
 setsIf f v (value true) = with1 (λ z. value (some (record { fluent = f; level = z }))) v
 

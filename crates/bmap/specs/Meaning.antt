@@ -14,7 +14,7 @@ pub record History : Type 0 where
 
 -- "Lag t reads state j−t, or state 0 where j−t is negative": the difference of natural numbers stops at 0.
 -- "Code 29 with lag t (0 to 63) looks at step j+1−t and is false before step 1": that step is 1 or later where t ≤ j.
--- "and" and "or" read both sides: with2 asks both for their value.
+-- "and" and "or" read both sides: by with2 a side without value leaves the whole without, whatever the other says.
 unfoldable mutual
   pub evalE : Expr → History → ℕ → Valued ℤ
   evalE (constant z) h j = value z

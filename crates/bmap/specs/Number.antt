@@ -1,4 +1,4 @@
--- Whole numbers with bounds: a value, or none.
+-- Whole numbers with bounds: a value, or why there is none.
 use Prim.Native.Nat.{ℕ, zero, suc, _+_, _*_, _-_, _/_, _%_}
 use mathlib.Core.Bool.{Bool, true, false, not}
 use lib.Dec.{ltb}
@@ -6,6 +6,8 @@ use lib.IntN.{ℤ, pos, negsuc, negℤ, natAbs, _+ℤ_, _-ℤ_, _*ℤ_}
 use lib.Signed.{quotZ, remZ, ltZ, leZ}
 use Rattle.bmap.specs.Plain.{both, if-else}
 use Rattle.bmap.specs.Limits.{mostValue}
+use Rattle.bmap.specs.declared.Reason.{Reason}
+use Rattle.bmap.specs.declared.Reason.the-variants.{ZeroDivisor, OutOfRange}
 use Rattle.bmap.specs.declared.Operation.{Operation}
 use Rattle.bmap.specs.declared.Operation.the-variants.{Sum, Difference, Product, Quotient, Remainder}
 use Rattle.bmap.specs.declared.Single.{Single}
@@ -15,20 +17,22 @@ use Rattle.bmap.specs.declared.Comparison.the-variants.{Equal, Unequal, 
 use Rattle.bmap.specs.declared.Junction.{Junction}
 use Rattle.bmap.specs.declared.Junction.the-variants.{And, Or}
 
+-- K2: "Say why a law had no value"
 pub data Valued (A : Type 0) : Type 0 where
   value : A → Valued A
-  no-value : Valued A
+  no-value : Reason → Valued A
 
--- "Everything built on a part without value has none"
+-- "Everything built on a part without value has none"; K2: "Operands are worked out left to right, each before its operation,
+-- and the first trouble found is the one given": the left one's, else the right one's, else the operation's own
 module _ {A B : Type 0} where
   abbrev pub with1 : (A → Valued B) → Valued A → Valued B
-  with1 f no-value = no-value
+  with1 f (no-value why) = no-value why
   with1 f (value a) = f a
 
 module _ {A B C : Type 0} where
   abbrev pub with2 : (A → B → Valued C) → Valued A → Valued B → Valued C
-  with2 f no-value b = no-value
-  with2 f (value a) no-value = no-value
+  with2 f (no-value why) b = no-value why
+  with2 f (value a) (no-value why) = no-value why
   with2 f (value a) (value b) = f a b
 
 -- "any result outside −1,000,000,000 to 1,000,000,000, gives no value"
@@ -36,11 +40,11 @@ abbrev pub inBounds : ℤ → Bool
 inBounds z = both (leZ (negℤ (pos mostValue)) z) (leZ z (pos mostValue))
 
 unfoldable pub bounded : ℤ → Valued ℤ
-bounded z = if-else (inBounds z) (value z) no-value
+bounded z = if-else (inBounds z) (value z) (no-value OutOfRange)
 
 -- "A zero divisor, or any result outside … gives no value"
 abbrev pub unlessZero : ℤ → Valued ℤ → Valued ℤ
-unlessZero (pos zero) v = no-value
+unlessZero (pos zero) v = no-value ZeroDivisor
 unlessZero (pos (suc n)) v = v
 unlessZero (negsuc n) v = v
 

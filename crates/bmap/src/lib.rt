@@ -1,5 +1,5 @@
-// What every crate names: the operators of the law language, the limits and the kinds of frames (each once), the refusals, a
-// sheet and a session.
+// What every crate names: the operators of the law language and why they give no value, the limits and the kinds of frames
+// (each once), the refusals, a sheet and a session.
 // The definitions themselves are in specs/; nothing stands below this crate, and every other stands on it.
 mod kind;
 mod limits;
@@ -25,6 +25,12 @@ pub use limits::Sheet;
 pub use limits::every_limit;
 pub use refusal::Refusal;
 pub use session::Session;
+
+// Why there is no value: "A zero divisor", or "a result beyond the number range".
+pub enum Reason {
+    ZeroDivisor,
+    OutOfRange,
+}
 
 // Codes 12 to 16: two expressions.
 pub enum Operation {

@@ -13,7 +13,7 @@ use Rattle.judge.specs.declared.judgement.Counted.{Counted}
 use Rattle.judge.specs.declared.verdict.Verdict.{Verdict}
 use Rattle.judge.specs.declared.verdict.Verdict.the-variants.{Accepted, Broken}
 use Rattle.judge.specs.declared.verdict.Fault.{Fault}
-use Rattle.judge.specs.declared.verdict.Fault.the-variants.{Misplaced, Barred, Concurrency, Conflict, Range, Static, NoValue, Goal}
+use Rattle.judge.specs.declared.verdict.Fault.the-variants.{Misplaced, Barred, Concurrency, Conflict, Range, Static, ZeroDivisor, Goal, Beyond}
 use Rattle.desk.specs.Numbers.{verdictNumber, judgedNumber}
 
 pub number-small : (r : Refusal) → numberOf r ≤ 20
@@ -38,15 +38,16 @@ number-small LongInput = omega arith
 number-small TooManySheets = omega arith
 number-small OtherLaw = omega arith
 
-pub kind-small : (f : Fault) → kindOf f ≤ 8
+pub kind-small : (f : Fault) → kindOf f ≤ 9
 kind-small Misplaced = omega arith
 kind-small Barred = omega arith
 kind-small Concurrency = omega arith
 kind-small Conflict = omega arith
 kind-small Range = omega arith
 kind-small Static = omega arith
-kind-small NoValue = omega arith
+kind-small ZeroDivisor = omega arith
 kind-small Goal = omega arith
+kind-small Beyond = omega arith
 
 -- 24 bits: kind, step and number
 pub verdict-small : (v : Verdict) → verdictNumber (verdictOf v) < 2 ^ 24

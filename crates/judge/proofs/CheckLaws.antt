@@ -11,12 +11,13 @@ use lib.Seq.{getD-drop}
 use borrow.Author.Tests.{eq-eqb, ne-eqb, eqb-true}
 use Rattle.bmap.specs.Plain.{either, if-else, any}
 use Rattle.bmap.specs.Number.{Valued, value, no-value}
+use Rattle.bmap.specs.declared.Reason.{Reason}
 use Rattle.bmap.specs.Tree.{Con}
 use Rattle.bmap.specs.Meaning.{History, evalC}
 use Rattle.bmap.specs.Domain.{Domain, Names, Entry, Law, executable, effect, must, Scope, static, concurrency, goal, has, entryAt, occursIn, readable}
 use Rattle.bmap.specs.Payload.{scopeKind}
 use Rattle.bmap.specs.Accept.{countsOf}
-use Rattle.bmap.specs.Judge.{pass, fault, unless, next, reads, placed, carries, sameScope, holds, permits, permitted, mayOccur}
+use Rattle.bmap.specs.Judge.{pass, fault, unless, next, troubleKind, reads, placed, carries, sameScope, holds, permits, permitted, mayOccur}
 use Rattle.index.specs.Index.{lawNumber, noLaw}
 use Rattle.judge.specs.Told.{Belonging, Says, Lawful, Within, Owned, Own, ownerOf, frameOf, conOf, placeOf, asksOf}
 use Rattle.judge.proofs.LoopLaws.{starts, rests}
@@ -160,9 +161,9 @@ module _ (d : Domain) (h : History) (j i : ℕ) where
     unfolding permitted
     permitted-true e = rw e
 
-    pub permitted-blank : permits d h j i l ≡ no-value → permitted d h j i n (l ∷ rest) ≡ fault 7 n
+    pub permitted-blank : (why : Reason) → permits d h j i l ≡ no-value why → permitted d h j i n (l ∷ rest) ≡ fault (troubleKind why) n
     unfolding permitted
-    permitted-blank e = rw e
+    permitted-blank why e = rw e
 
   pub permitted-none : (n : ℕ) → permitted d h j i n [] ≡ fault 2 i
   unfolding permitted

@@ -13,6 +13,8 @@ use borrow.Author.Tests.{le-leb}
 use lib.Dec.{leb}
 use Rattle.bmap.specs.Limits.{mostDepth, mostSteps}
 use Rattle.bmap.specs.Number.{Valued, value, no-value, with1}
+use Rattle.bmap.specs.declared.Reason.{Reason}
+use Rattle.bmap.specs.declared.Reason.the-variants.{ZeroDivisor}
 use Rattle.bmap.specs.Tree.{Expr, Con, allowedE, allowedC}
 use Rattle.bmap.specs.Code.{parseE, parseC}
 use Rattle.bmap.specs.Meaning.{History, evalE, evalC}
@@ -77,13 +79,13 @@ judged-malformed {r} {m} {v} {n} e q w = let z : malformed ≡ gives v n = sym (
 pub setting-given : (f : ℕ) {r : Evaluated} {v : Value} {k : ℕ} {m : Meant (Valued ℤ)} → evaluated r ≡ m → r ≡ value-as.Gives v k → with1 (λ z. value (some (setting f z))) (valuedOf v) ≡ settingFrom f m
 setting-given f {r} {v} {k} e q = ap (settingFrom f) (sym (ap evaluated q) ∙ e)
 
-pub setting-malformed : (f : ℕ) {r : Evaluated} {m : Meant (Valued ℤ)} → evaluated r ≡ m → r ≡ value-as.Malformed → no-value ≡ settingFrom f m
+pub setting-malformed : (f : ℕ) {r : Evaluated} {m : Meant (Valued ℤ)} → evaluated r ≡ m → r ≡ value-as.Malformed → no-value ZeroDivisor ≡ settingFrom f m
 setting-malformed f {r} e q = ap (settingFrom f) (sym (ap evaluated q) ∙ e)
 
 pub setting-number : (f : ℕ) {v : Value} {z : ℤ} → v ≡ number-as.Number z → mag z < 2147483648 → value (some (setting f (toZ w32 (ofZ w32 z)))) ≡ with1 (λ y. value (some (setting f y))) (valuedOf v)
 setting-number f {v} {z} e h = ap (λ (y : ℤ). value (some (setting f y))) (back32 z h) ∙ sym (ap (λ (u : Value). with1 (λ y. value (some (setting f y))) (valuedOf u)) e)
 
-pub setting-blank : (f : ℕ) {v : Value} → v ≡ number-as.NoValue → no-value ≡ with1 (λ y. value (some (setting f y))) (valuedOf v)
+pub setting-blank : (f : ℕ) {v : Value} {why : Reason} → v ≡ number-as.NoValue why → no-value why ≡ with1 (λ y. value (some (setting f y))) (valuedOf v)
 setting-blank f {v} e = sym (ap (λ (u : Value). with1 (λ y. value (some (setting f y))) (valuedOf u)) e)
 
 -- ---- an effect law
@@ -149,11 +151,11 @@ module _ (d : Domain) (held : List ℕ) (p : ℕ) (l : Law) (h : History) (j : �
         rw (le-leb j mostSteps (seen .within), read, ← target) (ap (λ (v : Valued ℤ). with1 (λ z. value (some (setting (e .fluent) z))) v) (expr-seen d true h history j seen (e .expr) (e .expr-fit)))
 
 -- nothing stands past the end
-pub no-value-past : (frame : List ℕ) (at f : ℕ) (history : List ℤ) (j : ℕ) → length frame ≤ at → no-value ≡ settingFrom f (atPosition j (valueAt mostDepth frame (at + 1) history j))
+pub no-value-past : (frame : List ℕ) (at f : ℕ) (history : List ℤ) (j : ℕ) → length frame ≤ at → no-value ZeroDivisor ≡ settingFrom f (atPosition j (valueAt mostDepth frame (at + 1) history j))
 unfolding parseE
 no-value-past frame at f history j h = rw (drop-of-length-le frame {i = at + 1} (omega arith)) (go (leb j mostSteps))
   where
-    go : (b : Bool) → no-value ≡ settingFrom f (if-else b malformed malformed)
+    go : (b : Bool) → no-value ZeroDivisor ≡ settingFrom f (if-else b malformed malformed)
     go true = refl
     go false = refl
 

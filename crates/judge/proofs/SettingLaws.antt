@@ -15,9 +15,10 @@ use mir.Val.{toZ, ofZ}
 use borrow.Author.Tests.{eq-eqb, ne-eqb}
 use Rattle.bmap.specs.Plain.{all}
 use Rattle.bmap.specs.Number.{value, no-value, same}
+use Rattle.bmap.specs.declared.Reason.{Reason}
 use Rattle.bmap.specs.Meaning.{History}
 use Rattle.bmap.specs.Domain.{Domain, Names, Law, executable, effect, must}
-use Rattle.bmap.specs.Judge.{fine, fault, Setting, agrees, sets, settled}
+use Rattle.bmap.specs.Judge.{fine, fault, troubleKind, Setting, agrees, sets, settled}
 use Rattle.index.specs.Index.{noLaw}
 use Rattle.number.proofs.BackLaws.{back32}
 use Rattle.judge.specs.Told.{Says}
@@ -82,9 +83,9 @@ module _ (d : Domain) (h : History) (j : ℕ) (names : Names) where
     here : {y : _} → settled d h j names k done (getD laws k noLaw ∷ drop (suc k) laws) ≡ y → settled d h j names k done (drop k laws) ≡ y
     here e = stops (λ i r. settled d h j names i done r) laws noLaw k p e
 
-    pub settled-blank : sets d h j names (getD laws k noLaw) ≡ no-value → settled d h j names k done (drop k laws) ≡ fault 7 k
+    pub settled-blank : (why : Reason) → sets d h j names (getD laws k noLaw) ≡ no-value why → settled d h j names k done (drop k laws) ≡ fault (troubleKind why) k
     unfolding settled
-    settled-blank e = here (rw e)
+    settled-blank why e = here (rw e)
 
     pub settled-clash : {new : Setting} → sets d h j names (getD laws k noLaw) ≡ value (some new) → all (agrees new) done ≡ false → settled d h j names k done (drop k laws) ≡ fault 4 k
     unfolding settled

@@ -18,7 +18,7 @@ use Rattle.bmap.specs.Verdict.{judgement, sheetJudged}
 use Rattle.bmap.specs.Verdict as call
 use Rattle.bmap.specs.Supplement.{sheetJudgedUnder}
 use Rattle.judge.specs.declared.verdict.Fault.{Fault}
-use Rattle.judge.specs.declared.verdict.Fault.the-variants.{Misplaced, Barred, Concurrency, Conflict, Range, Static, NoValue, Goal}
+use Rattle.judge.specs.declared.verdict.Fault.the-variants.{Misplaced, Barred, Concurrency, Conflict, Range, Static, ZeroDivisor, Goal, Beyond}
 use Rattle.judge.specs.declared.verdict.Verdict.{Verdict}
 use Rattle.judge.specs.declared.verdict.Verdict.the-variants.{Accepted, Broken}
 use Rattle.judge.specs.declared.verdict.Judgement.{Judgement}
@@ -37,8 +37,9 @@ kindOf Concurrency = 3
 kindOf Conflict = 4
 kindOf Range = 5
 kindOf Static = 6
-kindOf NoValue = 7
+kindOf ZeroDivisor = 7
 kindOf Goal = 8
+kindOf Beyond = 9
 
 -- "Accepted, or Broken with kind, step and number"
 abbrev pub verdictOf : Verdict → paper.Verdict
@@ -54,7 +55,7 @@ passOf Passed = pass
 passOf (Failed f n) = fault (kindOf f) n
 
 abbrev pub wantsOf : Wants → Valued (Option Setting)
-wantsOf Blank = no-value
+wantsOf (Blank why) = no-value why
 wantsOf Leaves = value none
 wantsOf (Sets f z) = value (some (record { fluent = f; level = z }))
 

@@ -7,6 +7,7 @@ use lib.ListN.{length, getD}
 use Rattle.bmap.specs.Limits.{mostLaws}
 use mathlib.Core.Option.{Option, some}
 use Rattle.bmap.specs.Number.{Valued, value, no-value, with1}
+use Rattle.bmap.specs.declared.Reason.the-variants.{ZeroDivisor}
 use Rattle.bmap.specs.Judge.{Checked, fine, fault, Setting}
 use Rattle.law.specs.Evaluate.{Meant, malformed, gives}
 use Rattle.judge.specs.Answer.{kindOf}
@@ -16,9 +17,9 @@ use Rattle.judge.specs.declared.effects.Settled.the-variants.{Clash, Cou
 abbrev pub setting : ℕ → ℤ → Setting
 setting f z = record { fluent = f; level = z }
 
--- what an expression sets a fluent to
+-- what an expression sets a fluent to; no expression of an accepted law is malformed
 abbrev pub settingFrom : ℕ → Meant (Valued ℤ) → Valued (Option Setting)
-settingFrom f malformed = no-value
+settingFrom f malformed = no-value ZeroDivisor
 settingFrom f (gives v n) = with1 (λ z. value (some (setting f z))) v
 
 -- two arrays with room for a setting of each law

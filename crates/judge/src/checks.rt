@@ -20,6 +20,7 @@ use crate::reading::Run;
 use crate::reading::constraint_of;
 use crate::verdict::Check;
 use crate::verdict::Fault;
+use crate::verdict::fault_of;
 use bmap::Counts;
 use bmap::FRAME;
 use law::HELD;
@@ -80,8 +81,8 @@ fn check_entry(
     let mut l = run.from;
     while l < to {
         match try_law(held, owners, history, j, i, l) {
-            Truth::NoTruth => {
-                return Check::Failed(Fault::NoValue, l);
+            Truth::NoTruth(why) => {
+                return Check::Failed(fault_of(why), l);
             }
             Truth::Is(allowed) => {
                 if allowed {
@@ -142,7 +143,7 @@ fn check_law(
         return Check::Passed;
     }
     match constraint_of(held, at + 2, history, j) {
-        Truth::NoTruth => Check::Failed(Fault::NoValue, l),
+        Truth::NoTruth(why) => Check::Failed(fault_of(why), l),
         Truth::Is(met) => {
             if met {
                 return Check::Passed;

@@ -20,6 +20,7 @@ use crate::reading::Wants;
 use crate::reading::wanted;
 use crate::verdict::Check;
 use crate::verdict::Fault;
+use crate::verdict::fault_of;
 use bmap::Counts;
 use bmap::FRAME;
 use law::HELD;
@@ -62,8 +63,8 @@ fn settle(
     let mut l = run.from;
     'laws: while l < to {
         match wanted(held, FRAME * l, entries, history, j) {
-            Wants::Blank => {
-                return Settled::Clash(Fault::NoValue, l);
+            Wants::Blank(why) => {
+                return Settled::Clash(fault_of(why), l);
             }
             Wants::Sets(f, v) => {
                 let mut i = m;

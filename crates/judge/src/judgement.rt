@@ -127,7 +127,7 @@ pub fn judge(store: &[u8], sheet: &[u8], levels: &mut [i16]) -> Judgement
     counted.judgement
 }
 
-// The same, with the number of states written: kind 7 at step n leaves n or n + 1 of them.
+// The same, with the number of states written: kind 7 or 9 at step n leaves n or n + 1 of them.
 pub fn judge_counted(store: &[u8], sheet: &[u8], levels: &mut [i16]) -> Counted
     ensures { λ r. ⌜ (record { answer = answerOf (r .judgement); levels = now (levels .exit) } ≡ judgeSheet (now (store .entry)) (now (sheet .entry)) (now (levels .entry)))
         × (r .states ≡ statesWritten (now (store .entry)) (now (sheet .entry)) (now (levels .entry))) ⌝ }

@@ -19,6 +19,7 @@ use crate::knowledge::first_own;
 use bmap::Counts;
 use bmap::FRAME;
 use bmap::Kind;
+use bmap::Reason;
 use law::Evaluated;
 use law::HELD;
 use law::HISTORY;
@@ -26,7 +27,8 @@ use law::Judged;
 use number::Truth;
 use number::Value;
 
-// What the constraint of a law gives at position j. It stands after kind and count, and after the entry if there is one.
+// What the constraint of a law gives at position j. It stands after kind and count, and after the entry if there is one. No
+// accepted law is malformed: that it would then be a zero divisor, here and below, is said of none.
 pub(crate) fn constraint_of(
     held: &[u8; HELD],
     at: usize,
@@ -37,13 +39,13 @@ pub(crate) fn constraint_of(
 {
     match law::constraint_at(held, at, history, j) {
         Judged::Gives(truth, _) => truth,
-        Judged::Malformed => Truth::NoTruth,
+        Judged::Malformed => Truth::NoTruth(Reason::ZeroDivisor),
     }
 }
 
-// What a law wants set: a fluent and its new level.
+// What a law wants set: a fluent and its new level; or why it has no value.
 pub enum Wants {
-    Blank,
+    Blank(Reason),
     Leaves,
     Sets(u8, i32),
 }
@@ -53,15 +55,15 @@ fn setting_at(held: &[u8; HELD], at: usize, history: &[i16; HISTORY], j: usize) 
     ensures { λ r. ⌜ (length (now (held .entry)) ≡ heldSize → wantsOf r ≡ settingFrom (getD (now (held .entry)) at 0) (atPosition j (valueAt mostDepth (now (held .entry)) (at + 1) (now (history .entry)) j))) ⌝ }
 {
     if HELD <= at {
-        return Wants::Blank;
+        return Wants::Blank(Reason::ZeroDivisor);
     }
     let f = held[at];
     let Evaluated::Gives(value, _) = law::expression_at(held, at + 1, history, j) else {
-        return Wants::Blank;
+        return Wants::Blank(Reason::ZeroDivisor);
     };
     match value {
         Value::Number(z) => Wants::Sets(f, z),
-        Value::NoValue => Wants::Blank,
+        Value::NoValue(why) => Wants::Blank(why),
     }
 }
 
@@ -83,15 +85,17 @@ pub(crate) fn wanted(
         return Wants::Leaves;
     }
     let Judged::Gives(truth, end) = law::constraint_at(held, at + 3, history, j) else {
-        return Wants::Blank;
+        return Wants::Blank(Reason::ZeroDivisor);
     };
-    let Truth::Is(met) = truth else {
-        return Wants::Blank;
-    };
-    if met {
-        return setting_at(held, end, history, j);
+    match truth {
+        Truth::NoTruth(why) => Wants::Blank(why),
+        Truth::Is(met) => {
+            if met {
+                return setting_at(held, end, history, j);
+            }
+            Wants::Leaves
+        }
     }
-    Wants::Leaves
 }
 
 // The kinds never decrease from law to law, so the laws of a kind stand together, in a run of law numbers.

@@ -1,6 +1,8 @@
 // What a judgement answers; `kindOf` and `verdictOf` in specs/ give the paper's numbers.
+use bmap::Reason;
 use bmap::Refusal;
 ghost use mathlib.Core.Path.{_≡_};
+ghost use Rattle.bmap.specs.Judge.{troubleKind};
 ghost use Rattle.judge.specs.Answer.{kindOf};
 
 // What is at fault.
@@ -17,10 +19,12 @@ pub enum Fault {
     Range,
     // 6: a static law is false
     Static,
-    // 7: a law has no value
-    NoValue,
+    // 7: a law has no value: a zero divisor
+    ZeroDivisor,
     // 8: a goal law is false
     Goal,
+    // 9: a law has no value: a result beyond the number range
+    Beyond,
 }
 
 impl Fault {
@@ -34,9 +38,20 @@ impl Fault {
             Fault::Conflict => 4,
             Fault::Range => 5,
             Fault::Static => 6,
-            Fault::NoValue => 7,
+            Fault::ZeroDivisor => 7,
             Fault::Goal => 8,
+            Fault::Beyond => 9,
         }
+    }
+}
+
+// "A zero divisor stays kind 7; a result beyond the number range becomes kind 9."
+pub(crate) fn fault_of(why: Reason) -> Fault
+    ensures { λ r. ⌜ kindOf r ≡ troubleKind why ⌝ }
+{
+    match why {
+        Reason::ZeroDivisor => Fault::ZeroDivisor,
+        Reason::OutOfRange => Fault::Beyond,
     }
 }
 

@@ -12,8 +12,10 @@ use lib.Dec.{T}
 use lib.IntN.{ℤ, pos, negsuc, natAbs, _+ℤ_, _-ℤ_}
 use lib.Signed.{nonNeg}
 use Rattle.bmap.specs.Number.{value, no-value}
+use Rattle.bmap.specs.declared.Reason.{Reason}
+use Rattle.bmap.specs.declared.Reason.the-variants.{ZeroDivisor, OutOfRange}
 use Rattle.law.specs.Evaluate.{malformed, gives}
-use Rattle.law.specs.Packed.{room, half, endIn, bitsIn, placed}
+use Rattle.law.specs.Packed.{room, half, endIn, reasonAt, reasonBits, bitsIn, placed}
 
 -- no tree ends at 0
 module _ {A : Type 0} (v : A) where
@@ -32,22 +34,42 @@ module _ {A : Type 0} (v : A) {e n : ℕ} (is : e ≡ n) where
   pub ends-there : (e ≡ 0 → ⊥) → gives v e ≡ placed v n
   ends-there h = ap (gives v) is ∙ there v n (λ z. h (is ∙ z))
 
+-- a reason and its bits
+module _ {n : ℕ} where
+  pub out-of-range : n ≡ 1 → OutOfRange ≡ reasonAt n
+  out-of-range e = rw (eq-eqb n 1 e)
+
+  pub zero-divisor : (n ≡ 1 → ⊥) → ZeroDivisor ≡ reasonAt n
+  zero-divisor e = rw (ne-eqb n 1 e)
+
+reason-back : (why : Reason) → reasonAt (reasonBits why) ≡ why
+reason-back ZeroDivisor = refl
+reason-back OutOfRange = refl
+
+reason-small : (why : Reason) → reasonBits why < 2
+reason-small ZeroDivisor = omega arith
+reason-small OutOfRange = omega arith
+
 -- what 32 bits say
 module _ {A : Type 0} (f : ℕ → A) (r : ℕ) where
-  pub without : r / room % 2 ≡ 0 → no-value ≡ bitsIn f r
-  without e = rw (eq-eqb (r / room % 2) 0 e)
+  pub without : {why : Reason} → r / room % 2 ≡ 0 → why ≡ reasonAt (r % room) → no-value why ≡ bitsIn f r
+  without e q = rw (eq-eqb (r / room % 2) 0 e, q)
 
   pub within : (r / room % 2 ≡ 0 → ⊥) → value (f (r % room)) ≡ bitsIn f r
   within e = rw (ne-eqb (r / room % 2) 0 e)
 
+pub none-fits : (end : ℕ) (why : Reason) {low : ℕ} → end < half → low ≡ reasonBits why → Fits w64 (end * 2 * room + low)
+none-fits end why h e = fits-of-lt (omega (arith, reason-small why))
+
 -- the place and the bits, in one word
 module _ {A : Type 0} (f : ℕ → A) (end : ℕ) (some : 1 ≤ end) where
-  pub packed-none : placed (bitsIn f (end * 2 * room)) (endIn (end * 2 * room)) ≡ gives no-value end
-  packed-none =
-      let top : end * 2 * room / room ≡ end * 2 = omega arith in
+  pub packed-none : (why : Reason) {low : ℕ} → low ≡ reasonBits why → placed (bitsIn f (end * 2 * room + low)) (endIn (end * 2 * room + low)) ≡ gives (no-value why) end
+  packed-none why {low} e =
+      let top : (end * 2 * room + low) / room ≡ end * 2 = omega (arith, reason-small why) in
+      let bits : (end * 2 * room + low) % room ≡ low = omega (arith, reason-small why) in
       let even : end * 2 % 2 ≡ 0 = omega arith in
       let place : end * 2 / 2 ≡ end = omega arith in
-      rw (top, even, place) (sym (there no-value end (λ e. omega arith)))
+      rw (top, bits, even, place, e, reason-back why) (sym (there (no-value why) end (λ e. omega arith)))
 
   pub packed-some : (low : ℕ) → low < room → placed (bitsIn f ((end * 2 + 1) * room + low)) (endIn ((end * 2 + 1) * room + low)) ≡ gives (value (f low)) end
   packed-some low h =

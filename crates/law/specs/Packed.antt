@@ -1,10 +1,12 @@
--- An answer in one word: the place just after the tree, whether there is a value, and 32 bits of it.
+-- An answer in one word: the place just after the tree, whether there is a value, and 32 bits of it, or of why there is none.
 use Prim.Native.Nat.{ℕ, zero, suc, _/_, _%_}
 use mathlib.Core.Bool.{Bool}
 use lib.Dec.{eqb}
 use lib.IntN.{ℤ, pos, _-ℤ_}
 use Rattle.bmap.specs.Plain.{if-else}
 use Rattle.bmap.specs.Number.{Valued, value, no-value}
+use Rattle.bmap.specs.declared.Reason.{Reason}
+use Rattle.bmap.specs.declared.Reason.the-variants.{ZeroDivisor, OutOfRange}
 use Rattle.law.specs.Evaluate.{Meant, malformed, gives}
 
 -- 2 to the 32, and half of it
@@ -17,8 +19,16 @@ half = 2_147_483_648
 abbrev pub endIn : ℕ → ℕ
 endIn r = r / room / 2
 
+-- the bits of a reason, and the reason of some bits
+abbrev pub reasonBits : Reason → ℕ
+reasonBits ZeroDivisor = 0
+reasonBits OutOfRange = 1
+
+abbrev pub reasonAt : ℕ → Reason
+reasonAt n = if-else (eqb n 1) OutOfRange ZeroDivisor
+
 abbrev pub bitsIn : {A : Type 0} → (ℕ → A) → ℕ → Valued A
-bitsIn f r = if-else (eqb (r / room % 2) 0) no-value (value (f (r % room)))
+bitsIn f r = if-else (eqb (r / room % 2) 0) (no-value (reasonAt (r % room))) (value (f (r % room)))
 
 unfoldable pub valueIn : ℕ → Valued ℤ
 valueIn r = bitsIn (λ n. pos n -ℤ pos half) r

@@ -15,6 +15,8 @@ use mir.Facts.{sfits-widen, toZ-ofZ, toZ-pos, fits-natAbs}
 use Rattle.bmap.specs.Plain.{both}
 use Rattle.bmap.proofs.PlainLaws.{both-true}
 use Rattle.bmap.specs.Number.{Valued, value, no-value, with1, with2, bounded, unlessZero, operate, change, same, compare, flag, signedWord, bytesOf, bits}
+use Rattle.bmap.specs.declared.Reason.{Reason}
+use Rattle.bmap.specs.declared.Reason.the-variants.{ZeroDivisor, OutOfRange}
 use Rattle.bmap.specs.declared.Operation.{Operation}
 use Rattle.bmap.specs.declared.Operation.the-variants.{Sum, Difference, Product, Quotient, Remainder}
 use Rattle.bmap.specs.declared.Single.{Single}
@@ -22,9 +24,9 @@ use Rattle.bmap.specs.declared.Single.the-variants.{Negation, Absolute}
 use Rattle.bmap.specs.declared.Comparison.{Comparison}
 use Rattle.bmap.specs.declared.Comparison.the-variants.{Equal, Unequal, Less, AtMost, Greater, AtLeast}
 use Rattle.number.specs.declared.Value.{Value}
-use Rattle.number.specs.declared.Value.the-variants.{Number}
+use Rattle.number.specs.declared.Value.the-variants.{Number, NoValue}
 use Rattle.number.specs.declared.Truth.{Truth}
-use Rattle.number.specs.declared.Truth.the-variants.{Is}
+use Rattle.number.specs.declared.Truth.the-variants.{Is, NoTruth}
 use Rattle.number.specs.Answer.{valuedOf, truthOf}
 
 -- ---- the size of a result
@@ -82,7 +84,7 @@ kept-is e f h = e ∙ ap bounded (toZ-ofZ f ∙ h)
 
 -- ---- a number tested against zero: a divisor by its bits, a sign by what is read back
 
-zero-divisor : {y : ℤ} (v : Valued ℤ) → SFits w32 y → ofZ w64 (back w32 y) ≡ 0 → no-value ≡ unlessZero y v
+zero-divisor : {y : ℤ} (v : Valued ℤ) → SFits w32 y → ofZ w64 (back w32 y) ≡ 0 → no-value ZeroDivisor ≡ unlessZero y v
 zero-divisor {y = pos zero} v f e = refl
 zero-divisor {y = pos (suc n)} v f e = let h : suc n ≡ 0 = rw (toZ-ofZ f) at e in absurd (omega arith)
 zero-divisor {y = negsuc n} v f e = let h : 2 ^ 64 - suc n ≡ 0 = rw (toZ-ofZ f) at e in absurd (omega (arith, f .sfits))
@@ -135,10 +137,10 @@ module _ {x y : ℤ} (f : SFits w32 x) (g : SFits w32 y) where
     remainder-is p h e = rw p (divisor y (rw (toZ-ofZ g) at h) (kept-is e remainder-fits (rw (wide-is f, wide-is g))))
 
 module _ {op : Operation} (x : ℤ) {y : ℤ} (g : SFits w32 y) (h : ofZ w64 (back w32 y) ≡ 0) where
-  pub zero-quotient : op ≡ Quotient → no-value ≡ operate op x y
+  pub zero-quotient : op ≡ Quotient → no-value ZeroDivisor ≡ operate op x y
   zero-quotient p = rw p (zero-divisor (bounded (quotZ x y)) g h)
 
-  pub zero-remainder : op ≡ Remainder → no-value ≡ operate op x y
+  pub zero-remainder : op ≡ Remainder → no-value ZeroDivisor ≡ operate op x y
   zero-remainder p = rw p (zero-divisor (bounded (remZ x y)) g h)
 
 -- ---- an operator on one
@@ -196,15 +198,24 @@ module _ {op : Comparison} {x y : ℤ} (f : SFits w32 x) (g : SFits w32 y) where
   pub at-least-is : op ≡ AtLeast → leZ (back w32 y) (back w32 x) ≡ compare op x y
   at-least-is p = rw (p, toZ-ofZ f, toZ-ofZ g)
 
--- ---- no value spreads: an arm of a `match` on one part or two returns what the definition says
+-- ---- no value spreads with its reason: an arm of a `match` on one part or two returns what the definition says
 
-module _ {A B : Type 0} (f : A → Valued B) {u : Valued A} {r : Valued B} where
-  pub one-part : {x : A} → u ≡ value x → r ≡ f x → r ≡ with1 f u
+module _ {A B : Type 0} (f : A → Valued B) {u : Valued A} where
+  pub one-part : {x : A} {r : Valued B} → u ≡ value x → r ≡ f x → r ≡ with1 f u
   one-part p e = rw p e
 
-module _ {A B C : Type 0} (f : A → B → Valued C) {u : Valued A} {v : Valued B} {r : Valued C} where
-  pub two-parts : {x : A} {y : B} → u ≡ value x → v ≡ value y → r ≡ f x y → r ≡ with2 f u v
+  pub no-part : {why : Reason} → u ≡ no-value why → no-value why ≡ with1 f u
+  no-part p = rw p
+
+module _ {A B C : Type 0} (f : A → B → Valued C) {u : Valued A} where
+  pub two-parts : {v : Valued B} {x : A} {y : B} {r : Valued C} → u ≡ value x → v ≡ value y → r ≡ f x y → r ≡ with2 f u v
   two-parts p q e = rw (p, q) e
+
+  pub no-left : (v : Valued B) {why : Reason} → u ≡ no-value why → no-value why ≡ with2 f u v
+  no-left v p = rw p
+
+  pub no-right : {v : Valued B} {x : A} {why : Reason} → u ≡ value x → v ≡ no-value why → no-value why ≡ with2 f u v
+  no-right p q = rw (p, q)
 
 pub value-is : {A : Type 0} {x y : A} → x ≡ y → value x ≡ value y
 value-is e = ap value e
@@ -221,6 +232,12 @@ a-number p = ap valuedOf p
 pub a-truth : {a : Truth} {x : Bool} → a ≡ Is x → truthOf a ≡ value x
 a-truth p = ap truthOf p
 
+pub no-number : {a : Value} {why : Reason} → a ≡ NoValue why → valuedOf a ≡ no-value why
+no-number p = ap valuedOf p
+
+pub no-truth : {a : Truth} {why : Reason} → a ≡ NoTruth why → truthOf a ≡ no-value why
+no-truth p = ap truthOf p
+
 -- ---- the bounds: two tests, and what passes both fits 32 bits
 
 -- a number between two bounds fits a width that holds both
@@ -233,11 +250,11 @@ module _ {z : ℤ} (f : SFits w64 z) where
   unfolding bounded
   inside p q = rw (toZ-ofZ (within w32 999_999_999 1_000_000_000 (back w64 z) p q tt tt)) (rw (toZ-ofZ f) (simp (rw (toZ-ofZ f) at p, rw (toZ-ofZ f) at q)))
 
-  pub under : leZ (negsuc 999_999_999) (back w64 z) ≡ false → no-value ≡ bounded z
+  pub under : leZ (negsuc 999_999_999) (back w64 z) ≡ false → no-value OutOfRange ≡ bounded z
   unfolding bounded
   under p = simp (rw (toZ-ofZ f) at p)
 
-  pub over : leZ (negsuc 999_999_999) (back w64 z) ≡ true → leZ (back w64 z) (pos 1_000_000_000) ≡ false → no-value ≡ bounded z
+  pub over : leZ (negsuc 999_999_999) (back w64 z) ≡ true → leZ (back w64 z) (pos 1_000_000_000) ≡ false → no-value OutOfRange ≡ bounded z
   unfolding bounded
   over p q = simp (rw (toZ-ofZ f) at p, rw (toZ-ofZ f) at q)
 
@@ -318,7 +335,7 @@ pub ruleset operators = (wide-fits, sum-fits, difference-fits, product-fits, quo
 
 pub ruleset comparisons = (equal-is, unequal-is, less-is, at-most-is, greater-is, at-least-is)
 
-pub ruleset parts = (one-part, two-parts, value-is, true-is-one, false-is-zero, a-number, a-truth)
+pub ruleset parts = (one-part, no-part, two-parts, no-left, no-right, value-is, true-is-one, false-is-zero, a-number, a-truth, no-number, no-truth)
 
 pub ruleset bounds = (within, inside, under, over)
 

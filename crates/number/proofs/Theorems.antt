@@ -10,6 +10,7 @@ use lib.Signed.{mag}
 use borrow.Author.Tests.{lt-ltb, le-ltb}
 use Rattle.bmap.specs.Plain.{if-else}
 use Rattle.bmap.specs.Number.{value, no-value, bounded, operate, word, signed, signedWord, bits, bytesOf}
+use Rattle.bmap.specs.declared.Reason.the-variants.{OutOfRange}
 use Rattle.bmap.specs.declared.Operation.the-variants.{Sum}
 use Rattle.number.specs.declared.Value.{Value}
 use Rattle.number.specs.declared.Value.the-variants.{Number, NoValue}
@@ -45,15 +46,15 @@ bytes-back hi lo p q =
 
 pub same-value : (a b : Value) → valuedOf a ≡ valuedOf b → a ≡ b
 same-value (Number x) (Number y) e = cc
-same-value (Number x) NoValue e = cc
-same-value NoValue (Number y) e = cc
-same-value NoValue NoValue e = refl
+same-value (Number x) (NoValue w) e = cc
+same-value (NoValue v) (Number y) e = cc
+same-value (NoValue v) (NoValue w) e = cc
 
 pub same-truth : (a b : Truth) → truthOf a ≡ truthOf b → a ≡ b
 same-truth (Is x) (Is y) e = cc
-same-truth (Is x) NoTruth e = cc
-same-truth NoTruth (Is y) e = cc
-same-truth NoTruth NoTruth e = refl
+same-truth (Is x) (NoTruth w) e = cc
+same-truth (NoTruth v) (Is y) e = cc
+same-truth (NoTruth v) (NoTruth w) e = cc
 
 -- ---- cases: the definitions compute, at the bound and for the least word
 
@@ -61,7 +62,7 @@ at-the-bound : operate Sum (pos 999_999_999) (pos 1) ≡ value (pos 1_000_000_00
 unfolding bounded
 at-the-bound = refl
 
-past-the-bound : operate Sum (pos 1_000_000_000) (pos 1) ≡ no-value
+past-the-bound : operate Sum (pos 1_000_000_000) (pos 1) ≡ no-value OutOfRange
 unfolding bounded
 past-the-bound = refl
 

@@ -9,8 +9,8 @@ use Rattle.number.specs.declared.Truth.the-variants.{Is, NoTruth}
 
 abbrev pub valuedOf : Value → Valued ℤ
 valuedOf (Number z) = value z
-valuedOf NoValue = no-value
+valuedOf (NoValue why) = no-value why
 
 abbrev pub truthOf : Truth → Valued Bool
 truthOf (Is b) = value b
-truthOf NoTruth = no-value
+truthOf (NoTruth why) = no-value why

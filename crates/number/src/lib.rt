@@ -1,5 +1,6 @@
 // The operators of the law language on numbers and truths that may have no value, and the two bytes of a value.
-// "Everything built on a part without value has none": each function answers for all its arguments, and asks nothing.
+// "Everything built on a part without value has none", and "the first trouble found is the one given": the left part's, else
+// the right one's, else the operator's own. Each function answers for all its arguments, and asks nothing.
 // `law` stands on it for its operators, `domain`, `judge`, `answer` and `river_cases` for values and their bytes.
 ghost use mathlib.Core.Bool.{not};
 ghost use mathlib.Core.Path.{_≡_};
@@ -12,18 +13,19 @@ ghost use Rattle.number.specs.Answer.{valuedOf, truthOf};
 use bmap::Comparison;
 use bmap::Junction;
 use bmap::Operation;
+use bmap::Reason;
 use bmap::Single;
 
-// What an expression gives.
+// What an expression gives, or why it gives nothing.
 pub enum Value {
     Number(i32),
-    NoValue,
+    NoValue(Reason),
 }
 
-// What a constraint gives.
+// What a constraint gives, or why it gives nothing.
 pub enum Truth {
     Is(bool),
-    NoTruth,
+    NoTruth(Reason),
 }
 
 impl Value {
@@ -42,7 +44,7 @@ fn kept(z: i64) -> Value
             return Value::Number(z as i32);
         }
     }
-    Value::NoValue
+    Value::NoValue(Reason::OutOfRange)
 }
 
 // "Quotient truncates toward zero; the remainder has the dividend's sign": so do `/` and `%`.
@@ -57,13 +59,13 @@ fn operated(op: Operation, x: i32, y: i32) -> Value
         Operation::Product => kept(p * q),
         Operation::Quotient => {
             if q == 0 {
-                return Value::NoValue;
+                return Value::NoValue(Reason::ZeroDivisor);
             }
             kept(p / q)
         }
         Operation::Remainder => {
             if q == 0 {
-                return Value::NoValue;
+                return Value::NoValue(Reason::ZeroDivisor);
             }
             kept(p % q)
         }
@@ -76,9 +78,9 @@ pub fn operate(op: Operation, a: Value, b: Value) -> Value
     match a {
         Value::Number(x) => match b {
             Value::Number(y) => operated(op, x, y),
-            Value::NoValue => Value::NoValue,
+            Value::NoValue(why) => Value::NoValue(why),
         },
-        Value::NoValue => Value::NoValue,
+        Value::NoValue(why) => Value::NoValue(why),
     }
 }
 
@@ -133,7 +135,7 @@ pub fn change(op: Single, a: Value) -> Value
 {
     match a {
         Value::Number(x) => changed(op, x),
-        Value::NoValue => Value::NoValue,
+        Value::NoValue(why) => Value::NoValue(why),
     }
 }
 
@@ -168,9 +170,9 @@ pub fn compare(op: Comparison, a: Value, b: Value) -> Truth
     match a {
         Value::Number(x) => match b {
             Value::Number(y) => Truth::Is(compared(op, x, y)),
-            Value::NoValue => Truth::NoTruth,
+            Value::NoValue(why) => Truth::NoTruth(why),
         },
-        Value::NoValue => Truth::NoTruth,
+        Value::NoValue(why) => Truth::NoTruth(why),
     }
 }
 
@@ -226,9 +228,9 @@ pub fn join(op: Junction, a: Truth, b: Truth) -> Truth
     match a {
         Truth::Is(x) => match b {
             Truth::Is(y) => Truth::Is(joined(op, x, y)),
-            Truth::NoTruth => Truth::NoTruth,
+            Truth::NoTruth(why) => Truth::NoTruth(why),
         },
-        Truth::NoTruth => Truth::NoTruth,
+        Truth::NoTruth(why) => Truth::NoTruth(why),
     }
 }
 
@@ -237,7 +239,7 @@ pub fn negate(t: Truth) -> Truth
 {
     match t {
         Truth::Is(x) => Truth::Is(!x),
-        Truth::NoTruth => Truth::NoTruth,
+        Truth::NoTruth(why) => Truth::NoTruth(why),
     }
 }
 
@@ -252,7 +254,7 @@ pub fn reified(t: Truth) -> Value
             }
             Value::Number(0)
         }
-        Truth::NoTruth => Value::NoValue,
+        Truth::NoTruth(why) => Value::NoValue(why),
     }
 }
 

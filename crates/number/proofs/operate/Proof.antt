@@ -11,11 +11,11 @@ enum-known-b c = search signed
 operated-requires : tie.Need-operated-requires
 operated-requires c κs = search signed
 
-enum-told : tie.Need-enum-told
-enum-told c = search signed
+enum-known-b-2 : tie.Need-enum-known-b-2
+enum-known-b-2 c = search signed
 
-enum-told-2 : tie.Need-enum-told-2
-enum-told-2 c = search signed
+enum-known-a-2 : tie.Need-enum-known-a-2
+enum-known-a-2 c = search signed
 
 returns : tie.Need-returns
 returns c = search signed
@@ -33,8 +33,8 @@ operate-spec =
     enum-known-a
     enum-known-b
     operated-requires
-    enum-told
-    enum-told-2
+    enum-known-b-2
+    enum-known-a-2
     returns
     returns-2
     returns-3)

@@ -8,8 +8,8 @@ enum-known-t c = search signed
 returns : tie.Need-returns
 returns c = search signed
 
-enum-told : tie.Need-enum-told
-enum-told c = search signed
+enum-known-t-2 : tie.Need-enum-known-t-2
+enum-known-t-2 c = search signed
 
 returns-2 : tie.Need-returns-2
 returns-2 c = search signed
@@ -18,4 +18,4 @@ returns-3 : tie.Need-returns-3
 returns-3 c = search signed
 
 pub reified-spec : {M : Type 1} → statement M
-reified-spec = tie.close (tie.spec enum-known-t returns enum-told returns-2 returns-3)
+reified-spec = tie.close (tie.spec enum-known-t returns enum-known-t-2 returns-2 returns-3)

@@ -1,14 +1,14 @@
-use Prim.Native.Nat.{ℕ, _-_}
+use Prim.Native.Nat.{ℕ, _-_, _<_}
 use mathlib.Core.Path.{_≡_, sym, ap, _∙_}
-use mathlib.Core.Bool.{true}
 use native.Mathlib.Omega.{arith}
 use borrow.Author.Needs.{needs}
-use lib.ListN.{drop}
+use mathlib.Core.Bool.{Bool, true}
+use lib.ListN.{length, drop}
 use Rattle.bmap.specs.Domain.{Domain}
 use Rattle.bmap.specs.Meaning.{History}
-use Rattle.bmap.specs.Number.{value}
-use Rattle.bmap.specs.Judge.{permitted}
-use Rattle.index.specs.Index.{noLaw}
+use Rattle.bmap.specs.Number.{Valued, value}
+use Rattle.bmap.specs.Judge.{fault, permits, permitted}
+use Rattle.index.specs.Index.{lawNumber, noLaw}
 use Rattle.number.specs.Answer.{truthOf}
 use Rattle.judge.specs.Told.{Lawful, Own, Owned, Seen}
 use Rattle.judge.proofs.LoopLaws.{stops, on}
@@ -29,21 +29,44 @@ loop-holds c = λ d h n lawful own owned seen. let s = c .args in
 try-law-requires : tie.Need-try-law-requires Inv-loop μ-loop
 try-law-requires c κs = search needs
 
-enum-told : tie.Need-enum-told Inv-loop μ-loop
-enum-told c = search needs
+enum-known-why : tie.Need-enum-known-why Inv-loop μ-loop
+enum-known-why c = search needs
+
+fault-of-requires : tie.Need-fault-of-requires Inv-loop μ-loop
+fault-of-requires c κs = search needs
+
+-- where a law was tried: what is left to be asked, by what it said
+module _ (c : tie.After-try-law Inv-loop μ-loop) where
+  abbrev start : tie.Start Inv-loop μ-loop
+  start = c .before .before .before
+
+  abbrev law : ℕ
+  law = c .before .before .loop .l
+
+  module _ (d : Domain) (h : History) (n : ℕ) (lawful : Lawful d (start .args .held .now) n) (own : Own (start .args .owners .now) n (start .args .i) (start .args .run .from) (start .args .run .to))
+      (owned : Owned d (start .args .owners .now)) (seen : Seen true d h (start .args .history .now) (start .args .j)) where
+    asked : permitted d h (start .args .j) (start .args .i) 0 (d .laws) ≡ permitted d h (start .args .j) (start .args .i) law (drop law (d .laws))
+    asked = c .before .before .loop .inv d h n lawful own owned seen
+
+    there : law < length (d .laws)
+    there = own-law d h (start .args .j) (start .args .i) (start .args .held .now) (start .args .owners .now) n (start .args .run .from) (start .args .run .to) lawful owned own law (c .before .loop-test .taken)
+
+    says : {v : Valued Bool} → truthOf (c .try-law .result) ≡ v → permits d h (start .args .j) (start .args .i) (lawNumber d law) ≡ v
+    says e = sym (c .try-law .ensures d h n lawful (omega (arith, own .ends)) owned seen) ∙ e
 
 returns : tie.Need-returns Inv-loop μ-loop
-returns c = λ d h n lawful own owned seen. let s = c .before .before .before .before .before .args in let l = c .before .before .before .before .loop .l in
-    sym (c .before .before .before .before .loop .inv d h n lawful own owned seen ∙ stops (λ k r. permitted d h (s .j) (s .i) k r) (d .laws) noLaw l (own-law d h (s .j) (s .i) (s .held .now) (s .owners .now) n (s .run .from) (s .run .to) lawful owned own l (c .before .before .before .loop-test .taken))
-    (permitted-blank d h (s .j) (s .i) l _ _ (sym (c .before .before .try-law .ensures d h n lawful (omega (arith, own .ends)) owned seen) ∙ ap truthOf (c .enum-told .given .1))))
+returns c = λ d h n lawful own owned seen. let k = c .before .before .before .before in let s = start k .args in
+    ap (λ (kind : ℕ). fault kind (law k)) (c .fault-of .ensures)
+    ∙ sym (asked k d h n lawful own owned seen ∙ stops (permitted d h (s .j) (s .i)) (d .laws) noLaw (law k) (there k d h n lawful own owned seen)
+    (permitted-blank d h (s .j) (s .i) (law k) _ _ (c .before .before .why .given .0 .0) (says k d h n lawful own owned seen (ap truthOf (c .before .before .why .given .1)))))
 
 enum-known-allowed : tie.Need-enum-known-allowed Inv-loop μ-loop
 enum-known-allowed c = search needs
 
 returns-2 : tie.Need-returns-2 Inv-loop μ-loop
-returns-2 c = λ d h n lawful own owned seen. let s = c .before .before .before .before .before .before .before .args in let l = c .before .before .before .before .before .before .loop .l in
-    sym (c .before .before .before .before .before .before .loop .inv d h n lawful own owned seen ∙ stops (λ k r. permitted d h (s .j) (s .i) k r) (d .laws) noLaw l (own-law d h (s .j) (s .i) (s .held .now) (s .owners .now) n (s .run .from) (s .run .to) lawful owned own l (c .before .before .before .before .before .loop-test .taken))
-    (permitted-true d h (s .j) (s .i) l _ _ (sym (c .before .before .before .before .try-law .ensures d h n lawful (omega (arith, own .ends)) owned seen) ∙ (ap truthOf (c .before .before .allowed .given .1) ∙ ap value (c .if1 .taken)))))
+returns-2 c = λ d h n lawful own owned seen. let k = c .before .before .before .before in let s = start k .args in
+    sym (asked k d h n lawful own owned seen ∙ stops (permitted d h (s .j) (s .i)) (d .laws) noLaw (law k) (there k d h n lawful own owned seen)
+    (permitted-true d h (s .j) (s .i) (law k) _ _ (says k d h n lawful own owned seen (ap truthOf (c .before .before .allowed .given .1) ∙ ap value (c .if1 .taken)))))
 
 add-l : tie.Need-add-l Inv-loop μ-loop
 add-l c = search needs
@@ -52,9 +75,9 @@ loop-less : tie.Need-loop-less Inv-loop μ-loop
 loop-less c = search needs
 
 loop-again : tie.Need-loop-again Inv-loop μ-loop
-loop-again c = λ d h n lawful own owned seen. let s = c .before .before .before .before .before .before .before .args in let l = c .before .before .before .before .before .before .loop .l in
-    c .before .before .before .before .before .before .loop .inv d h n lawful own owned seen ∙ on (λ k r. permitted d h (s .j) (s .i) k r) (d .laws) noLaw l (own-law d h (s .j) (s .i) (s .held .now) (s .owners .now) n (s .run .from) (s .run .to) lawful owned own l (c .before .before .before .before .before .loop-test .taken))
-    (permitted-on d h (s .j) (s .i) l _ _ (sym (c .before .before .before .before .try-law .ensures d h n lawful (omega (arith, own .ends)) owned seen) ∙ (ap truthOf (c .before .before .allowed .given .1) ∙ ap value (c .if1 .left))))
+loop-again c = λ d h n lawful own owned seen. let k = c .before .before .before .before in let s = start k .args in
+    asked k d h n lawful own owned seen ∙ on (permitted d h (s .j) (s .i)) (d .laws) noLaw (law k) (there k d h n lawful own owned seen)
+    (permitted-on d h (s .j) (s .i) (law k) _ _ (says k d h n lawful own owned seen (ap truthOf (c .before .before .allowed .given .1) ∙ ap value (c .if1 .left))))
 
 returns-3 : tie.Need-returns-3 Inv-loop μ-loop
 returns-3 c = λ d h n lawful own owned seen. let s = c .before .before .args in let l = c .before .loop .l in
@@ -68,7 +91,8 @@ check-entry-spec =
     μ-loop
     loop-holds
     try-law-requires
-    enum-told
+    enum-known-why
+    fault-of-requires
     returns
     enum-known-allowed
     returns-2

@@ -67,16 +67,20 @@ mul-wanted c = search needs
 wanted-requires : tie.Need-wanted-requires Inv-loop μ-loop Inv-laws μ-laws
 wanted-requires c κs = search needs
 
-enum-told : tie.Need-enum-told Inv-loop μ-loop Inv-laws μ-laws
-enum-told c = search needs
+enum-known-why : tie.Need-enum-known-why Inv-loop μ-loop Inv-laws μ-laws
+enum-known-why c = search needs
+
+fault-of-requires : tie.Need-fault-of-requires Inv-loop μ-loop Inv-laws μ-laws
+fault-of-requires c κs = search needs
 
 returns : tie.Need-returns Inv-loop μ-loop Inv-laws μ-laws
-returns c = let s = c .before .before .before .before .before .args in (
+returns c = let asked = c .before .before .before .before in let test = asked .before in let s = test .before .before .args in let l = test .before .laws .l in (
   omega arith,
   λ d h n names lawful within occurring seen.
-      sym (c .before .before .before .before .laws .inv .1 .1 d h n names lawful within occurring seen
-      ∙ settled-blank d h (s .j) names (d .laws) (c .before .before .before .before .laws .l) _ (run-law d _ n 0xA6 (s .run .from) (s .run .to) (c .before .before .before .before .laws .l) lawful within (c .before .before .before .laws-test .taken))
-      (sym (c .before .before .wanted .ensures d h (lawNumber d (c .before .before .before .before .laws .l)) names (lawful .long) ((run-says d _ n 0xA6 (s .run .from) (s .run .to) (c .before .before .before .before .laws .l) lawful within (c .before .before .before .laws-test .taken))) occurring seen) ∙ ap wantsOf (c .enum-told .given .1))),
+      ap (λ (kind : ℕ). fault kind l) (c .fault-of .ensures)
+      ∙ sym (test .before .laws .inv .1 .1 d h n names lawful within occurring seen
+      ∙ settled-blank d h (s .j) names (d .laws) l _ (run-law d _ n 0xA6 (s .run .from) (s .run .to) l lawful within (test .laws-test .taken)) (c .before .before .why .given .0 .0)
+      (sym (asked .wanted .ensures d h (lawNumber d l) names (lawful .long) ((run-says d _ n 0xA6 (s .run .from) (s .run .to) l lawful within (test .laws-test .taken))) occurring seen) ∙ ap wantsOf (c .before .before .why .given .1))),
 )
 
 enum-known-f : tie.Need-enum-known-f Inv-loop μ-loop Inv-laws μ-laws
@@ -131,8 +135,8 @@ element-set-from-v c = search needs
 add-m : tie.Need-add-m Inv-loop μ-loop Inv-laws μ-laws
 add-m c = search needs
 
-enum-told-2 : tie.Need-enum-told-2 Inv-loop μ-loop Inv-laws μ-laws
-enum-told-2 c = search needs
+enum-told : tie.Need-enum-told Inv-loop μ-loop Inv-laws μ-laws
+enum-told c = search needs
 
 add-l : tie.Need-add-l Inv-loop μ-loop Inv-laws μ-laws
 add-l c = search needs
@@ -209,7 +213,8 @@ settle-spec =
     laws-holds
     mul-wanted
     wanted-requires
-    enum-told
+    enum-known-why
+    fault-of-requires
     returns
     enum-known-f
     loop-holds
@@ -226,7 +231,7 @@ settle-spec =
     mul-v
     element-set-from-v
     add-m
-    enum-told-2
+    enum-told
     add-l
     laws-less
     laws-again

@@ -1,3 +1,4 @@
+use Prim.Native.Nat.{ℕ}
 use mathlib.Core.Path.{_∙_}
 use native.Mathlib.Omega.{arith}
 use borrow.Author.Needs.{needs}
@@ -24,20 +25,26 @@ enum-known-value c = search needs
 enum-told : tie.Need-enum-told
 enum-told c = search needs
 
+-- the fluent of the law whose expression was read
+abbrev fluent : tie.After-expression-at → ℕ
+fluent c = let s = c .before .before .before .args in getD (s .held .now) (s .at) 0
+
 returns-2 : tie.Need-returns-2
-returns-2 c = λ long. let s = c .before .before .before .before .before .args in setting-malformed (getD (s .held .now) (s .at) 0) (c .before .before .expression-at .ensures) (c .enum-told .given .1)
+returns-2 c = λ long. let k = c .before .before in setting-malformed (fluent k) (k .expression-at .ensures) (c .enum-told .given .1)
 
 enum-known-value-2 : tie.Need-enum-known-value-2
 enum-known-value-2 c = search needs
 
-enum-told-2 : tie.Need-enum-told-2
-enum-told-2 c = search needs
+enum-known-value-3 : tie.Need-enum-known-value-3
+enum-known-value-3 c = search needs
 
 returns-3 : tie.Need-returns-3
-returns-3 c = λ long. let s = c .before .before .before .before .before .before .before .before .before .args in setting-number (getD (s .held .now) (s .at) 0) (c .before .value2 .given .1) (c .known-told2 .given .0 .1) ∙ setting-given (getD (s .held .now) (s .at) 0) (c .before .before .before .before .before .before .expression-at .ensures) (c .before .before .before .before .value .given .1)
+returns-3 c = λ long. let k = c .before .before .before .before .before .before in
+    setting-number (fluent k) (c .before .value2 .given .1) (c .known-told2 .given .0 .1) ∙ setting-given (fluent k) (k .expression-at .ensures) (c .before .before .before .before .value .given .1)
 
 returns-4 : tie.Need-returns-4
-returns-4 c = λ long. let s = c .before .before .before .before .before .before .before .before .args in setting-blank (getD (s .held .now) (s .at) 0) (c .enum-told2 .given .1) ∙ setting-given (getD (s .held .now) (s .at) 0) (c .before .before .before .before .before .expression-at .ensures) (c .before .before .before .value .given .1)
+returns-4 c = λ long. let k = c .before .before .before .before .before .before in
+    setting-blank (fluent k) (c .before .value3 .given .1) ∙ setting-given (fluent k) (k .expression-at .ensures) (c .before .before .before .before .value .given .1)
 
 pub setting-at-spec : {M : Type 1} → statement M
 setting-at-spec =
@@ -51,6 +58,6 @@ setting-at-spec =
     enum-told
     returns-2
     enum-known-value-2
-    enum-told-2
+    enum-known-value-3
     returns-3
     returns-4)

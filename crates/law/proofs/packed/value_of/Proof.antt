@@ -9,13 +9,13 @@ use Rattle.law.proofs.packed.value_of.Tie as tie
 
 returns : tie.Need-returns
 unfolding valueIn
-returns c = without lowered (c .before .args .word) (c .if1 .taken)
+returns c = without lowered (c .before .before .args .word) (c .before .if1 .taken) (c .reason-at .ensures)
 
-sub-t6 : tie.Need-sub-t6
-sub-t6 c = lowers-fits (c .before .args .word % room) (omega arith)
+sub-t8 : tie.Need-sub-t8
+sub-t8 c = lowers-fits (c .before .args .word % room) (omega arith)
 
-cast-t7 : tie.Need-cast-t7
-cast-t7 c = lowers-narrow (c .before .args .word % room) (omega arith)
+cast-t9 : tie.Need-cast-t9
+cast-t9 c = lowers-narrow (c .before .args .word % room) (omega arith)
 
 returns-2 : tie.Need-returns-2
 unfolding valueIn
@@ -23,4 +23,4 @@ returns-2 c =
     lowers (c .before .args .word % room) (omega arith) ∙ within lowered (c .before .args .word) (c .if1 .left)
 
 pub value-of-spec : {M : Type 1} → statement M
-value-of-spec = tie.close (tie.spec returns (λ c. search needs) sub-t6 cast-t7 returns-2)
+value-of-spec = tie.close (tie.spec (λ c κs. search needs) returns (λ c. search needs) sub-t8 cast-t9 returns-2)

@@ -3,7 +3,7 @@ use borrow.Author.Needs.{needs}
 use mir.Syntax.{w32}
 use mir.Val.{SFits}
 use Rattle.law.specs.Packed.{valueIn}
-use Rattle.law.proofs.PackedLaws.{lowered, packed-none, raises-wide, raises-fits, raises-positive, packs-fits, packs}
+use Rattle.law.proofs.PackedLaws.{lowered, none-fits, packed-none, raises-wide, raises-fits, raises-positive, packs-fits, packs}
 use Rattle.law.proofs.packed.with_value.Statement.{statement}
 use Rattle.law.proofs.packed.with_value.Tie as tie
 
@@ -22,6 +22,9 @@ cast-result-2 c = raises-positive (range c)
 add-result-3 : tie.Need-add-result-3
 add-result-3 c = packs-fits (range c) (c .before .before .before .pre .1)
 
+add-result-4 : tie.Need-add-result-4
+add-result-4 c = let s = c .before .before .before .before in none-fits (s .args .end) (c .before .before .v2 .given .0 .0) (s .pre .1) (c .reason-bits .ensures)
+
 returns : tie.Need-returns
 unfolding valueIn
 returns c = packs (range c) (c .before .before .before .pre .0) ∙ rw (c .before .v .given .1)
@@ -29,8 +32,8 @@ returns c = packs (range c) (c .before .before .before .pre .0) ∙ rw (c .befor
 returns-2 : tie.Need-returns-2
 unfolding valueIn
 returns-2 c =
-    let s = c .before .before in
-    packed-none lowered (s .args .end) (s .pre .0) ∙ rw (c .enum-told .given .1)
+    let s = c .before .before .before .before in
+    packed-none lowered (s .args .end) (s .pre .0) (c .before .before .v2 .given .0 .0) (c .reason-bits .ensures) ∙ rw (c .before .before .v2 .given .1)
 
 pub with-value-spec : {M : Type 1} → statement M
 with-value-spec =
@@ -46,5 +49,7 @@ with-value-spec =
     add-result-3
     (λ c. search needs)
     (λ c. search needs)
+    (λ c κs. search needs)
+    add-result-4
     returns
     returns-2)

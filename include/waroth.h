@@ -117,16 +117,18 @@ enum waroth_refusal_number {
                                   * entry differs; a law is asked for that the domain lacks */
 };
 
-/* What a judgement says: accepted, refused, or what is at fault. None of them is 0. */
+/* What a judgement says: accepted, refused, or what is at fault. None of them is 0. A law without a value is 7 or 9, by the
+ * first trouble found: operands are worked out left to right, each before its operation. */
 enum waroth_kind_number {
-    WAROTH_MISPLACED = 1,   /* an agent names an action but belongs to no occurring entry with that name; number: agent */
-    WAROTH_BARRED = 2,      /* an entry occurs, and none of its executability laws is true; number: entry */
-    WAROTH_CONCURRENCY = 3, /* a concurrency law is false; number: law */
-    WAROTH_CONFLICT = 4,    /* an effect law sets another value than an earlier one, of one fluent; number: the later law */
-    WAROTH_RANGE = 5,       /* a fluent leaves its range; number: fluent */
-    WAROTH_STATIC = 6,      /* a static law is false; number: law */
-    WAROTH_NO_VALUE = 7,    /* a law has no value; number: law */
-    WAROTH_GOAL = 8,        /* a goal law is false; number: law */
+    WAROTH_MISPLACED = 1,    /* an agent names an action but belongs to no occurring entry with that name; number: agent */
+    WAROTH_BARRED = 2,       /* an entry occurs, and none of its executability laws is true; number: entry */
+    WAROTH_CONCURRENCY = 3,  /* a concurrency law is false; number: law */
+    WAROTH_CONFLICT = 4,     /* an effect law sets another value than an earlier one, of one fluent; number: the later law */
+    WAROTH_RANGE = 5,        /* a fluent leaves its range; number: fluent */
+    WAROTH_STATIC = 6,       /* a static law is false; number: law */
+    WAROTH_ZERO_DIVISOR = 7, /* a law has no value: a zero divisor; number: law */
+    WAROTH_GOAL = 8,         /* a goal law is false; number: law */
+    WAROTH_BEYOND = 9,       /* a law has no value: a result beyond -1,000,000,000 to 1,000,000,000; number: law */
     WAROTH_ACCEPTED = 128,
     WAROTH_REFUSED = 255
 };

@@ -72,8 +72,9 @@ static const char *fault_words(unsigned kind)
     case WAROTH_CONFLICT: return "another value than an earlier law sets, law";
     case WAROTH_RANGE: return "out of its range, fluent";
     case WAROTH_STATIC: return "not true of the new state, law";
-    case WAROTH_NO_VALUE: return "no value, law";
+    case WAROTH_ZERO_DIVISOR: return "no value, a zero divisor, law";
     case WAROTH_GOAL: return "the goal is missed, law";
+    case WAROTH_BEYOND: return "no value, a result beyond the number range, law";
     default: return "unknown, number";
     }
 }

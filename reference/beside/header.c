@@ -50,6 +50,7 @@ static const uint8_t seven[] = {1, 0, 1, 0, 1, 0, 1, 0, 1, 0, 1, 0, 1, 0};
 static_assert(WAROTH_SUPPLEMENT == 16000 && WAROTH_LAWS * (2 + WAROTH_PAYLOAD) <= WAROTH_SUPPLEMENT, "every law replaced");
 static_assert(WAROTH_SHEET == 1024 && WAROTH_LEVELS == 2080, "the paper's buffers");
 static_assert(WAROTH_SHEETS == 40 && WAROTH_TOO_MANY_SHEETS == 19, "the paper's numbers of a report");
+static_assert(WAROTH_ZERO_DIVISOR == 7 && WAROTH_BEYOND == 9, "the paper's kinds of a law without value");
 static_assert(WAROTH_REPORT_INPUT == 2460205, "what decides a report");
 static_assert(WAROTH_DOMAIN_TEXT == 33319 && WAROTH_SHEET_TEXT == 2368, "the longest texts");
 static_assert(sizeof(struct waroth_session) == 4 * sizeof(size_t) + WAROTH_SHEET + sizeof session.log, "no gaps");
@@ -347,9 +348,10 @@ static int refusals(void)
 }
 
 /* A domain with one agent, a fluent that is 5 and at most 9, an action 1 that may always be taken, and one law more; the
- * agent takes it once. What has no value is 1 by 0. */
+ * agent takes it once. What has no value is 1 by 0, and 31,623 times 31,623. */
 #define SMALL "A10101\nA206000000090005\nA403010001\nA502002A\n"
-#define NO_VALUE "0B2015100001100000100000\n"
+#define BY_ZERO "0B2015100001100000100000\n"
+#define BEYOND "0B2014107B87107B87100000\n"
 
 static int kinds(void)
 {
@@ -360,9 +362,12 @@ static int kinds(void)
         {SMALL "A802282A\n", WAROTH_CONCURRENCY, 1, 1, 1},
         {SMALL "A606002A0010000A\n", WAROTH_RANGE, 1, 0, 1},
         {SMALL "A702282A\n", WAROTH_STATIC, 0, 1, 0},
-        {SMALL "A7" NO_VALUE, WAROTH_NO_VALUE, 0, 1, 0},
-        {SMALL "A8" NO_VALUE, WAROTH_NO_VALUE, 1, 1, 1},
-        {SMALL "A9" NO_VALUE, WAROTH_NO_VALUE, 1, 1, 2},
+        {SMALL "A7" BY_ZERO, WAROTH_ZERO_DIVISOR, 0, 1, 0},
+        {SMALL "A8" BY_ZERO, WAROTH_ZERO_DIVISOR, 1, 1, 1},
+        {SMALL "A9" BY_ZERO, WAROTH_ZERO_DIVISOR, 1, 1, 2},
+        {SMALL "A7" BEYOND, WAROTH_BEYOND, 0, 1, 0},
+        {SMALL "A8" BEYOND, WAROTH_BEYOND, 1, 1, 1},
+        {SMALL "A9" BEYOND, WAROTH_BEYOND, 1, 1, 2},
         {SMALL "A902282A\n", WAROTH_GOAL, 1, 1, 2},
     };
     size_t i;

@@ -1,11 +1,12 @@
 //! What laws are read against, and what they come to there.
 //!
 //! Anything built on a part without value has none, so evaluation ends at the
-//! first such part.
+//! first such part. A compiled law has its operands from left to right, each
+//! before its operation, so the trouble met there is the first.
 
 use crate::code::{Code, Op, OR};
 use crate::law::MAX_DEPTH;
-use crate::number;
+use crate::number::{self, Reckoned};
 use crate::sheet::MAX_STEPS;
 
 /// The states reached, what occurred in the steps, and a present state.
@@ -68,7 +69,7 @@ impl<'a> History<'a> {
     }
 
     /// The value of a compiled law; truth is 1, falsehood 0.
-    pub fn evaluate(&self, code: &[Op]) -> Option<i64> {
+    pub fn evaluate(&self, code: &[Op]) -> Reckoned {
         let mut waiting = Waiting::default();
         let mut last = 0;
         for op in code {
@@ -113,7 +114,7 @@ impl<'a> History<'a> {
                 Code::Absolute => last.abs(),
             };
         }
-        Some(last)
+        Ok(last)
     }
 
     #[inline]

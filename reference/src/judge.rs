@@ -4,6 +4,7 @@ use crate::code::{Compiler, Op};
 use crate::domain::{bits, Domain, CONCURRENCY, EFFECT, EXECUTABILITY, GOAL, STATIC};
 use crate::history::History;
 use crate::line::MAX_PAYLOAD;
+use crate::number::Trouble;
 use crate::refusal;
 use crate::sheet::{steps_of, MAX_STEPS};
 use crate::supplement::InForce;
@@ -21,8 +22,9 @@ pub const NOT_TOGETHER: u8 = 3;
 pub const DISAGREEMENT: u8 = 4;
 pub const OUT_OF_RANGE: u8 = 5;
 pub const STATE_REFUSED: u8 = 6;
-pub const NO_VALUE: u8 = 7;
+pub const ZERO_DIVISOR: u8 = 7;
 pub const GOAL_MISSED: u8 = 8;
+pub const OUT_OF_NUMBERS: u8 = 9;
 
 #[derive(Clone, Copy, PartialEq, Eq, Debug)]
 pub enum Verdict {
@@ -99,6 +101,12 @@ pub(crate) fn over<T>(laws: &InForce, levels: &mut [i16], ask: impl FnOnce(&mut 
 }
 
 impl Fault {
+    /// A law has no value, which is rare.
+    #[cold]
+    fn of(trouble: Trouble, law: usize) -> Self {
+        Fault(trouble as u8, law)
+    }
+
     fn at(self, step: usize, states: usize) -> Judged {
         let verdict = Verdict::Broken {
             kind: self.0,
@@ -228,15 +236,19 @@ impl Trial<'_> {
         }
     }
 
+    #[inline]
     fn holds(&mut self, law: usize) -> Result<bool, Fault> {
         let Compiled { start, middle, .. } = self.compiled(law);
         Ok(start == middle || self.value(law, start, middle)? != 0)
     }
 
     /// Evaluates code of the law with this number.
+    #[inline]
     fn value(&mut self, law: usize, start: u16, end: u16) -> Result<i64, Fault> {
         let code = &self.code[start.into()..end.into()];
-        self.history.evaluate(code).ok_or(Fault(NO_VALUE, law))
+        self.history
+            .evaluate(code)
+            .map_err(|trouble| Fault::of(trouble, law))
     }
 
     /// The first law of a kind that is false is a fault.

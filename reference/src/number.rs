@@ -1,47 +1,62 @@
 //! Numbers as laws reckon with them: bounded, and sometimes without value.
 
+use crate::judge::{OUT_OF_NUMBERS, ZERO_DIVISOR};
+
 /// A result further from zero than this gives no value.
 pub const BOUND: i64 = 1_000_000_000;
+
+/// Why an operation on values gives none, by the kind of fault that its law then
+/// is. It is as wide as a value, so that either comes back in one register.
+#[derive(Clone, Copy, PartialEq, Eq, Debug)]
+#[repr(i64)]
+pub enum Trouble {
+    ZeroDivisor = ZERO_DIVISOR as i64,
+    OutOfNumbers = OUT_OF_NUMBERS as i64,
+}
+
+/// What comes of operands that have values.
+pub type Reckoned = Result<i64, Trouble>;
 
 /// Keeps a result that lies in the range; operands are always in it already,
 /// so not even a product can overflow an `i64` before it gets here.
 #[inline]
-pub fn bounded(value: i64) -> Option<i64> {
-    (-BOUND..=BOUND).contains(&value).then_some(value)
+pub fn bounded(value: i64) -> Reckoned {
+    match (-BOUND..=BOUND).contains(&value) {
+        true => Ok(value),
+        false => Err(Trouble::OutOfNumbers),
+    }
 }
 
 #[inline]
-pub fn sum(a: i64, b: i64) -> Option<i64> {
+pub fn sum(a: i64, b: i64) -> Reckoned {
     bounded(a + b)
 }
 
 #[inline]
-pub fn difference(a: i64, b: i64) -> Option<i64> {
+pub fn difference(a: i64, b: i64) -> Reckoned {
     bounded(a - b)
 }
 
 #[inline]
-pub fn product(a: i64, b: i64) -> Option<i64> {
+pub fn product(a: i64, b: i64) -> Reckoned {
     bounded(a * b)
 }
 
 /// Truncates toward zero, as Rust's own division does.
 #[inline]
-pub fn quotient(a: i64, b: i64) -> Option<i64> {
-    if b == 0 {
-        None
-    } else {
-        Some(a / b)
+pub fn quotient(a: i64, b: i64) -> Reckoned {
+    match b {
+        0 => Err(Trouble::ZeroDivisor),
+        _ => Ok(a / b),
     }
 }
 
 /// Has the dividend's sign, as Rust's own remainder does.
 #[inline]
-pub fn remainder(a: i64, b: i64) -> Option<i64> {
-    if b == 0 {
-        None
-    } else {
-        Some(a % b)
+pub fn remainder(a: i64, b: i64) -> Reckoned {
+    match b {
+        0 => Err(Trouble::ZeroDivisor),
+        _ => Ok(a % b),
     }
 }
 

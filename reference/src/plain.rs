@@ -1,11 +1,12 @@
 //! A judge as one would write it first: sentence after sentence from the paper,
-//! laws as trees, lists for everything, nothing arranged for speed. The tests
-//! hold the judge against it, and the benchmark measures it beside the two.
+//! laws as trees, lists for everything, nothing arranged for speed. It reckons by
+//! itself, too. The tests hold the judge against it, and the benchmark measures it
+//! beside the two.
 
 use crate::domain::{AGENTS, CONCURRENCY, EFFECT, ENTRY, EXECUTABILITY, FLUENT, KNOWS, STATIC};
 use crate::judge::{
     Judged, Verdict, DISAGREEMENT, GOAL_MISSED, LEVELS, NOT_EXECUTABLE, NOT_TAKEN_UP, NOT_TOGETHER,
-    NO_VALUE, OUT_OF_RANGE, STATE_REFUSED,
+    OUT_OF_NUMBERS, OUT_OF_RANGE, STATE_REFUSED, ZERO_DIVISOR,
 };
 use crate::number;
 use crate::refusal;
@@ -34,14 +35,14 @@ pub fn judge(store: &[u8], sheet: &[u8], levels: &mut [i16]) -> Result<Judged, u
     Ok(Judged { verdict, states })
 }
 
+/// What two numbers of the range come to, in it or not; nothing where the second
+/// is a zero divisor.
+type Operation = fn(i64, i64) -> Option<i64>;
+
 enum Expression {
     Constant(i64),
     Fluent(usize, usize),
-    Two(
-        fn(i64, i64) -> Option<i64>,
-        Box<Expression>,
-        Box<Expression>,
-    ),
+    Two(Operation, Box<Expression>, Box<Expression>),
     One(fn(i64) -> i64, Box<Expression>),
     Reified(Box<Constraint>),
 }
@@ -105,6 +106,17 @@ struct History<'a> {
 /// Kind, and number of the agent, entry, fluent or law.
 type Fault = (u8, usize);
 
+/// What a part comes to, or the kind of fault that its law is without a value.
+type Found<T> = Result<T, u8>;
+
+/// Both operands. The first trouble is the left one's, else the right one's.
+fn both<T>(left: Found<T>, right: Found<T>) -> Found<(T, T)> {
+    match (left, right) {
+        (Ok(left), Ok(right)) => Ok((left, right)),
+        (Err(trouble), _) | (Ok(_), Err(trouble)) => Err(trouble),
+    }
+}
+
 /// Takes a law's bytes apart, from front to back. The store is accepted, so
 /// they are as the paper says.
 struct Bytes<'a> {
@@ -129,18 +141,18 @@ impl Bytes<'_> {
                 self.named.push(fluent);
                 Expression::Fluent(fluent, self.index())
             }
-            0x12 => self.two(number::sum),
-            0x13 => self.two(number::difference),
-            0x14 => self.two(number::product),
-            0x15 => self.two(number::quotient),
-            0x16 => self.two(number::remainder),
+            0x12 => self.two(i64::checked_add),
+            0x13 => self.two(i64::checked_sub),
+            0x14 => self.two(i64::checked_mul),
+            0x15 => self.two(i64::checked_div),
+            0x16 => self.two(i64::checked_rem),
             0x17 => Expression::One(|value| -value, Box::new(self.expression())),
             0x18 => Expression::One(|value| value.abs(), Box::new(self.expression())),
             _ => Expression::Reified(Box::new(self.constraint())),
         }
     }
 
-    fn two(&mut self, operation: fn(i64, i64) -> Option<i64>) -> Expression {
+    fn two(&mut self, operation: Operation) -> Expression {
         let (left, right) = (self.expression(), self.expression());
         Expression::Two(operation, Box::new(left), Box::new(right))
     }
@@ -213,6 +225,17 @@ impl Domain {
         self.laws.iter().enumerate()
     }
 
+    /// Whether the constraint of a law, which comes with its number, is true there.
+    fn holds(
+        &self,
+        (number, law): (usize, &Law),
+        history: &History,
+        position: usize,
+    ) -> Result<bool, Fault> {
+        let truth = self.truth(&law.constraint, history, position);
+        truth.map_err(|trouble| (trouble, number))
+    }
+
     fn run(&self, history: &mut History) -> Verdict {
         let broken = |(kind, number): Fault, step: usize| Verdict::Broken {
             kind,
@@ -247,8 +270,7 @@ impl Domain {
         kind: u8,
     ) -> Result<(), Fault> {
         for (number, law) in self.laws().filter(|(_, law)| of_kind(law)) {
-            let truth = self.truth(&law.constraint, history, position);
-            if !truth.ok_or((NO_VALUE, number))? {
+            if !self.holds((number, law), history, position)? {
                 return Err((kind, number));
             }
         }
@@ -290,11 +312,8 @@ impl Domain {
         };
         for (number, law) in self.laws() {
             let own = matches!(law.kind, Kind::Executability { entry: of } if of == entry);
-            if own && law.named.iter().all(known) {
-                let truth = self.truth(&law.constraint, history, position);
-                if truth.ok_or((NO_VALUE, number))? {
-                    return Ok(());
-                }
+            if own && law.named.iter().all(known) && self.holds((number, law), history, position)? {
+                return Ok(());
             }
         }
         Err((NOT_EXECUTABLE, entry))
@@ -316,11 +335,11 @@ impl Domain {
             else {
                 continue;
             };
-            let none = (NO_VALUE, number);
-            if !occurring[*entry] || !self.truth(&law.constraint, history, position).ok_or(none)? {
+            if !occurring[*entry] || !self.holds((number, law), history, position)? {
                 continue;
             }
-            let value = self.value(value, history, position).ok_or(none)?;
+            let value = self.value(value, history, position);
+            let value = value.map_err(|trouble| (trouble, number))?;
             if settings.iter().any(|&(f, v)| f == *fluent && v != value) {
                 return Err((DISAGREEMENT, number));
             }
@@ -338,19 +357,22 @@ impl Domain {
         }
     }
 
-    fn value(&self, expression: &Expression, history: &History, position: usize) -> Option<i64> {
+    fn value(&self, expression: &Expression, history: &History, position: usize) -> Found<i64> {
+        let value = |part| self.value(part, history, position);
         match expression {
-            Expression::Constant(value) => Some(*value),
+            Expression::Constant(value) => Ok(*value),
             Expression::Fluent(fluent, lag) => {
-                Some(history.states[position.saturating_sub(*lag)][*fluent])
+                Ok(history.states[position.saturating_sub(*lag)][*fluent])
             }
-            Expression::Two(operation, left, right) => operation(
-                self.value(left, history, position)?,
-                self.value(right, history, position)?,
-            ),
-            Expression::One(operation, operand) => {
-                self.value(operand, history, position).map(operation)
+            Expression::Two(operation, left, right) => {
+                let (left, right) = both(value(left), value(right))?;
+                let result = operation(left, right).ok_or(ZERO_DIVISOR)?;
+                match result.abs() > number::BOUND {
+                    true => Err(OUT_OF_NUMBERS),
+                    false => Ok(result),
+                }
             }
+            Expression::One(operation, operand) => value(operand).map(operation),
             Expression::Reified(constraint) => {
                 self.truth(constraint, history, position).map(i64::from)
             }
@@ -359,22 +381,22 @@ impl Domain {
 
     /// Both sides of "and" and "or" are read, and a side without value leaves
     /// the whole without one.
-    fn truth(&self, constraint: &Constraint, history: &History, position: usize) -> Option<bool> {
+    fn truth(&self, constraint: &Constraint, history: &History, position: usize) -> Found<bool> {
+        let value = |part| self.value(part, history, position);
         let truth = |part| self.truth(part, history, position);
         match constraint {
-            Constraint::Compared(compared, left, right) => Some(compared(
-                &self.value(left, history, position)?,
-                &self.value(right, history, position)?,
-            )),
-            Constraint::And(left, right) => Some(truth(left)? & truth(right)?),
-            Constraint::Or(left, right) => Some(truth(left)? | truth(right)?),
-            Constraint::Not(operand) => Some(!truth(operand)?),
+            Constraint::Compared(compared, left, right) => {
+                both(value(left), value(right)).map(|(left, right)| compared(&left, &right))
+            }
+            Constraint::And(left, right) => both(truth(left), truth(right)).map(|(l, r)| l & r),
+            Constraint::Or(left, right) => both(truth(left), truth(right)).map(|(l, r)| l | r),
+            Constraint::Not(operand) => truth(operand).map(|truth| !truth),
             Constraint::Occurs(entry, lag) => {
                 let names = (position + 1).checked_sub(*lag).filter(|&step| step > 0);
                 let occurs = |step: usize| self.entries[*entry].occurs(history.steps[step - 1]);
-                Some(names.is_some_and(occurs))
+                Ok(names.is_some_and(occurs))
             }
-            Constraint::True => Some(true),
+            Constraint::True => Ok(true),
         }
     }
 }

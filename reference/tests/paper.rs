@@ -6,6 +6,10 @@ use waroth_reference::generate::laws::{constant, node};
 use waroth_reference::history::History;
 use waroth_reference::judge::{judge, Judged, Verdict, LEVELS};
 use waroth_reference::law::Checker;
+use waroth_reference::number::{
+    Reckoned,
+    Trouble::{OutOfNumbers, ZeroDivisor},
+};
 use waroth_reference::program::Program;
 use waroth_reference::store::STORE_BYTES;
 use waroth_reference::{number, read_domain, read_sheet};
@@ -71,7 +75,7 @@ fn starred_sheets() {
 }
 
 /// Value of an expression over one fluent with these states, at the last of them.
-fn value(bytes: &[u8], states: &[i16]) -> Option<i64> {
+fn value(bytes: &[u8], states: &[i16]) -> Reckoned {
     let (fluents, entries) = (1, 0);
     let checker = Checker { fluents, entries };
     assert_eq!(checker.expression(bytes), Some(&[][..]));
@@ -94,26 +98,28 @@ fn value(bytes: &[u8], states: &[i16]) -> Option<i64> {
 #[test]
 fn starred_arithmetic() {
     let on = |code, a, b| value(&node(code, &[&constant(a), &constant(b)]), &[0]);
-    assert_eq!(on(0x15, -7, 2), Some(-3));
-    assert_eq!(on(0x16, -7, 2), Some(-1));
-    assert_eq!(on(0x15, 5, 0), None);
-    assert_eq!(on(0x16, 5, 0), None);
-    assert_eq!(on(0x14, 31_622, 31_622), Some(999_950_884));
-    assert_eq!(on(0x14, 31_623, 31_623), None);
-    assert_eq!(number::quotient(7, -2), Some(-3));
-    assert_eq!(number::remainder(7, -2), Some(1));
-    assert_eq!(number::sum(999_999_999, 1), Some(1_000_000_000));
-    assert_eq!(number::sum(1_000_000_000, 1), None);
-    assert_eq!(number::difference(-999_999_999, 1), Some(-1_000_000_000));
-    assert_eq!(number::difference(-1_000_000_000, 1), None);
+    assert_eq!(on(0x15, -7, 2), Ok(-3));
+    assert_eq!(on(0x16, -7, 2), Ok(-1));
+    assert_eq!(on(0x15, 5, 0), Err(ZeroDivisor));
+    assert_eq!(on(0x16, 5, 0), Err(ZeroDivisor));
+    assert_eq!(on(0x14, 31_622, 31_622), Ok(999_950_884));
+    assert_eq!(on(0x14, 31_623, 31_623), Err(OutOfNumbers));
+    assert_eq!(number::quotient(7, -2), Ok(-3));
+    assert_eq!(number::remainder(7, -2), Ok(1));
+    assert_eq!(number::sum(999_999_999, 1), Ok(1_000_000_000));
+    assert_eq!(number::sum(1_000_000_000, 1), Err(OutOfNumbers));
+    let lowest = number::difference(-999_999_999, 1);
+    assert_eq!(lowest, Ok(-1_000_000_000));
+    let below = number::difference(-1_000_000_000, 1);
+    assert_eq!(below, Err(OutOfNumbers));
 }
 
 #[test]
 fn starred_lag() {
-    assert_eq!(value(&[0x11, 0, 3], &[42]), Some(42));
-    assert_eq!(value(&[0x11, 0, 3], &[42, 1, 2]), Some(42));
-    assert_eq!(value(&[0x11, 0, 1], &[42, 1, 2]), Some(1));
-    assert_eq!(value(&[0x11, 0, 0], &[42, 1, 2]), Some(2));
+    assert_eq!(value(&[0x11, 0, 3], &[42]), Ok(42));
+    assert_eq!(value(&[0x11, 0, 3], &[42, 1, 2]), Ok(42));
+    assert_eq!(value(&[0x11, 0, 1], &[42, 1, 2]), Ok(1));
+    assert_eq!(value(&[0x11, 0, 0], &[42, 1, 2]), Ok(2));
 }
 
 #[test]

@@ -3,7 +3,7 @@
 use waroth_reference::generate::draft::{law, Draft};
 use waroth_reference::generate::laws::{constant, node};
 use waroth_reference::generate::random::Random;
-use waroth_reference::generate::{sheets, verdicts, Expect};
+use waroth_reference::generate::{sheets, troubles, verdicts, Expect};
 use waroth_reference::judge::{judge, Judged, Verdict, LEVELS};
 use waroth_reference::plain;
 
@@ -22,7 +22,7 @@ fn compare(draft: &Draft, sheet: &[u8]) -> Judged {
 #[test]
 fn random_sheets() {
     let mut r = Random::seeded(21);
-    let mut kinds = [0; 9];
+    let mut kinds = [0; 10];
     for _ in 0..4_000 {
         let draft = Draft::random(&mut r);
         let sheet = sheets::sheet(&mut r, &draft);
@@ -33,7 +33,7 @@ fn random_sheets() {
             Verdict::Broken { kind, step, .. } => {
                 let before = usize::from(step);
                 match kind {
-                    7 if before + 1 == all => (7, [before, all]),
+                    7 | 9 if before + 1 == all => (kind, [before, all]),
                     8 => (8, [all, all]),
                     kind => (kind, [before, before]),
                 }
@@ -48,7 +48,8 @@ fn random_sheets() {
 #[test]
 fn wanted_verdicts() {
     let mut r = Random::seeded(22);
-    for (label, expect, make) in verdicts::trials() {
+    let trials = verdicts::trials().into_iter().chain(troubles::further());
+    for (label, expect, make) in trials {
         for _ in 0..10 {
             let (draft, sheet) = make(&mut r);
             let Judged { verdict, states } = compare(&draft, &sheet);
@@ -93,6 +94,8 @@ fn operands_of_every_shape() {
         sum.clone(),
         node(0x17, &[&fluent]),
         node(0x14, &[&fluent, &fluent]),
+        node(0x15, &[&fluent, &constant(0)]),
+        node(0x14, &[&constant(31_623), &constant(31_623)]),
     ];
     let constraints = [
         vec![0x2A],
@@ -100,6 +103,8 @@ fn operands_of_every_shape() {
         vec![0x29, 0, 1],
         node(0x22, &[&fluent, &constant(7)]),
         node(0x25, &[&constant(7), &sum]),
+        node(0x20, &[&expressions[7], &fluent]),
+        node(0x20, &[&fluent, &expressions[8]]),
     ];
     let binary = |codes: std::ops::RangeInclusive<u8>, operands: &[Vec<u8>]| {
         let mut parts = Vec::new();
@@ -114,17 +119,18 @@ fn operands_of_every_shape() {
     let mut parts = binary(0x12..=0x16, &expressions);
     parts.extend(binary(0x20..=0x25, &expressions).iter().map(reified));
     parts.extend(binary(0x26..=0x27, &constraints).iter().map(reified));
-    let mut met = [false; 2];
+    let mut met = [false; 10];
     for part in &parts {
         for whole in [
             part.clone(),
             node(0x18, &[part]),
             node(0x13, &[&fluent, part]),
         ] {
-            met[usize::from(both(&whole).is_ok())] = true;
+            met[usize::from(both(&whole).err().unwrap_or(0))] = true;
         }
     }
-    assert_eq!(met, [true; 2]);
+    assert!(met[0] && met[7] && met[9]);
     assert_eq!(both(&node(0x13, &[&constant(2), &sum])), Ok(3));
     assert_eq!(both(&node(0x15, &[&sum, &constant(0)])), Err(7));
+    assert_eq!(both(&expressions[8]), Err(9));
 }

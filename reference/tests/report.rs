@@ -6,7 +6,7 @@ use waroth_reference::generate::draft::{law, sheet_text, Draft};
 use waroth_reference::generate::laws::{constant, node};
 use waroth_reference::generate::random::Random;
 use waroth_reference::generate::report::{input_of, NEARLY_MARKS};
-use waroth_reference::generate::{verdicts, Case, Expect, Generator};
+use waroth_reference::generate::{troubles, verdicts, Case, Expect, Generator};
 use waroth_reference::judge::{Verdict, LEVELS};
 use waroth_reference::program::{Program, OUTPUT_BYTES};
 use waroth_reference::report::LONGEST_INPUT;
@@ -396,7 +396,8 @@ fn every_kind_of_fault_stands_among_accepted_sheets() {
     // The generator puts each trial's sheet between empty ones.
     let mut r = Random::seeded(32);
     let mut kinds = BTreeSet::new();
-    for (label, expect, make) in verdicts::trials() {
+    let trials = verdicts::trials().into_iter().chain(troubles::further());
+    for (label, expect, make) in trials {
         let (draft, sheet) = make(&mut r);
         let text = sheet_text(&sheet, draft.agents);
         let out = report(input_of(&draft.text(), &[vec![], text, vec![]]));
@@ -411,8 +412,7 @@ fn every_kind_of_fault_stands_among_accepted_sheets() {
             _ => false,
         };
     }
-    let all = (1..=7)
-        .map(|kind| (kind, false))
-        .chain([(7, true), (8, true)]);
-    assert!(kinds.into_iter().eq(all));
+    let of_steps = (1..=7).chain([9]).map(|kind| (kind, false));
+    let of_goals = (7..=9).map(|kind| (kind, true));
+    assert_eq!(kinds, of_steps.chain(of_goals).collect());
 }

@@ -13,7 +13,8 @@ use super::report::{self, has_mark, input_of, reporting};
 use super::sheets::{self, SESSION_FAULTS};
 use super::supplements::{self, Place, PLACES};
 use super::texts::{damaged_line, CHARACTER_FAULTS, ORDER_FAULTS, SHEET_FAULTS};
-use super::verdicts::{trials, Trial};
+use super::troubles;
+use super::verdicts::{self, Trial};
 use crate::domain::Counts;
 use crate::judge::LEVELS;
 use crate::program::{Program, OUTPUT_BYTES};
@@ -22,7 +23,6 @@ use crate::session::Session;
 use crate::sheet::SHEET_BYTES;
 use crate::store::STORE_BYTES;
 use crate::supplement::{LawInForce, SUPPLEMENT_BYTES};
-use std::rc::Rc;
 
 #[derive(Clone, Copy, PartialEq, Eq, Debug)]
 pub enum Expect {
@@ -467,73 +467,32 @@ impl Aims {
         }
     }
 
-    /// A trial, before the judge, as a session and as a program's input; with
-    /// laws that only a supplement has, or two that are laid one over the other;
-    /// and as sheets of a report.
-    fn trial(&mut self, (label, expect, make): Trial) {
-        let make = Rc::new(make);
-        let again = make.clone();
-        self.add(format!("judge: {label}"), expect, move |r| {
-            let (draft, sheet) = again(r);
-            let bytes = draft.bytes();
-            Case::Judge {
-                store: stored(r, bytes),
-                sheet,
-                levels: enough_levels(r),
-            }
+    /// A trial before all calls that judge, and as sheets of a report.
+    fn trial(&mut self, trial: Trial) {
+        JUDGING.iter().for_each(|call| self.tried(call, &trial));
+        self.reported(trial);
+    }
+
+    /// A trial before one of the calls that give its verdict, which are taken in
+    /// turn.
+    fn trial_in_turn(&mut self, turn: usize, trial: &Trial) {
+        // Trials come in rows of six and of twelve, which should not keep their calls.
+        let calls = JUDGING.len();
+        let call = turn + turn / calls + turn / (calls * calls);
+        self.tried(&JUDGING[call % calls], trial);
+    }
+
+    fn tried(&mut self, &(name, judging): &(&str, Judging), (label, expect, make): &Trial) {
+        let make = make.clone();
+        self.add(format!("{name}: {label}"), *expect, move |r| {
+            let (draft, sheet) = make(r);
+            judging(r, draft, sheet)
         });
-        let again = make.clone();
-        self.add(format!("verdict: {label}"), expect, move |r| {
-            let (draft, sheet) = again(r);
-            let store = draft.bytes();
-            let levels = enough_levels(r);
-            let session = sheets::session_of(&sheet, draft.agents);
-            on(session, Call::Verdict { store, levels })
-        });
-        let again = make.clone();
-        self.add(format!("program: {label}"), expect, move |r| {
-            let (draft, sheet) = again(r);
-            let mut input = draft.text();
-            input.extend(sheet_text(&sheet, draft.agents));
-            printing(r, input)
-        });
-        let again = make.clone();
-        self.add(format!("judge_under: {label}"), expect, move |r| {
-            let (draft, sheet) = again(r);
-            let (other, lines) = supplements::behind(r, &draft);
-            Case::JudgeUnder {
-                store: stored(r, other.bytes()),
-                supplement: stored_supplement(r, lines.concat()),
-                sheet,
-                levels: enough_levels(r),
-            }
-        });
-        let again = make.clone();
-        self.add(format!("lay and judge_under: {label}"), expect, move |r| {
-            let (draft, sheet) = again(r);
-            let (other, lines) = supplements::behind_two(r, &draft);
-            let judging = SupplementCall::Judge {
-                supplement: 2,
-                sheet,
-                levels: enough_levels(r),
-            };
-            Case::Supplements {
-                store: stored(r, other.bytes()),
-                supplements: lines
-                    .map(|lines| stored_supplement(r, lines.concat()))
-                    .to_vec(),
-                calls: vec![laying(r, 0, 1), judging],
-            }
-        });
-        let again = make.clone();
-        self.add(format!("low_water: {label}"), expect, move |r| {
-            let (draft, sheet) = again(r);
-            let (other, lines) = supplements::behind(r, &draft);
-            let sheet = sheet_text(&sheet, draft.agents);
-            let input = [other.text(), text_of(&lines), sheet].concat();
-            printing_by(Program::LowWater, r, input)
-        });
-        // Twice, and twice an empty sheet, which almost every trial's domain accepts.
+    }
+
+    /// Twice as a sheet of a report, and twice an empty sheet, which almost every
+    /// trial's domain accepts.
+    fn reported(&mut self, (label, expect, make): Trial) {
         let empty = report::accepts_empty(&make(&mut Random::seeded(1)).0);
         let accepted = 2 * usize::from(expect == Expect::Accepted) + 2 * usize::from(empty);
         let broken = 4 - accepted;
@@ -549,6 +508,60 @@ impl Aims {
         });
     }
 }
+
+/// Puts a domain and a sheet before a call that judges.
+type Judging = fn(&mut Random, Draft, Vec<u8>) -> Case;
+
+/// Before the judge, as a session and as a program's input; with laws that only a
+/// supplement has, or two that are laid one over the other.
+const JUDGING: &[(&str, Judging)] = &[
+    ("judge", |r, draft, sheet| Case::Judge {
+        store: stored(r, draft.bytes()),
+        sheet,
+        levels: enough_levels(r),
+    }),
+    ("verdict", |r, draft, sheet| {
+        let store = draft.bytes();
+        let levels = enough_levels(r);
+        let session = sheets::session_of(&sheet, draft.agents);
+        on(session, Call::Verdict { store, levels })
+    }),
+    ("program", |r, draft, sheet| {
+        let mut input = draft.text();
+        input.extend(sheet_text(&sheet, draft.agents));
+        printing(r, input)
+    }),
+    ("judge_under", |r, draft, sheet| {
+        let (other, lines) = supplements::behind(r, &draft);
+        Case::JudgeUnder {
+            store: stored(r, other.bytes()),
+            supplement: stored_supplement(r, lines.concat()),
+            sheet,
+            levels: enough_levels(r),
+        }
+    }),
+    ("lay and judge_under", |r, draft, sheet| {
+        let (other, lines) = supplements::behind_two(r, &draft);
+        let judging = SupplementCall::Judge {
+            supplement: 2,
+            sheet,
+            levels: enough_levels(r),
+        };
+        Case::Supplements {
+            store: stored(r, other.bytes()),
+            supplements: lines
+                .map(|lines| stored_supplement(r, lines.concat()))
+                .to_vec(),
+            calls: vec![laying(r, 0, 1), judging],
+        }
+    }),
+    ("low_water", |r, draft, sheet| {
+        let (other, lines) = supplements::behind(r, &draft);
+        let sheet = sheet_text(&sheet, draft.agents);
+        let input = [other.text(), text_of(&lines), sheet].concat();
+        printing_by(Program::LowWater, r, input)
+    }),
+];
 
 /// Makes a domain's text.
 trait MakesText: Fn(&mut Random) -> Vec<u8> + Copy + 'static {}
@@ -642,6 +655,11 @@ pub fn aims() -> Vec<Aim> {
         });
     }
     aims.0.extend(report::aims());
-    trials().into_iter().for_each(|trial| aims.trial(trial));
+    verdicts::trials()
+        .into_iter()
+        .for_each(|trial| aims.trial(trial));
+    for (turn, trial) in troubles::further().iter().enumerate() {
+        aims.trial_in_turn(turn, trial);
+    }
     aims.0
 }

@@ -54,10 +54,19 @@ const FAULTS: &[Fault] = &[
     (7, false),
     (7, true),
     (8, true),
+    (9, false),
+    (9, true),
 ];
 
 /// Those that are possible before step 1.
-const FAULTS_AT_START: &[Fault] = &[(6, false), (7, false), (7, true), (8, true)];
+const FAULTS_AT_START: &[Fault] = &[
+    (6, false),
+    (7, false),
+    (7, true),
+    (8, true),
+    (9, false),
+    (9, true),
+];
 
 fn named((kind, of_goal): Fault) -> String {
     format!("{kind}{}", if of_goal { " of a goal" } else { "" })

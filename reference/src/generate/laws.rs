@@ -32,6 +32,17 @@ pub fn wrapped(code: u8, times: usize, part: &[u8]) -> Vec<u8> {
     bytes
 }
 
+/// A number at an end of the range, near it, or beyond it.
+fn large(r: &mut Random) -> Vec<u8> {
+    let &[left, right] = r.pick(&[
+        [31_250, 32_000],
+        [32_000, -31_250],
+        [31_622, -31_622],
+        [31_623, 31_623],
+    ]);
+    node(0x14, &[&constant(left), &constant(right)])
+}
+
 pub fn lag(r: &mut Random) -> u8 {
     match r.below(20) {
         0..=11 => 0,
@@ -60,10 +71,10 @@ impl Ground<'_> {
     /// An expression at most so many levels deep, its own included.
     pub fn expression(&self, r: &mut Random, levels: usize) -> Vec<u8> {
         if levels < 3 || r.one_in(3) {
-            return if r.one_in(3) {
-                self.constant(r)
-            } else {
-                self.fluent(r)
+            return match r.below(18) {
+                0 if levels > 1 => large(r),
+                0..=5 => self.constant(r),
+                _ => self.fluent(r),
             };
         }
         let code = *r.pick(&[0x12, 0x12, 0x13, 0x13, 0x14, 0x15, 0x16, 0x17, 0x18, 0x19]);

@@ -17,6 +17,7 @@ pub mod shapes;
 pub mod sheets;
 pub mod supplements;
 pub mod texts;
+pub mod troubles;
 pub mod verdicts;
 
 pub use aims::{Aim, Expect};

@@ -1,6 +1,6 @@
--- The cases of document 01: those marked with a star in one list, the others in a second; beside them what they leave open, and the
--- sentences of document 02. Three statements here, since one may compute only so much, and a fourth, of the long texts, in
--- `theorems`.
+-- The cases of document 01: those marked with a star in one list, with K3's three figures in the place of the one that it changes, the
+-- others in a second; beside them what they leave open, and the sentences of document 02. Three statements here, since one may compute
+-- only so much, and a fourth, of the long texts, in `theorems`.
 use Prim.Native.Nat.{ℕ, _+_}
 use mathlib.Core.Path.{_≡_, refl}
 use mathlib.Core.Bool.{Bool, false}
@@ -52,6 +52,10 @@ sheet steps r = record { Of = Reading Judged; left = judgedUnder p steps; right 
 abbrev number : Valued ℤ → Valued ℤ → Case
 number v w = record { Of = Valued ℤ; left = v; right = w }
 
+-- quotient and remainder of a by b
+abbrev quotients : ℤ → ℤ → ℤ → ℤ → Case
+quotients a b q r = record { Of = Valued ℤ × Valued ℤ; left = (operate Quotient a b, operate Remainder a b); right = (value q, value r) }
+
 abbrev prints : List ℕ → List ℕ → Case
 prints input out = record { Of = List ℕ; left = output input; right = out }
 
@@ -73,8 +77,10 @@ starred =
     ∷ sheet (first ∷ first ∷ []) (gives (300 ∷ 286 ∷ 272 ∷ []) (broken 8 2 4))
     ∷ sheet (first ∷ first ∷ first ∷ first ∷ first ∷ first ∷ []) (gives (300 ∷ 286 ∷ 272 ∷ 258 ∷ 244 ∷ 230 ∷ 216 ∷ []) (broken 8 6 4))
     ∷ sheet (first ∷ first ∷ first ∷ first ∷ first ∷ first ∷ first ∷ []) (gives (300 ∷ 286 ∷ 272 ∷ 258 ∷ 244 ∷ 230 ∷ 216 ∷ []) (broken 2 7 0))
-    ∷ number (operate Quotient (negsuc 6) (pos 2)) (value (negsuc 2))
-    ∷ number (operate Remainder (negsuc 6) (pos 2)) (value (negsuc 0))
+    -- K3: "−7 by 2 gives −4 and 1; 7 by −2 gives −4 and −1; −8 by 2 gives −4 and 0"
+    ∷ quotients (negsuc 6) (pos 2) (negsuc 3) (pos 1)
+    ∷ quotients (pos 7) (negsuc 1) (negsuc 3) (negsuc 0)
+    ∷ quotients (negsuc 7) (pos 2) (negsuc 3) (pos 0)
     ∷ number (operate Quotient (pos 5) (pos 0)) (no-value ZeroDivisor)
     ∷ number (operate Remainder (pos 5) (pos 0)) (no-value ZeroDivisor)
     ∷ number (operate Product (pos 31_622) (pos 31_622)) (value (pos 999_950_884))
@@ -204,7 +210,7 @@ edges =
     -- an unknown fluent in a law
     ∷ prints (pool ++ text "A80720110100100000\n") (text "REFUSED 4 5\n")
     -- what codes 15 to 19 and 20 to 28 mean, beside the cases above
-    ∷ prints (pool ++ text "A90C201510FFF910000217100003\nA90D201610FFF9100002171810FFFF\nA90E2620192A1000012019282A100000\nA91026211000021000012821100001100001\nA910262210FFFF1000012822100001100001\nA9102623100001100001282310000110FFFF\nA90528262A282A\nA90427282A2A\n") (text "S 0 300\nACCEPTED\n")
+    ∷ prints (pool ++ text "A90C201510FFF910000217100004\nA90C201610FFF91000021810FFFF\nA90E2620192A1000012019282A100000\nA91026211000021000012821100001100001\nA910262210FFFF1000012822100001100001\nA9102623100001100001282310000110FFFF\nA90528262A282A\nA90427282A2A\n") (text "S 0 300\nACCEPTED\n")
     -- a line that starts with B is the domain's
     ∷ prints (text "A10102\nB0\n") (text "REFUSED 2 2\n")
     -- an input of 60,001 bytes
@@ -749,18 +755,89 @@ troubles =
     ∷ record { Of = Judgement; left = verdict (record { agents = 1; standing = enter (1 ∷ []) ∷ []; undone = [] }) (161 ∷ 1 ∷ 1 ∷ 162 ∷ 6 ∷ 0 ∷ 0 ∷ 0 ∷ 9 ∷ 0 ∷ 1 ∷ 164 ∷ 3 ∷ 1 ∷ 0 ∷ 1 ∷ 165 ∷ 12 ∷ 0 ∷ 32 ∷ 20 ∷ 16 ∷ 123 ∷ 135 ∷ 16 ∷ 123 ∷ 135 ∷ 16 ∷ 0 ∷ 0 ∷ []) (replicate 2_080 (pos 7)); right = record { answer = got (broken 9 1 0); levels = pos 1 ∷ replicate 2_079 (pos 7) } }
     ∷ []
 
+-- K3: quotients rounded down
+abbrev pub divisions : List Case
+divisions =
+    -- the four signs, with a remainder and without one; −7 by 2, 7 by −2 and −8 by 2 stand in `starred`
+    quotients (pos 7) (pos 2) (pos 3) (pos 1)
+    ∷ quotients (negsuc 6) (negsuc 1) (pos 3) (negsuc 0)
+    ∷ quotients (pos 8) (pos 2) (pos 4) (pos 0)
+    ∷ quotients (pos 8) (negsuc 1) (negsuc 3) (pos 0)
+    ∷ quotients (negsuc 7) (negsuc 1) (pos 4) (pos 0)
+    -- with larger remainders
+    ∷ quotients (pos 100) (pos 7) (pos 14) (pos 2)
+    ∷ quotients (negsuc 99) (pos 7) (negsuc 14) (pos 5)
+    ∷ quotients (pos 100) (negsuc 6) (negsuc 14) (negsuc 4)
+    ∷ quotients (negsuc 99) (negsuc 6) (pos 14) (negsuc 1)
+    -- a dividend smaller in size than the divisor, and as large
+    ∷ quotients (pos 1) (pos 2) (pos 0) (pos 1)
+    ∷ quotients (negsuc 0) (pos 2) (negsuc 0) (pos 1)
+    ∷ quotients (pos 1) (negsuc 1) (negsuc 0) (negsuc 0)
+    ∷ quotients (negsuc 0) (negsuc 1) (pos 0) (negsuc 0)
+    ∷ quotients (pos 2) (pos 2) (pos 1) (pos 0)
+    ∷ quotients (negsuc 1) (pos 2) (negsuc 0) (pos 0)
+    ∷ quotients (pos 2) (negsuc 1) (negsuc 0) (pos 0)
+    ∷ quotients (negsuc 1) (negsuc 1) (pos 1) (pos 0)
+    -- 0 by either sign
+    ∷ quotients (pos 0) (pos 5) (pos 0) (pos 0)
+    ∷ quotients (pos 0) (negsuc 4) (pos 0) (pos 0)
+    -- by 1 and by −1, at either end of the number range: no quotient is beyond it
+    ∷ quotients (pos 1_000_000_000) (pos 1) (pos 1_000_000_000) (pos 0)
+    ∷ quotients (negsuc 999_999_999) (pos 1) (negsuc 999_999_999) (pos 0)
+    ∷ quotients (pos 1_000_000_000) (negsuc 0) (negsuc 999_999_999) (pos 0)
+    ∷ quotients (negsuc 999_999_999) (negsuc 0) (pos 1_000_000_000) (pos 0)
+    -- by the ends and their neighbours
+    ∷ quotients (pos 1_000_000_000) (negsuc 999_999_999) (negsuc 0) (pos 0)
+    ∷ quotients (negsuc 999_999_999) (pos 1_000_000_000) (negsuc 0) (pos 0)
+    ∷ quotients (pos 1) (negsuc 999_999_999) (negsuc 0) (negsuc 999_999_998)
+    ∷ quotients (negsuc 0) (pos 1_000_000_000) (negsuc 0) (pos 999_999_999)
+    ∷ quotients (negsuc 0) (negsuc 999_999_999) (pos 0) (negsuc 0)
+    ∷ quotients (pos 1_000_000_000) (negsuc 999_999_998) (negsuc 1) (negsuc 999_999_997)
+    ∷ quotients (negsuc 999_999_999) (pos 999_999_999) (negsuc 1) (pos 999_999_998)
+    ∷ quotients (negsuc 999_999_998) (pos 1_000_000_000) (negsuc 0) (pos 1)
+    -- large ones
+    ∷ quotients (pos 1_000_000_000) (negsuc 2) (negsuc 333_333_333) (negsuc 1)
+    ∷ quotients (negsuc 999_999_999) (pos 3) (negsuc 333_333_333) (pos 2)
+    ∷ quotients (pos 123_456_789) (negsuc 9_999) (negsuc 12_345) (negsuc 3_210)
+    ∷ quotients (negsuc 123_456_788) (pos 10_000) (negsuc 12_345) (pos 3_211)
+    ∷ quotients (negsuc 123_456_788) (negsuc 9_999) (pos 12_345) (negsuc 6_788)
+    -- "wherever both have values": of numbers, not of a law that multiplies them out: quotient × divisor may be beyond the range
+    ∷ lacks OutOfRange (two Product (two Quotient (constant (negsuc 999_999_999)) (constant (pos 3))) (constant (pos 3)))
+    -- a negative dividend by zero
+    ∷ number (operate Quotient (negsuc 4) (pos 0)) (no-value ZeroDivisor)
+    ∷ number (operate Remainder (negsuc 4) (pos 0)) (no-value ZeroDivisor)
+    -- the range is asked of either result
+    ∷ number (operate Quotient (pos 1_000_000_001) (pos 1)) (no-value OutOfRange)
+    ∷ number (operate Remainder (pos 1_000_000_001) (pos 1_000_000_002)) (no-value OutOfRange)
+    -- "the remainder by 96 on counts that run below zero": the last quarter hour of the day before, its second and its first; the last
+    -- of the day before that; the day's own last, and the first of the next; and by −96
+    ∷ quotients (negsuc 0) (pos 96) (negsuc 0) (pos 95)
+    ∷ quotients (negsuc 94) (pos 96) (negsuc 0) (pos 1)
+    ∷ quotients (negsuc 95) (pos 96) (negsuc 0) (pos 0)
+    ∷ quotients (negsuc 96) (pos 96) (negsuc 1) (pos 95)
+    ∷ quotients (pos 95) (pos 96) (pos 0) (pos 95)
+    ∷ quotients (pos 96) (pos 96) (pos 1) (pos 0)
+    ∷ quotients (pos 1) (negsuc 95) (negsuc 0) (negsuc 94)
+    -- the shift, fluent 1 (from 0 to 95), and the day, fluent 2, of a count that runs below zero, fluent 0; law 4, a static law, says
+    -- that the count is day × 96 + shift
+    ∷ prints (text "A10101\nA206FF3800C80001\nA2060000005F0001\nA206FFFE00020000\nA403010001\nA502002A\nA60A002A0013110000100001\nA60E002A011613110000100001100060\nA60E002A021513110000100001100060\nA70F201100001214110200100060110100\nB10101\nB10101\nB10101\n") (text "S 0 1 1 0\nS 1 0 0 0\nS 2 -1 95 -1\nS 3 -2 94 -1\nACCEPTED\n")
+    -- what held before: the remainder of −7 by 2 is not −1, nor its quotient −3
+    ∷ prints (pool ++ text "A90B201610FFF910000210FFFF\n") (text "S 0 300\nBROKEN 8 0 1\n")
+    ∷ prints (pool ++ text "A90B201510FFF910000210FFFD\n") (text "S 0 300\nBROKEN 8 0 1\n")
+    ∷ []
+
 abbrev pub AllHold : List Case → Type 0
 AllHold [] = Unit {0}
 AllHold (c ∷ l) = (c .left ≡ c .right) × AllHold l
 
 pub shown : AllHold starred × AllHold others × AllHold edges × AllHold sessions × AllHold calls × AllHold supplements × AllHold layings
 unfolding p judgedUnder text any all flat numbers bounded signedWord namedE namedC allowedE allowedC evalE evalC codeOf parseE parseC linesOf digit bytes framed decode occursIn knownTo readable maskFits agentsFit fluentFits knowledgeFits entryFits executableIn effectIn mustIn lawIn itemIn inOrder room fresh checked accept complete takenFrom stepOf stepsFrom eachFrom history holds carries placed permits permitted mayOccur sets settled levelAfter stateAfter inRange landed step carried ran judge digitsOf spaced stateLines split output edited replayed standingSheet edit undo redo turn after replies loggedAll layout openSession readDomain standsAt frameAt framesFrom domainIn start nextFrame writeDomain stepsIn readSheet rows judgeSheet sheetOf verdict digitFor hex lineFor replacementOf inForceFrom replaced replacementIn supplementFrom readSupplement supplementIn judgeUnder lawParts replacementPart lawInForce lowWater byNumber ordered laid laySupplements orderSupplement startsWith
-shown = ((refl, (refl, (refl, (refl, (refl, (refl, (refl, (refl, (refl, (refl, (refl, (refl, (refl, (refl, (refl, (refl, tt)))))))))))))))), (refl, (refl, (refl, (refl, (refl, (refl, tt)))))), (refl, (refl, (refl, (refl, (refl, (refl, (refl, (refl, (refl, (refl, (refl, (refl, (refl, (refl, (refl, (refl, (refl, (refl, (refl, (refl, (refl, (refl, (refl, (refl, (refl, (refl, (refl, (refl, (refl, (refl, (refl, (refl, (refl, (refl, (refl, (refl, (refl, (refl, (refl, (refl, (refl, (refl, (refl, (refl, (refl, (refl, (refl, (refl, (refl, (refl, (refl, (refl, (refl, (refl, (refl, (refl, (refl, (refl, (refl, tt))))))))))))))))))))))))))))))))))))))))))))))))))))))))))), (refl, (refl, (refl, (refl, (refl, (refl, (refl, (refl, (refl, (refl, tt)))))))))), (refl, (refl, (refl, (refl, (refl, (refl, (refl, (refl, (refl, (refl, (refl, (refl, (refl, tt))))))))))))), (refl, (refl, (refl, (refl, (refl, (refl, (refl, (refl, (refl, (refl, (refl, (refl, (refl, (refl, (refl, (refl, (refl, (refl, (refl, (refl, (refl, (refl, (refl, (refl, (refl, (refl, (refl, (refl, (refl, (refl, (refl, (refl, (refl, (refl, (refl, (refl, (refl, (refl, (refl, (refl, (refl, (refl, (refl, (refl, (refl, (refl, (refl, (refl, (refl, (refl, (refl, (refl, (refl, (refl, (refl, (refl, (refl, (refl, (refl, (refl, (refl, tt))))))))))))))))))))))))))))))))))))))))))))))))))))))))))))), (refl, (refl, (refl, (refl, (refl, (refl, (refl, (refl, (refl, (refl, (refl, (refl, (refl, (refl, (refl, (refl, (refl, (refl, (refl, (refl, (refl, (refl, (refl, (refl, (refl, (refl, (refl, (refl, (refl, (refl, (refl, (refl, (refl, (refl, (refl, tt))))))))))))))))))))))))))))))))))))
+shown = ((refl, (refl, (refl, (refl, (refl, (refl, (refl, (refl, (refl, (refl, (refl, (refl, (refl, (refl, (refl, (refl, (refl, tt))))))))))))))))), (refl, (refl, (refl, (refl, (refl, (refl, tt)))))), (refl, (refl, (refl, (refl, (refl, (refl, (refl, (refl, (refl, (refl, (refl, (refl, (refl, (refl, (refl, (refl, (refl, (refl, (refl, (refl, (refl, (refl, (refl, (refl, (refl, (refl, (refl, (refl, (refl, (refl, (refl, (refl, (refl, (refl, (refl, (refl, (refl, (refl, (refl, (refl, (refl, (refl, (refl, (refl, (refl, (refl, (refl, (refl, (refl, (refl, (refl, (refl, (refl, (refl, (refl, (refl, (refl, (refl, (refl, tt))))))))))))))))))))))))))))))))))))))))))))))))))))))))))), (refl, (refl, (refl, (refl, (refl, (refl, (refl, (refl, (refl, (refl, tt)))))))))), (refl, (refl, (refl, (refl, (refl, (refl, (refl, (refl, (refl, (refl, (refl, (refl, (refl, tt))))))))))))), (refl, (refl, (refl, (refl, (refl, (refl, (refl, (refl, (refl, (refl, (refl, (refl, (refl, (refl, (refl, (refl, (refl, (refl, (refl, (refl, (refl, (refl, (refl, (refl, (refl, (refl, (refl, (refl, (refl, (refl, (refl, (refl, (refl, (refl, (refl, (refl, (refl, (refl, (refl, (refl, (refl, (refl, (refl, (refl, (refl, (refl, (refl, (refl, (refl, (refl, (refl, (refl, (refl, (refl, (refl, (refl, (refl, (refl, (refl, (refl, (refl, tt))))))))))))))))))))))))))))))))))))))))))))))))))))))))))))), (refl, (refl, (refl, (refl, (refl, (refl, (refl, (refl, (refl, (refl, (refl, (refl, (refl, (refl, (refl, (refl, (refl, (refl, (refl, (refl, (refl, (refl, (refl, (refl, (refl, (refl, (refl, (refl, (refl, (refl, (refl, (refl, (refl, (refl, (refl, tt))))))))))))))))))))))))))))))))))))
 
 pub mornings-shown : AllHold mornings
 unfolding p text all flat any numbers bounded signedWord namedE namedC allowedE allowedC evalE evalC codeOf parseE parseC linesOf digit bytes framed decode occursIn knownTo readable maskFits agentsFit fluentFits knowledgeFits entryFits executableIn effectIn mustIn lawIn itemIn inOrder room fresh checked accept complete takenFrom stepOf stepsFrom eachFrom history holds carries placed permits permitted mayOccur sets settled levelAfter stateAfter inRange landed step carried ran judge digitsOf spaced startsWith split output replacementOf supplementFrom lowWater those textsOf sheetsFrom lowestOf highestOf sumOf report
 mornings-shown = (refl, (refl, (refl, (refl, (refl, (refl, (refl, (refl, (refl, (refl, (refl, (refl, (refl, (refl, (refl, (refl, (refl, (refl, (refl, (refl, (refl, (refl, (refl, (refl, (refl, (refl, (refl, (refl, (refl, (refl, (refl, (refl, (refl, (refl, (refl, (refl, (refl, (refl, (refl, (refl, (refl, tt)))))))))))))))))))))))))))))))))))))))))
 
-pub troubles-shown : AllHold troubles
+pub values-shown : AllHold troubles × AllHold divisions
 unfolding text all flat any numbers bounded signedWord namedE namedC allowedE allowedC evalE evalC codeOf parseE parseC linesOf digit bytes framed decode occursIn knownTo readable maskFits agentsFit fluentFits knowledgeFits entryFits executableIn effectIn mustIn lawIn itemIn inOrder room fresh checked accept complete takenFrom stepOf stepsFrom eachFrom history holds carries placed permits permitted mayOccur sets settled levelAfter stateAfter inRange landed step carried ran judge digitsOf spaced startsWith split output replacementOf supplementFrom lowWater those textsOf sheetsFrom lowestOf highestOf sumOf report stateLines inForceFrom replaced replacementIn standsAt frameAt framesFrom domainIn edited replayed standingSheet verdict
-troubles-shown = (refl, (refl, (refl, (refl, (refl, (refl, (refl, (refl, (refl, (refl, (refl, (refl, (refl, (refl, (refl, (refl, (refl, (refl, (refl, (refl, (refl, (refl, (refl, (refl, (refl, (refl, (refl, (refl, (refl, (refl, (refl, (refl, (refl, (refl, (refl, (refl, (refl, (refl, (refl, (refl, (refl, (refl, (refl, (refl, (refl, (refl, (refl, (refl, (refl, (refl, (refl, (refl, (refl, (refl, (refl, (refl, (refl, (refl, (refl, (refl, (refl, (refl, (refl, (refl, (refl, (refl, (refl, (refl, (refl, (refl, (refl, (refl, (refl, (refl, (refl, (refl, (refl, tt)))))))))))))))))))))))))))))))))))))))))))))))))))))))))))))))))))))))))))))
+values-shown = ((refl, (refl, (refl, (refl, (refl, (refl, (refl, (refl, (refl, (refl, (refl, (refl, (refl, (refl, (refl, (refl, (refl, (refl, (refl, (refl, (refl, (refl, (refl, (refl, (refl, (refl, (refl, (refl, (refl, (refl, (refl, (refl, (refl, (refl, (refl, (refl, (refl, (refl, (refl, (refl, (refl, (refl, (refl, (refl, (refl, (refl, (refl, (refl, (refl, (refl, (refl, (refl, (refl, (refl, (refl, (refl, (refl, (refl, (refl, (refl, (refl, (refl, (refl, (refl, (refl, (refl, (refl, (refl, (refl, (refl, (refl, (refl, (refl, (refl, (refl, (refl, (refl, tt))))))))))))))))))))))))))))))))))))))))))))))))))))))))))))))))))))))))))))), (refl, (refl, (refl, (refl, (refl, (refl, (refl, (refl, (refl, (refl, (refl, (refl, (refl, (refl, (refl, (refl, (refl, (refl, (refl, (refl, (refl, (refl, (refl, (refl, (refl, (refl, (refl, (refl, (refl, (refl, (refl, (refl, (refl, (refl, (refl, (refl, (refl, (refl, (refl, (refl, (refl, (refl, (refl, (refl, (refl, (refl, (refl, (refl, (refl, (refl, (refl, tt))))))))))))))))))))))))))))))))))))))))))))))))))))

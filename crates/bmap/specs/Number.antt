@@ -3,7 +3,7 @@ use Prim.Native.Nat.{ℕ, zero, suc, _+_, _*_, _-_, _/_, _%_}
 use mathlib.Core.Bool.{Bool, true, false, not}
 use lib.Dec.{ltb}
 use lib.IntN.{ℤ, pos, negsuc, negℤ, natAbs, _+ℤ_, _-ℤ_, _*ℤ_}
-use lib.Signed.{quotZ, remZ, ltZ, leZ}
+use lib.Signed.{quotZ, remZ, nonNeg, ltZ, leZ}
 use Rattle.bmap.specs.Plain.{both, if-else}
 use Rattle.bmap.specs.Limits.{mostValue}
 use Rattle.bmap.specs.declared.Reason.{Reason}
@@ -48,13 +48,27 @@ unlessZero (pos zero) v = no-value ZeroDivisor
 unlessZero (pos (suc n)) v = v
 unlessZero (negsuc n) v = v
 
--- "Quotient truncates toward zero; the remainder has the dividend's sign"
+-- K3: "the remainder takes the divisor's sign or is 0": a remainder, and its divisor
+abbrev pub takesSign : ℤ → ℤ → Bool
+takesSign (pos zero) b = true
+takesSign (pos (suc n)) b = nonNeg b
+takesSign (negsuc n) b = not (nonNeg b)
+
+-- K3: "The quotient is to be rounded down": a quotient toward zero is so already, unless what it leaves has the other sign than the
+-- divisor; then the quotient is one less, and the remainder one divisor more
+abbrev pub roundedDown : ℤ → ℤ → ℤ
+roundedDown a b = if-else (takesSign (remZ a b) b) (quotZ a b) (quotZ a b -ℤ pos 1)
+
+abbrev pub remaining : ℤ → ℤ → ℤ
+remaining a b = if-else (takesSign (remZ a b) b) (remZ a b) (remZ a b +ℤ b)
+
+-- "12 sum; 13 difference; 14 product; 15 quotient; 16 remainder"
 abbrev pub operate : Operation → ℤ → ℤ → Valued ℤ
 operate Sum a b = bounded (a +ℤ b)
 operate Difference a b = bounded (a -ℤ b)
 operate Product a b = bounded (a *ℤ b)
-operate Quotient a b = unlessZero b (bounded (quotZ a b))
-operate Remainder a b = unlessZero b (bounded (remZ a b))
+operate Quotient a b = unlessZero b (bounded (roundedDown a b))
+operate Remainder a b = unlessZero b (bounded (remaining a b))
 
 -- "17 negation; 18 absolute value"
 abbrev pub change : Single → ℤ → Valued ℤ

@@ -2,14 +2,16 @@
 use Prim.Native.Nat.{ℕ, _≤_, _<_, _+_, _*_, _/_}
 use mathlib.Core.Path.{_≡_}
 use mathlib.Core.Logic.{_↔_, _⊎_}
-use mathlib.Core.Bool.{true}
+use mathlib.Core.Bool.{Bool, true}
 use mathlib.Core.List.{List, [], map}
 use mathlib.Core.Option.{none, some}
 use lib.Dec.{T, leb, ltb}
-use lib.IntN.{ℤ}
+use lib.IntN.{ℤ, pos, natAbs, _+ℤ_, _*ℤ_}
+use lib.Signed.{nonNeg, leZ}
 use lib.ListN.{length, getD, take, replicate}
-use Rattle.bmap.specs.Plain.{all, flat, maybe}
+use Rattle.bmap.specs.Plain.{if-else, all, flat, maybe}
 use Rattle.bmap.specs.Limits.{mostAgents, mostFluents, mostKnowledge, mostEntries, mostLaws, mostPayload, mostSteps, storeSize, sheetSize, levelsSize, supplementSize, reportInput}
+use Rattle.bmap.specs.Number.{Valued, value, no-value, inBounds, bounded, operate}
 use Rattle.bmap.specs.Refusal.{got, refused, need, then, read}
 use Rattle.bmap.specs.Line.{linesOf, lineSize}
 use Rattle.bmap.specs.Domain.{Domain, Names, Law}
@@ -26,6 +28,8 @@ use Rattle.bmap.specs.Program.{split, sheetMark, supplemented, output, l
 use Rattle.bmap.specs.Report.{report}
 use Rattle.bmap.specs.Session.{isOpen, CouldBeLeft, Call, opened, after, replies, standingSheet, replayed, layout, openSession, verdictOf}
 use Rattle.bmap.specs.Series.{sessionAfter, repliesOf}
+use Rattle.bmap.specs.declared.Reason.the-variants.{ZeroDivisor}
+use Rattle.bmap.specs.declared.Operation.the-variants.{Quotient, Remainder}
 use Rattle.bmap.specs.declared.session.Session.{Session}
 
 -- what a lent buffer of bytes holds
@@ -102,6 +106,42 @@ SheetsStand = (store : List ℕ) (d : Domain) (calls : List Call) → domainIn s
 -- what is read decides: the bytes after so many change no report
 abbrev pub RestUnread : Type 0
 RestUnread = (input : List ℕ) → report (take reportInput input) ≡ report input
+
+-- ---- K3
+
+-- "gives": a by b, as quotient and remainder
+pub record Gives (a b : ℤ) (q r : Valued ℤ) : Type 0 where
+  pub quotient : operate Quotient a b ≡ q
+  pub remainder : operate Remainder a b ≡ r
+
+-- "Dividend equals quotient × divisor + remainder wherever both have values"
+abbrev pub DivisionReturns : Type 0
+DivisionReturns = (a b q r : ℤ) → Gives a b (value q) (value r) → a ≡ q *ℤ b +ℤ r
+
+-- what a divisor b may leave: "the remainder takes the divisor's sign or is 0", and it is smaller in size than the divisor
+pub record Leaves (b r : ℤ) : Type 0 where
+  pub signed : (nonNeg r ≡ nonNeg b) ⊎ (r ≡ pos 0)
+  pub smaller : natAbs r < natAbs b
+
+abbrev pub RemainderLeft : Type 0
+RemainderLeft = (a b r : ℤ) → operate Remainder a b ≡ value r → Leaves b r
+
+-- together they fix both: two numbers for which they hold are the quotient and the remainder, without value where beyond the range
+abbrev pub DivisionFixed : Type 0
+DivisionFixed = (a b q r : ℤ) → a ≡ q *ℤ b +ℤ r → Leaves b r → Gives a b (bounded q) (bounded r)
+
+-- n is at most a by b, multiplied out: a negative divisor turns it round
+abbrev pub notAbove : ℤ → ℤ → ℤ → Bool
+notAbove n a b = if-else (nonNeg b) (leZ (n *ℤ b) a) (leZ a (n *ℤ b))
+
+-- "The quotient is to be rounded down": it is the greatest whole number that is not above dividend by divisor
+abbrev pub QuotientDown : Type 0
+QuotientDown = (a b q : ℤ) → operate Quotient a b ≡ value q → (n : ℤ) → leZ n q ≡ notAbove n a b
+
+-- "wherever both have values": of two numbers in the range, unless the divisor is 0
+pub record DivisionValued : Type 0 where
+  pub values : (a b : ℤ) → inBounds a ≡ true → inBounds b ≡ true → (b ≡ pos 0 → ⊥) → (q : ℤ) × (r : ℤ) × Gives a b (value q) (value r)
+  pub none : (a : ℤ) → Gives a (pos 0) (no-value ZeroDivisor) (no-value ZeroDivisor)
 
 -- ---- K7
 

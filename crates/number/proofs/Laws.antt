@@ -7,14 +7,14 @@ use native.Mathlib.Omega.{arith}
 use lib.IntN.{ℤ, pos, negsuc, negℤ, natAbs, subℕ, _+ℤ_, _-ℤ_, _*ℤ_, +ℤ-idl}
 use lib.Dec.{T, ltb, leb, eqb, lit<, ltb→lt}
 use lib.Signed.{mag, leZ, ltZ, quotZ, remZ, mag-rem, nonNeg}
-use borrow.Author.Tests.{leb-true, leb-false, le-leb, lt-ltb, le-ltb, eqb-true, eq-eqb, ne-eqb}
+use borrow.Author.Tests.{leb-true, leb-false, le-leb, lt-leb, lt-ltb, le-ltb, eqb-true, eq-eqb, ne-eqb}
 use borrow.Author.Needs.{needs, sfits-of}
 use mir.Syntax.{Width, w16, w32, w64}
 use mir.Val.{Fits, SFits, hbits, toZ, ofZ}
 use mir.Facts.{sfits-widen, toZ-ofZ, toZ-pos, fits-natAbs}
 use Rattle.bmap.specs.Plain.{both}
 use Rattle.bmap.proofs.PlainLaws.{both-true}
-use Rattle.bmap.specs.Number.{Valued, value, no-value, with1, with2, bounded, unlessZero, operate, change, same, compare, flag, signedWord, bytesOf, bits}
+use Rattle.bmap.specs.Number.{Valued, value, no-value, with1, with2, bounded, unlessZero, takesSign, roundedDown, remaining, operate, change, same, compare, flag, signedWord, bytesOf, bits}
 use Rattle.bmap.specs.declared.Reason.{Reason}
 use Rattle.bmap.specs.declared.Reason.the-variants.{ZeroDivisor, OutOfRange}
 use Rattle.bmap.specs.declared.Operation.{Operation}
@@ -84,10 +84,12 @@ kept-is e f h = e ∙ ap bounded (toZ-ofZ f ∙ h)
 
 -- ---- a number tested against zero: a divisor by its bits, a sign by what is read back
 
+no-bits : (z : ℤ) → SFits w64 z → ofZ w64 z ≡ 0 → z ≡ pos 0
+no-bits (pos n) f e = ap pos e
+no-bits (negsuc n) f e = absurd (omega (arith, f .sfits))
+
 zero-divisor : {y : ℤ} (v : Valued ℤ) → SFits w32 y → ofZ w64 (back w32 y) ≡ 0 → no-value ZeroDivisor ≡ unlessZero y v
-zero-divisor {y = pos zero} v f e = refl
-zero-divisor {y = pos (suc n)} v f e = let h : suc n ≡ 0 = rw (toZ-ofZ f) at e in absurd (omega arith)
-zero-divisor {y = negsuc n} v f e = let h : 2 ^ 64 - suc n ≡ 0 = rw (toZ-ofZ f) at e in absurd (omega (arith, f .sfits))
+zero-divisor {y} v f e = rw (no-bits y (sfits-widen tt f) (rw (toZ-ofZ f) at e)) refl
 
 divisor : (y : ℤ) {r v : Valued ℤ} → (ofZ w64 y ≡ 0 → ⊥) → r ≡ v → r ≡ unlessZero y v
 divisor (pos zero) h e = absurd (h refl)
@@ -101,6 +103,25 @@ below-zero (negsuc n) h = refl
 above-zero : (x : ℤ) → ltZ x (pos 0) ≡ false → x ≡ pos (natAbs x)
 above-zero (pos n) h = refl
 above-zero (negsuc n) h = absurd (subst T h tt)
+
+sign-under : (r q : ℤ) → ltZ q (pos 0) ≡ true → leZ r (pos 0) ≡ takesSign r q
+sign-under r (pos n) h = absurd (omega (arith, leb-true (suc n) 0 h))
+sign-under (pos zero) (negsuc n) h = refl
+sign-under (pos (suc m)) (negsuc n) h = lt-leb (suc m) 0 (omega arith)
+sign-under (negsuc m) (negsuc n) h = refl
+
+sign-over : (r q : ℤ) → ltZ q (pos 0) ≡ false → leZ (pos 0) r ≡ takesSign r q
+sign-over r (negsuc n) h = absurd (subst T h tt)
+sign-over (pos zero) (pos n) h = refl
+sign-over (pos (suc m)) (pos n) h = le-leb 0 (suc m) (omega arith)
+sign-over (negsuc m) (pos n) h = refl
+
+module _ {r q : ℤ} (f : SFits w64 r) (g : SFits w64 q) where
+  pub sign-below : ltZ (back w64 q) (pos 0) ≡ true → leZ (back w64 r) (pos 0) ≡ takesSign r q
+  sign-below h = rw (toZ-ofZ f) (sign-under r q (rw (toZ-ofZ g) at h))
+
+  pub sign-above : ltZ (back w64 q) (pos 0) ≡ false → leZ (pos 0) (back w64 r) ≡ takesSign r q
+  sign-above h = rw (toZ-ofZ f) (sign-over r q (rw (toZ-ofZ g) at h))
 
 -- ---- an operator on two numbers of 32 bits: what the machine makes of them fits 64 bits and is what the definition says
 
@@ -120,6 +141,15 @@ module _ {x y : ℤ} (f : SFits w32 x) (g : SFits w32 y) where
   pub remainder-fits : SFits w64 (remZ (wide x) (wide y))
   remainder-fits = rw (wide-is f, wide-is g) (record { sfits = omega (arith, mag-rem x y) })
 
+  pub lowered-fits : SFits w64 (back w64 (quotZ (wide x) (wide y)) -ℤ pos 1)
+  lowered-fits = rw (toZ-ofZ quotient-fits, wide-is f, wide-is g) (record { sfits = omega (arith, mag-sum (quotZ x y) (negsuc 0), mag-quot x y) })
+
+  pub raised-fits : SFits w64 (back w64 (remZ (wide x) (wide y)) +ℤ wide y)
+  raised-fits = rw (toZ-ofZ remainder-fits, wide-is f, wide-is g) (record { sfits = omega (arith, mag-sum (remZ x y) y, mag-rem x y) })
+
+  sign-is : {t : Bool} → t ≡ takesSign (back w64 (remZ (wide x) (wide y))) (wide y) → takesSign (remZ x y) y ≡ t
+  sign-is s = sym (rw (toZ-ofZ remainder-fits, wide-is f, wide-is g) at s)
+
   module _ {op : Operation} {r : Valued ℤ} where
     pub sum-is : op ≡ Sum → r ≡ bounded (back w64 (wide x +ℤ wide y)) → r ≡ operate op x y
     sum-is p e = rw p (kept-is e sum-fits (rw (wide-is f, wide-is g)))
@@ -130,18 +160,26 @@ module _ {x y : ℤ} (f : SFits w32 x) (g : SFits w32 y) where
     pub product-is : op ≡ Product → r ≡ bounded (back w64 (wide x *ℤ wide y)) → r ≡ operate op x y
     product-is p e = rw p (kept-is e product-fits (rw (wide-is f, wide-is g)))
 
-    pub quotient-is : op ≡ Quotient → (ofZ w64 (back w32 y) ≡ 0 → ⊥) → r ≡ bounded (back w64 (quotZ (wide x) (wide y))) → r ≡ operate op x y
-    quotient-is p h e = rw p (divisor y (rw (toZ-ofZ g) at h) (kept-is e quotient-fits (rw (wide-is f, wide-is g))))
+    -- t: whether what is left has the divisor's sign; d: the bits that either arm leaves
+    module _ (h : ofZ w64 (back w32 y) ≡ 0 → ⊥) {t : Bool} (s : t ≡ takesSign (back w64 (remZ (wide x) (wide y))) (wide y)) {d : ℕ} (e : r ≡ bounded (toZ w64 d)) where
+      pub quotient-is : op ≡ Quotient → t ≡ true → d ≡ ofZ w64 (quotZ (wide x) (wide y)) → r ≡ operate op x y
+      quotient-is p k b = rw p (divisor y (rw (toZ-ofZ g) at h) (kept-is (rw b at e) quotient-fits (rw (wide-is f, wide-is g, sign-is s, k))))
 
-    pub remainder-is : op ≡ Remainder → (ofZ w64 (back w32 y) ≡ 0 → ⊥) → r ≡ bounded (back w64 (remZ (wide x) (wide y))) → r ≡ operate op x y
-    remainder-is p h e = rw p (divisor y (rw (toZ-ofZ g) at h) (kept-is e remainder-fits (rw (wide-is f, wide-is g))))
+      pub quotient-lowered : op ≡ Quotient → t ≡ false → d ≡ ofZ w64 (back w64 (quotZ (wide x) (wide y)) -ℤ pos 1) → r ≡ operate op x y
+      quotient-lowered p k b = rw p (divisor y (rw (toZ-ofZ g) at h) (kept-is (rw b at e) lowered-fits (rw (toZ-ofZ quotient-fits, wide-is f, wide-is g, sign-is s, k))))
+
+      pub remainder-is : op ≡ Remainder → t ≡ true → d ≡ ofZ w64 (remZ (wide x) (wide y)) → r ≡ operate op x y
+      remainder-is p k b = rw p (divisor y (rw (toZ-ofZ g) at h) (kept-is (rw b at e) remainder-fits (rw (wide-is f, wide-is g, sign-is s, k))))
+
+      pub remainder-raised : op ≡ Remainder → t ≡ false → d ≡ ofZ w64 (back w64 (remZ (wide x) (wide y)) +ℤ wide y) → r ≡ operate op x y
+      remainder-raised p k b = rw p (divisor y (rw (toZ-ofZ g) at h) (kept-is (rw b at e) raised-fits (rw (toZ-ofZ remainder-fits, wide-is f, wide-is g, sign-is s, k))))
 
 module _ {op : Operation} (x : ℤ) {y : ℤ} (g : SFits w32 y) (h : ofZ w64 (back w32 y) ≡ 0) where
   pub zero-quotient : op ≡ Quotient → no-value ZeroDivisor ≡ operate op x y
-  zero-quotient p = rw p (zero-divisor (bounded (quotZ x y)) g h)
+  zero-quotient p = rw p (zero-divisor (bounded (roundedDown x y)) g h)
 
   pub zero-remainder : op ≡ Remainder → no-value ZeroDivisor ≡ operate op x y
-  zero-remainder p = rw p (zero-divisor (bounded (remZ x y)) g h)
+  zero-remainder p = rw p (zero-divisor (bounded (remaining x y)) g h)
 
 -- ---- an operator on one
 
@@ -331,7 +369,9 @@ module _ {z : ℤ} {n : ℕ} (f : SFits w16 z) (e : n ≡ bits (back w16 z)) whe
 
 -- ---- what a proof's `search` is handed
 
-pub ruleset operators = (wide-fits, sum-fits, difference-fits, product-fits, quotient-fits, remainder-fits, negation-fits, sum-is, difference-is, product-is, zero-quotient, quotient-is, zero-remainder, remainder-is, negation-is, absolute-below, absolute-above)
+pub ruleset operators = (wide-fits, sum-fits, difference-fits, product-fits, quotient-fits, remainder-fits, lowered-fits, raised-fits, negation-fits, sum-is, difference-is, product-is, zero-quotient, quotient-is, quotient-lowered, zero-remainder, remainder-is, remainder-raised, negation-is, absolute-below, absolute-above)
+
+pub ruleset signs = (sign-below, sign-above)
 
 pub ruleset comparisons = (equal-is, unequal-is, less-is, at-most-is, greater-is, at-least-is)
 
@@ -341,4 +381,4 @@ pub ruleset bounds = (within, inside, under, over)
 
 pub ruleset words = (missing-fits, word-above, word-below, plain-sign, plain-fits, plain-bits, flipped-fits, flipped-sign, flipped-size, flipped-most, flipped-bits, high-is, low-is)
 
-pub ruleset signed = (needs, operators, comparisons, parts, bounds, words)
+pub ruleset signed = (needs, signs, operators, comparisons, parts, bounds, words)

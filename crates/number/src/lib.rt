@@ -4,7 +4,7 @@
 // `law` stands on it for its operators, `domain`, `judge`, `answer` and `river_cases` for values and their bytes.
 ghost use mathlib.Core.Bool.{not};
 ghost use mathlib.Core.Path.{_≡_};
-ghost use Rattle.bmap.specs.Number.{value, with1, with2, bounded, operate, change, compare, join, flag};
+ghost use Rattle.bmap.specs.Number.{value, with1, with2, bounded, takesSign, operate, change, compare, join, flag};
 ghost use Rattle.bmap.specs.Number.{signedWord, bytesOf, bits};
 ghost use Rattle.bmap.specs.declared.Operation.the-variants.{Sum, Difference, Product, Quotient, Remainder};
 ghost use Rattle.bmap.specs.declared.Single.the-variants.{Negation, Absolute};
@@ -47,7 +47,19 @@ fn kept(z: i64) -> Value
     Value::NoValue(Reason::OutOfRange)
 }
 
-// "Quotient truncates toward zero; the remainder has the dividend's sign": so do `/` and `%`.
+// K3: "the remainder takes the divisor's sign or is 0"
+fn takes_sign(r: i64, q: i64) -> bool
+    ensures { λ s. ⌜ s ≡ takesSign r q ⌝ }
+{
+    if q < 0 {
+        return r <= 0;
+    }
+    0 <= r
+}
+
+// K3: "The quotient is to be rounded down": `/` and `%` divide toward zero, so where what is left has the other sign the quotient
+// is one less, and a divisor more is left. Both ways meet in one value before its range is asked, which compiles without a jump on
+// a sign (docs/PERFORMANCE.md).
 fn operated(op: Operation, x: i32, y: i32) -> Value
     ensures { λ r. ⌜ valuedOf r ≡ operate op x y ⌝ }
 {
@@ -61,13 +73,15 @@ fn operated(op: Operation, x: i32, y: i32) -> Value
             if q == 0 {
                 return Value::NoValue(Reason::ZeroDivisor);
             }
-            kept(p / q)
+            let t = p / q;
+            kept(if takes_sign(p % q, q) { t } else { t - 1 })
         }
         Operation::Remainder => {
             if q == 0 {
                 return Value::NoValue(Reason::ZeroDivisor);
             }
-            kept(p % q)
+            let r = p % q;
+            kept(if takes_sign(r, q) { r } else { r + q })
         }
     }
 }

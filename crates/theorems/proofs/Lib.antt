@@ -6,3 +6,5 @@ pub mod LayingLaws
 -- K1: what is read of an input decides its report.
 pub mod UnreadLaws
 pub mod LongTexts
+-- K3: quotient and remainder.
+pub mod DivisionLaws

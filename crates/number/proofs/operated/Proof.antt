@@ -1,3 +1,4 @@
+use mathlib.Core.Logic.{⊎-elim}
 use Rattle.number.proofs.Laws.{signed}
 use Rattle.number.proofs.operated.Statement.{statement}
 use Rattle.number.proofs.operated.Tie as tie
@@ -41,8 +42,17 @@ enum-told-4 c = search signed
 returns : tie.Need-returns
 returns c = search signed
 
-div-kept : tie.Need-div-kept
-div-kept c = search signed
+div-t : tie.Need-div-t
+div-t c = search signed
+
+rem-takes-sign : tie.Need-rem-takes-sign
+rem-takes-sign c = search signed
+
+takes-sign-requires : tie.Need-takes-sign-requires
+takes-sign-requires c κs = search signed
+
+sub-kept-2 : tie.Need-sub-kept-2
+sub-kept-2 c = search signed
 
 kept-requires-4 : tie.Need-kept-requires-4
 kept-requires-4 c κs = search signed
@@ -53,8 +63,14 @@ enum-told-5 c = search signed
 returns-2 : tie.Need-returns-2
 returns-2 c = search signed
 
-rem-kept : tie.Need-rem-kept
-rem-kept c = search signed
+rem-r : tie.Need-rem-r
+rem-r c = search signed
+
+takes-sign-requires-2 : tie.Need-takes-sign-requires-2
+takes-sign-requires-2 c κs = search signed
+
+add-kept-2 : tie.Need-add-kept-2
+add-kept-2 c = search signed
 
 kept-requires-5 : tie.Need-kept-requires-5
 kept-requires-5 c κs = search signed
@@ -69,10 +85,10 @@ returns-5 : tie.Need-returns-5
 returns-5 c = search signed
 
 returns-6 : tie.Need-returns-6
-returns-6 c = search signed
+returns-6 c = ⊎-elim (λ w. search signed) (λ w. search signed) (c .before .if2 .came)
 
 returns-7 : tie.Need-returns-7
-returns-7 c = search signed
+returns-7 c = ⊎-elim (λ w. search signed) (λ w. search signed) (c .before .if4 .came)
 
 pub operated-spec : {M : Type 1} → statement M
 operated-spec =
@@ -91,11 +107,16 @@ operated-spec =
     kept-requires-3
     enum-told-4
     returns
-    div-kept
+    div-t
+    rem-takes-sign
+    takes-sign-requires
+    sub-kept-2
     kept-requires-4
     enum-told-5
     returns-2
-    rem-kept
+    rem-r
+    takes-sign-requires-2
+    add-kept-2
     kept-requires-5
     returns-3
     returns-4

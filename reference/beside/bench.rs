@@ -269,10 +269,10 @@ fn main() {
     );
     let (pool, two_steps, deep) = (inputs::pool(), inputs::two_steps(), inputs::deep());
     let (full, filled, idle) = (inputs::full(), inputs::filled(true), inputs::filled(false));
-    let (mixed, crews) = (inputs::mixed(), inputs::large_crews());
-    let in_turns = inputs::crews_in_turns();
+    let (mixed, divided) = (inputs::mixed(), inputs::divided());
+    let (crews, in_turns) = (inputs::large_crews(), inputs::crews_in_turns());
     for input in [
-        &pool, &two_steps, &deep, &full, &filled, &idle, &mixed, &crews, &in_turns,
+        &pool, &two_steps, &deep, &full, &filled, &idle, &mixed, &divided, &crews, &in_turns,
     ] {
         verdicts(input);
     }

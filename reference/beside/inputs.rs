@@ -235,6 +235,37 @@ pub fn mixed() -> Input {
     }
 }
 
+/// A sum of this many quotients and remainders, of levels by small divisors, both of either sign.
+fn divisions(r: &mut Random, count: usize) -> Vec<u8> {
+    let mut division = || {
+        let size = 2 + r.below(99) as i16;
+        let divisor = constant(if r.one_in(2) { size } else { -size });
+        let code = 0x15 + r.below(2) as u8;
+        node(code, &[&fluent(r.below(32)), &divisor])
+    };
+    let first = division();
+    (1..count).fold(first, |sum, _| node(0x12, &[&sum, &division()]))
+}
+
+/// As many laws as is allowed, all of quotients and remainders, and all are read in each step; which of them have to be
+/// rounded down differs from one to the next.
+pub fn divided() -> Input {
+    let mut r = Random::seeded(13);
+    let fluents: Vec<_> = (0..32)
+        .map(|number| [-1000, 1000, 61 * number - 950])
+        .collect();
+    let mut draft = Draft::new(16, &fluents, &[(1, 1)]).free();
+    while draft.laws() < 128 {
+        let sum = divisions(&mut r, MAX_DEPTH - 3);
+        draft.insert(law(0xA8, &[&at_least(&sum, i16::MIN)]));
+    }
+    Input {
+        name: "128 laws that divide, all read, 64 steps",
+        draft,
+        sheet: vec![0; 16 * STEPS],
+    }
+}
+
 /// Who names what: 16 agents who all act, and 64 entries with 14 of them in each crew. All crews are complete, so that
 /// whoever compares agent by agent has to compare all; laws are short and few.
 pub fn large_crews() -> Input {

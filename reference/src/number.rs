@@ -42,22 +42,35 @@ pub fn product(a: i64, b: i64) -> Reckoned {
     bounded(a * b)
 }
 
-/// Truncates toward zero, as Rust's own division does.
+/// Rounded down.
 #[inline]
 pub fn quotient(a: i64, b: i64) -> Reckoned {
     match b {
         0 => Err(Trouble::ZeroDivisor),
-        _ => Ok(a / b),
+        // Both signs turned, the quotient is the same.
+        ..0 => Ok(whole_parts(-a, -b)),
+        1.. => Ok(whole_parts(a, b)),
     }
 }
 
-/// Has the dividend's sign, as Rust's own remainder does.
+/// What the quotient leaves of the dividend: 0, or of the divisor's sign.
 #[inline]
 pub fn remainder(a: i64, b: i64) -> Reckoned {
-    match b {
-        0 => Err(Trouble::ZeroDivisor),
-        _ => Ok(a % b),
-    }
+    Ok(a - quotient(a, b)? * b)
+}
+
+/// How often a part goes into a number, rounded down; the part is above 0.
+///
+/// Nothing below 0 is ever divided, so there is nothing to truncate and no result
+/// to be put right by what remains. Numbers below 0 are counted from -1 downward
+/// instead: -1 - n is the n-th of them, and the first `part` of them have the
+/// quotient -1, the next -2. So -1 - n has the quotient -1 - m where n has m. To
+/// take a number from -1 is to turn all of its bits.
+#[inline]
+fn whole_parts(number: i64, part: i64) -> i64 {
+    let turned = number >> 63;
+    // Four bytes hold either, and are divided in less time than eight.
+    i64::from((number ^ turned) as u32 / part as u32) ^ turned
 }
 
 /// A two-byte mask, high byte first.

@@ -39,6 +39,20 @@ pub fn judge(store: &[u8], sheet: &[u8], levels: &mut [i16]) -> Result<Judged, u
 /// is a zero divisor.
 type Operation = fn(i64, i64) -> Option<i64>;
 
+/// "The quotient is to be rounded down." A quotient that is whole is found exactly.
+/// Any other is at least 1 / |b| away from what is whole, and found with an error of
+/// at most |a / b| in 2 to the power of 53, which is far less: no whole number lies
+/// between the two.
+fn quotient(a: i64, b: i64) -> Option<i64> {
+    let nearest = a as f64 / b as f64;
+    (b != 0).then(|| nearest.floor() as i64)
+}
+
+/// "Dividend equals quotient × divisor + remainder."
+fn remainder(a: i64, b: i64) -> Option<i64> {
+    quotient(a, b).map(|quotient| a - quotient * b)
+}
+
 enum Expression {
     Constant(i64),
     Fluent(usize, usize),
@@ -144,8 +158,8 @@ impl Bytes<'_> {
             0x12 => self.two(i64::checked_add),
             0x13 => self.two(i64::checked_sub),
             0x14 => self.two(i64::checked_mul),
-            0x15 => self.two(i64::checked_div),
-            0x16 => self.two(i64::checked_rem),
+            0x15 => self.two(quotient),
+            0x16 => self.two(remainder),
             0x17 => Expression::One(|value| -value, Box::new(self.expression())),
             0x18 => Expression::One(|value| value.abs(), Box::new(self.expression())),
             _ => Expression::Reified(Box::new(self.constraint())),

@@ -4,6 +4,7 @@
 use super::calls::CALLS;
 use super::case::{Call, Case, SupplementCall};
 use super::codes::{self, Part};
+use super::divisions;
 use super::draft::{sheet_text, text_of, Draft};
 use super::faults::{Lines, LINE_FAULTS};
 use super::laying::{self, LAYING, WRONG};
@@ -476,7 +477,7 @@ impl Aims {
     /// A trial before one of the calls that give its verdict, which are taken in
     /// turn.
     fn trial_in_turn(&mut self, turn: usize, trial: &Trial) {
-        // Trials come in rows of six and of twelve, which should not keep their calls.
+        // Trials come in rows of six, eight and twelve, which should not keep their calls.
         let calls = JUDGING.len();
         let call = turn + turn / calls + turn / (calls * calls);
         self.tried(&JUDGING[call % calls], trial);
@@ -658,8 +659,10 @@ pub fn aims() -> Vec<Aim> {
     verdicts::trials()
         .into_iter()
         .for_each(|trial| aims.trial(trial));
-    for (turn, trial) in troubles::further().iter().enumerate() {
-        aims.trial_in_turn(turn, trial);
+    for trials in [troubles::further(), divisions::further()] {
+        for (turn, trial) in trials.iter().enumerate() {
+            aims.trial_in_turn(turn, trial);
+        }
     }
     aims.0
 }

@@ -5,6 +5,7 @@ pub mod calls;
 pub mod case;
 pub mod codes;
 pub mod coverage;
+pub mod divisions;
 pub mod draft;
 pub mod faults;
 pub mod laws;

@@ -11,47 +11,47 @@ use crate::judge::{OUT_OF_NUMBERS, ZERO_DIVISOR};
 use std::rc::Rc;
 
 /// The highest number, 31,250 times 32,000.
-fn highest() -> Vec<u8> {
+pub(super) fn highest() -> Vec<u8> {
     node(0x14, &[&constant(31_250), &constant(32_000)])
 }
 
-fn lowest() -> Vec<u8> {
+pub(super) fn lowest() -> Vec<u8> {
     node(0x14, &[&constant(-31_250), &constant(32_000)])
 }
 
-fn sum(left: &[u8], right: &[u8]) -> Vec<u8> {
+pub(super) fn sum(left: &[u8], right: &[u8]) -> Vec<u8> {
     node(0x12, &[left, right])
 }
 
-fn difference(left: &[u8], right: &[u8]) -> Vec<u8> {
+pub(super) fn difference(left: &[u8], right: &[u8]) -> Vec<u8> {
     node(0x13, &[left, right])
 }
 
-fn product(left: &[u8], right: &[u8]) -> Vec<u8> {
+pub(super) fn product(left: &[u8], right: &[u8]) -> Vec<u8> {
     node(0x14, &[left, right])
 }
 
-fn quotient(left: &[u8], right: &[u8]) -> Vec<u8> {
+pub(super) fn quotient(left: &[u8], right: &[u8]) -> Vec<u8> {
     node(0x15, &[left, right])
 }
 
-fn remainder(left: &[u8], right: &[u8]) -> Vec<u8> {
+pub(super) fn remainder(left: &[u8], right: &[u8]) -> Vec<u8> {
     node(0x16, &[left, right])
 }
 
-fn negation(part: &[u8]) -> Vec<u8> {
+pub(super) fn negation(part: &[u8]) -> Vec<u8> {
     node(0x17, &[part])
 }
 
-fn reified(constraint: &[u8]) -> Vec<u8> {
+pub(super) fn reified(constraint: &[u8]) -> Vec<u8> {
     node(0x19, &[constraint])
 }
 
-fn and(left: &[u8], right: &[u8]) -> Vec<u8> {
+pub(super) fn and(left: &[u8], right: &[u8]) -> Vec<u8> {
     node(0x26, &[left, right])
 }
 
-fn or(left: &[u8], right: &[u8]) -> Vec<u8> {
+pub(super) fn or(left: &[u8], right: &[u8]) -> Vec<u8> {
     node(0x27, &[left, right])
 }
 
@@ -82,7 +82,7 @@ fn power() -> Vec<u8> {
 
 /// Expressions that have a value while their seed is 0 and none once it is 1; and
 /// the kind of fault that a law is then.
-type Cause = (&'static str, u8, fn(&[u8]) -> Vec<u8>);
+pub(super) type Cause = (&'static str, u8, fn(&[u8]) -> Vec<u8>);
 
 /// One trouble each. They are put before every call that judges.
 const CAUSES: &[Cause] = &[
@@ -410,7 +410,7 @@ fn known() -> Draft {
     draft
 }
 
-fn add(
+pub(super) fn add(
     trials: &mut Vec<Trial>,
     label: String,
     expect: Expect,
@@ -420,7 +420,7 @@ fn add(
 }
 
 /// Each of these troubles in each place.
-fn in_each_place(trials: &mut Vec<Trial>, causes: &[Cause]) {
+pub(super) fn in_each_place(trials: &mut Vec<Trial>, causes: &[Cause]) {
     for &(label, kind, cause) in causes {
         for &(place, expect, make) in places() {
             let label = format!("no value in {place}: {label}");

@@ -1,6 +1,7 @@
 //! Domains and sheets made for one verdict each.
 
 use super::aims::Expect::{self, Accepted, Broken, Goal};
+use super::divisions;
 use super::draft::{frame, law, mask_frame, Draft};
 use super::laws::{constant, node};
 use super::random::Random;
@@ -214,5 +215,6 @@ pub fn trials() -> Vec<Trial> {
         trials.push((label.to_string(), expect, Rc::new(make)));
     }
     trials.extend(troubles::trials());
+    trials.extend(divisions::trials());
     trials
 }

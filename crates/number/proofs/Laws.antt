@@ -84,12 +84,10 @@ kept-is e f h = e ∙ ap bounded (toZ-ofZ f ∙ h)
 
 -- ---- a number tested against zero: a divisor by its bits, a sign by what is read back
 
-no-bits : (z : ℤ) → SFits w64 z → ofZ w64 z ≡ 0 → z ≡ pos 0
-no-bits (pos n) f e = ap pos e
-no-bits (negsuc n) f e = absurd (omega (arith, f .sfits))
-
 zero-divisor : {y : ℤ} (v : Valued ℤ) → SFits w32 y → ofZ w64 (back w32 y) ≡ 0 → no-value ZeroDivisor ≡ unlessZero y v
-zero-divisor {y} v f e = rw (no-bits y (sfits-widen tt f) (rw (toZ-ofZ f) at e)) refl
+zero-divisor {y = pos zero} v f e = refl
+zero-divisor {y = pos (suc n)} v f e = let h : suc n ≡ 0 = rw (toZ-ofZ f) at e in absurd (omega arith)
+zero-divisor {y = negsuc n} v f e = let h : 2 ^ 64 - suc n ≡ 0 = rw (toZ-ofZ f) at e in absurd (omega (arith, f .sfits))
 
 divisor : (y : ℤ) {r v : Valued ℤ} → (ofZ w64 y ≡ 0 → ⊥) → r ≡ v → r ≡ unlessZero y v
 divisor (pos zero) h e = absurd (h refl)

@@ -4,7 +4,7 @@ use mathlib.Core.Path.{_≡_, refl, sym, ap, subst, _∙_}
 use mathlib.Core.Logic.{_⊎_, inl, inr}
 use mathlib.Core.Bool.{Bool, true, false, cond}
 use native.Mathlib.Omega.{arith}
-use native.Mathlib.Nat.{div-add-mod, div-le-self, mod-lt, mul-comm, zero-mul}
+use native.Mathlib.Nat.{div-add-mod', div-le-self, le-mul-of-pos-right, mod-lt, zero-mul}
 use lib.IntN.{ℤ, pos, negsuc, negℤ, natAbs, _+ℤ_, _-ℤ_, _*ℤ_, +ℤ-assoc, +ℤ-comm, +ℤ-invl, +ℤ-idl, +ℤ-idr, +ℤ-sucℤ, -ℤ-one, -ℤ-+ℤ-cancel, zero-*ℤ, sucℤ-*ℤ, predℤ-*ℤ, negℤ-+ℤ}
 use lib.Dec.{T, ltb, leb}
 use lib.Signed.{quotZ, remZ, nonNeg, leZ}
@@ -18,9 +18,6 @@ use Rattle.bmap.specs.Theorems.{Gives, Leaves, DivisionReturns, RemainderLeft, 
 
 -- ---- toward zero: the dividend returns, and less than a divisor is left
 
-whole : (a b : ℕ) → a / b * b + a % b ≡ a
-whole a b = ap (λ (k : ℕ). k + a % b) (mul-comm (a / b) b) ∙ div-add-mod a b
-
 neg-negsuc : (q b : ℕ) → negℤ (pos q) *ℤ negsuc b ≡ pos (q * suc b)
 neg-negsuc zero b = ap (λ (n : ℕ). negℤ (pos n)) (zero-mul (suc b)) ∙ ap pos (sym (zero-mul (suc b)))
 neg-negsuc (suc k) b = refl
@@ -30,13 +27,13 @@ neg-pos zero b = ap pos (zero-mul b) ∙ ap (λ (n : ℕ). negℤ (pos n)) (sym 
 neg-pos (suc k) b = refl
 
 returned : (a b : ℤ) → quotZ a b *ℤ b +ℤ remZ a b ≡ a
-returned (pos a) (pos b) = ap pos (whole a b)
-returned (pos a) (negsuc b) = ap (λ (z : ℤ). z +ℤ pos (a % suc b)) (neg-negsuc (a / suc b) b) ∙ ap pos (whole a (suc b))
+returned (pos a) (pos b) = ap pos (div-add-mod' a b)
+returned (pos a) (negsuc b) = ap (λ (z : ℤ). z +ℤ pos (a % suc b)) (neg-negsuc (a / suc b) b) ∙ ap pos (div-add-mod' a (suc b))
 returned (negsuc a) (pos b) =
     ap (λ (z : ℤ). z +ℤ negℤ (pos (suc a % b))) (neg-pos (suc a / b) b)
-    ∙ (sym (negℤ-+ℤ (pos (suc a / b * b)) (pos (suc a % b))) ∙ ap (λ (n : ℕ). negℤ (pos n)) (whole (suc a) b))
+    ∙ (sym (negℤ-+ℤ (pos (suc a / b * b)) (pos (suc a % b))) ∙ ap (λ (n : ℕ). negℤ (pos n)) (div-add-mod' (suc a) b))
 returned (negsuc a) (negsuc b) =
-    sym (negℤ-+ℤ (pos (suc a / suc b * suc b)) (pos (suc a % suc b))) ∙ ap (λ (n : ℕ). negℤ (pos n)) (whole (suc a) (suc b))
+    sym (negℤ-+ℤ (pos (suc a / suc b * suc b)) (pos (suc a % suc b))) ∙ ap (λ (n : ℕ). negℤ (pos n)) (div-add-mod' (suc a) (suc b))
 
 size-neg : (n : ℕ) → natAbs (negℤ (pos n)) ≡ n
 size-neg zero = refl
@@ -299,10 +296,6 @@ other-sign (pos zero) b s = absurd (subst T s tt)
 other-sign (pos (suc n)) b s = omega arith
 other-sign (negsuc n) b s = omega arith
 
-times : (n m : ℕ) → 0 < m → n ≤ n * m
-times n zero h = absurd (omega arith)
-times n (suc m) h = omega arith
-
 size-down : (a b : ℤ) → 0 < natAbs b → natAbs (roundedDown a b) ≤ natAbs a
 size-down a b h = by-sign (takesSign (remZ a b) b) refl
   where
@@ -314,7 +307,7 @@ size-down a b h = by-sign (takesSign (remZ a b) b) refl
     by-sign false s =
         let some : 0 < natAbs a % natAbs b = rw (size-remainder a b) at (other-sign (remZ a b) b s) in
         let lowered : natAbs (quotZ a b -ℤ pos 1) ≤ suc (natAbs a / natAbs b) = rw (size-quotient a b) at (size-lowered (quotZ a b)) in
-        omega (arith, whole (natAbs a) (natAbs b), times (natAbs a / natAbs b) (natAbs b) h)
+        omega (arith, div-add-mod' (natAbs a) (natAbs b), le-mul-of-pos-right (natAbs a / natAbs b) h)
 
 in-bounds : (z : ℤ) → natAbs z ≤ mostValue → inBounds z ≡ true
 in-bounds (pos n) h = le-leb n mostValue h

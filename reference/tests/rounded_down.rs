@@ -5,7 +5,7 @@
 mod common;
 
 use common::{judged, judged_alone, read_frames};
-use waroth_reference::generate::divisions::{self, Division};
+use waroth_reference::generate::divisions::{self, number, Division};
 use waroth_reference::generate::draft::{law, mask_frame, replacement, text_of, Draft};
 use waroth_reference::generate::laws::{constant, node};
 use waroth_reference::generate::random::Random;
@@ -13,18 +13,6 @@ use waroth_reference::judge::{Judged, Verdict, LEVELS};
 use waroth_reference::number::{self, Trouble::ZeroDivisor, BOUND};
 use waroth_reference::program::Program;
 use waroth_reference::Session;
-
-/// A number as an expression of constants.
-fn number(value: i64) -> Vec<u8> {
-    match i16::try_from(value) {
-        Ok(small) => constant(small),
-        Err(_) => {
-            let [high, low] = [value / 32_000, value % 32_000].map(|digit| constant(digit as i16));
-            let scaled = node(0x14, &[&high, &constant(32_000)]);
-            node(0x12, &[&scaled, &low])
-        }
-    }
-}
 
 fn level(fluent: u8) -> Vec<u8> {
     vec![0x11, fluent, 0]
@@ -472,7 +460,7 @@ fn the_shift_in_each_kind_of_law() {
     let draft = with(0xA8, -8, &quarter(0x25, 88));
     assert_eq!(outcome(&draft, &[0]).0, Verdict::Accepted);
     assert_eq!(outcome(&draft, &[1, 0]).0, broken(3, 2, 3));
-    // A7: a shift is never negative; nor is it ever 96.
+    // A7: a shift is never negative; and it comes to 95, in step 2, or is 95 at step 0.
     let draft = with(0xA7, 1, &quarter(0x25, 0));
     assert_eq!(outcome(&draft, &[1; 64]).0, Verdict::Accepted);
     let draft = with(0xA7, 1, &quarter(0x22, 95));

@@ -5,7 +5,7 @@ use mathlib.Core.Logic.{_⊎_, inl, inr}
 use mathlib.Core.Bool.{Bool, true, false, cond}
 use native.Mathlib.Omega.{arith}
 use native.Mathlib.Nat.{div-add-mod', div-le-self, le-mul-of-pos-right, mod-lt, zero-mul}
-use lib.IntN.{ℤ, pos, negsuc, negℤ, natAbs, _+ℤ_, _-ℤ_, _*ℤ_, +ℤ-assoc, +ℤ-comm, +ℤ-invl, +ℤ-idl, +ℤ-idr, +ℤ-sucℤ, -ℤ-one, -ℤ-+ℤ-cancel, zero-*ℤ, sucℤ-*ℤ, predℤ-*ℤ, negℤ-+ℤ}
+use lib.IntN.{ℤ, pos, negsuc, negℤ, natAbs, _+ℤ_, _-ℤ_, _*ℤ_, +ℤ-assoc, +ℤ-comm, +ℤ-idr, +ℤ-sucℤ, +ℤ-negℤ-cancel, -ℤ-one, -ℤ-+ℤ-cancel, zero-*ℤ, sucℤ-*ℤ, predℤ-*ℤ, negℤ-+ℤ}
 use lib.Dec.{T, ltb, leb}
 use lib.Signed.{quotZ, remZ, nonNeg, leZ}
 use borrow.Author.Tests.{ltb-true, leb-true, lt-ltb, le-ltb, le-leb, lt-leb}
@@ -53,8 +53,8 @@ moved-over : (q b r : ℤ) → (q -ℤ pos 1) *ℤ b +ℤ (r +ℤ b) ≡ q *ℤ 
 moved-over q b r =
     ap (λ (z : ℤ). z *ℤ b +ℤ (r +ℤ b)) (-ℤ-one q)
     ∙ (ap (λ (z : ℤ). z +ℤ (r +ℤ b)) (predℤ-*ℤ q b)
-    ∙ (+ℤ-assoc (q *ℤ b) (negℤ b) (r +ℤ b)
-    ∙ ap (λ (z : ℤ). q *ℤ b +ℤ z) (ap (λ (z : ℤ). negℤ b +ℤ z) (+ℤ-comm r b) ∙ (sym (+ℤ-assoc (negℤ b) b r) ∙ (ap (λ (z : ℤ). z +ℤ r) (+ℤ-invl b) ∙ +ℤ-idl r)))))
+    ∙ (ap (λ (z : ℤ). q *ℤ b -ℤ b +ℤ z) (+ℤ-comm r b)
+    ∙ (sym (+ℤ-assoc (q *ℤ b -ℤ b) b r) ∙ ap (λ (z : ℤ). z +ℤ r) (-ℤ-+ℤ-cancel (q *ℤ b) b))))
 
 down-returned : (a b : ℤ) → a ≡ roundedDown a b *ℤ b +ℤ remaining a b
 down-returned a b = by-sign (takesSign (remZ a b) b)
@@ -167,10 +167,7 @@ plus-times (suc n) q b =
     ∙ ap (λ (z : ℤ). q *ℤ b +ℤ z) (sym (sucℤ-*ℤ (pos n) b)))))
 
 same-more : (x y z : ℤ) → x +ℤ y ≡ x +ℤ z → y ≡ z
-same-more x y z e = sym (without x y) ∙ (ap (λ (w : ℤ). negℤ x +ℤ w) e ∙ without x z)
-  where
-    without : (x y : ℤ) → negℤ x +ℤ (x +ℤ y) ≡ y
-    without x y = sym (+ℤ-assoc (negℤ x) x y) ∙ (ap (λ (w : ℤ). w +ℤ y) (+ℤ-invl x) ∙ +ℤ-idl y)
+same-more x y z e = sym (+ℤ-negℤ-cancel y x) ∙ (ap (λ (w : ℤ). w -ℤ x) (+ℤ-comm y x ∙ (e ∙ +ℤ-comm x z)) ∙ +ℤ-negℤ-cancel z x)
 
 -- ---- what returns the dividend and leaves such a remainder is rounded down, and there is one alone
 

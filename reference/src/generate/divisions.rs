@@ -214,7 +214,7 @@ pub fn sorts() -> Vec<Sort> {
 
 /// A number as an expression of constants. None of its parts is further from 0 than
 /// the number itself, so nothing on the way is out of numbers.
-fn number(value: i64) -> Vec<u8> {
+pub fn number(value: i64) -> Vec<u8> {
     let small = i16::try_from(value).map(constant);
     small.unwrap_or_else(|_| {
         let [high, low] = [value / 32_000, value % 32_000].map(|digit| constant(digit as i16));
@@ -351,7 +351,8 @@ const WAYS: &[Way] = &[
             _ => value.signum() * more,
         };
         let times = r.below(19) as i64 - 9;
-        match value.abs() < BOUND / 10 {
+        // The dividend is at most nine divisors and the value.
+        match value.abs() < BOUND / 10 - 50 {
             true => writer.nested(r, REMAINDER, Division::leaving(times, value, divisor)),
             false => number(value),
         }
@@ -780,7 +781,7 @@ pub fn trials() -> Vec<Trial> {
     // None of these places needs the action to be taken before.
     for (number, &figures) in FIGURES[..3].iter().enumerate() {
         both(&mut trials, figures, &PLACES[number], true);
-        both(&mut trials, figures, &PLACES[(number + 1) % 4], false);
+        both(&mut trials, figures, &PLACES[number + 1], false);
     }
     let label = "accepted: shifts before midnight".to_string();
     add(&mut trials, label, Accepted, |r| quarters(r, [0, 95]));

@@ -1,4 +1,4 @@
-//! What the tests of supplements share.
+//! What tests of several files share.
 
 use waroth_reference::generate::draft::{text_of, Draft};
 use waroth_reference::judge::{judge, judge_under, Judged, LEVELS};

@@ -1,18 +1,19 @@
 -- The cases of document 01: those marked with a star in one list, with K3's three figures in the place of the one that it changes, the
--- others in a second; beside them what they leave open, and the sentences of document 02. Three statements here, since one may compute
--- only so much, and a fourth, of the long texts, in `theorems`.
+-- others in a second; beside them what they leave open, and the sentences of document 02. Four statements here, since one may compute
+-- only so much, and a fifth, of the long texts, in `theorems`.
 use Prim.Native.Nat.{ℕ, _+_}
 use mathlib.Core.Path.{_≡_, refl}
-use mathlib.Core.Bool.{Bool, false}
+use mathlib.Core.Bool.{Bool, true, false}
 use mathlib.Core.List.{List, [], _∷_, _++_, map}
 use lib.IntN.{ℤ, pos, negsuc}
+use lib.Dec.{eqb}
 use lib.ListN.{length, take, replicate}
 use Rattle.bmap.specs.Plain.{any, all, those, flat, numbers, text}
 use Rattle.bmap.specs.Limits.{beginsSize, reportInput}
 use Rattle.bmap.specs.Number.{Valued, value, no-value, bounded, operate, signedWord}
-use Rattle.bmap.specs.Tree.{Expr, Con, constant, fluent, two, one, reified, compared, joined, negated, always, namedE, namedC, allowedE, allowedC}
-use Rattle.bmap.specs.Meaning.{History, evalE, evalC}
-use Rattle.bmap.specs.Code.{codeOf, parseE, parseC}
+use Rattle.bmap.specs.Tree.{Expr, Con, constant, fluent, two, one, reified, compared, joined, negated, occurs, always, lookBack, namedE, namedC, allowedE, allowedC}
+use Rattle.bmap.specs.Meaning.{History, upTo, evalE, evalC}
+use Rattle.bmap.specs.Code.{Code, expression, constraint, no-code, codeOf, parseE, parseC}
 use Rattle.bmap.specs.Line.{linesOf, startsWith, digit, bytes, framed, decode, digitFor, hex, lineFor}
 use Rattle.bmap.specs.Domain.{Names, occursIn, knownTo, readable}
 use Rattle.bmap.specs.Payload.{maskFits, agentsFit, fluentFits, knowledgeFits, entryFits, executableIn, effectIn, mustIn, lawIn, itemIn}
@@ -134,7 +135,7 @@ edges =
     -- lag 64
     ∷ prints (pool ++ text "A80725110040100000\n") (text "REFUSED 4 5\n")
     -- a code that is none
-    ∷ prints (pool ++ text "A8022B2A\n") (text "REFUSED 4 5\n")
+    ∷ prints (pool ++ text "A8022D2A\n") (text "REFUSED 4 5\n")
     -- the sheet's first line without LF
     ∷ prints (pool ++ text "B1020100") (text "REFUSED 1 5\n")
     -- a kind that is not B1 in a sheet
@@ -826,6 +827,212 @@ divisions =
     ∷ prints (pool ++ text "A90B201510FFF910000210FFFD\n") (text "S 0 300\nBROKEN 8 0 1\n")
     ∷ []
 
+-- K4: a weir. Agent 0 opens its gate (action 1, entry 0), which lowers the pool by 14; agent 1 tows (action 2, entry 1), "not if the weir
+-- gate has been opened at any time today"
+abbrev weir : List ℕ
+weir = text "A10102\nA20600C80140012C\nA403010001\nA403020002\nA502002A\nA50601282C290000\nA60A002A001311000010000E\n"
+
+-- a chamber that agent 0 empties by 14 (action 1) and fills by 14 (action 2)
+abbrev chamber : List ℕ
+chamber = text "A10102\nA20600C80140012C\nA403010001\nA403020001\nA502002A\nA502012A\nA60A002A001311000010000E\nA60A012A001211000010000E\n"
+
+-- the tow not if the pool has been at 286 at any time, with a gate that agent 0 opens (action 1) and closes (action 3)
+abbrev lowered : List ℕ
+lowered = text "A10102\nA20600C80140012C\nA303000003\nA403010001\nA403020002\nA403030001\nA502002A\nA50A01282C2011000010011E\nA502022A\nA60A002A001311000010000E\nA60A022A001211000010000E\n"
+
+-- a pool whose level rises by 1 in each step where agent 0 takes action 1
+abbrev filling : List ℕ
+filling = pool ++ text "A60A002A0012110000100001\n"
+
+-- the bytes that are codes
+abbrev isCode : Code → Bool
+isCode (expression c) = true
+isCode (constraint c) = true
+isCode no-code = false
+
+-- a history in which the level rises by 1 and every entry occurs in step 2 alone; and what a constraint gives so far in it, from
+-- position 0 on
+abbrev watched : History
+watched = record { level = λ k f. pos (300 + k); occurred = λ e k. eqb k 2 }
+
+abbrev soFar : Junction → Con → List (Valued Bool) → Case
+soFar o c l = record { Of = List (Valued Bool); left = map (λ j. evalC (lookBack o c) watched j) (numbers 0 (length l)); right = l }
+
+abbrev levelIs : ℕ → Con
+levelIs n = compared Equal (fluent 0 0) (constant (pos n))
+
+abbrev yesSoFar : Valued Bool
+yesSoFar = value true
+
+abbrev notSoFar : Valued Bool
+notSoFar = value false
+
+-- 1 by how far the level is from n; and a product that is beyond the range from level 301, or 302, on
+abbrev byLevel : ℕ → Expr
+byLevel n = two Quotient (constant (pos 1)) (two Difference (fluent 0 0) (constant (pos n)))
+
+abbrev beyondFrom301 : Expr
+beyondFrom301 = two Product (two Product (fluent 0 0) (fluent 0 0)) (constant (pos 11_111))
+
+abbrev beyondFrom302 : Expr
+beyondFrom302 = two Product (two Product (fluent 0 0) (fluent 0 0)) (constant (pos 10_965))
+
+abbrev pub lookBacks : List Case
+lookBacks =
+    -- "Add two constraint codes": the expressions' ten, the eleven that constraints had and these two, of all 256 bytes
+    record { Of = List ℕ; left = those (λ b. isCode (codeOf b)) (numbers 0 256); right = numbers 0x10 10 ++ numbers 0x20 13 }
+    -- "its constraint held at every position from 0 to the present one": false at the first alone, at one between alone, at all but the
+    -- first, at none
+    ∷ soFar And (negated (levelIs 300)) (notSoFar ∷ notSoFar ∷ notSoFar ∷ notSoFar ∷ [])
+    ∷ soFar And (negated (levelIs 302)) (yesSoFar ∷ yesSoFar ∷ notSoFar ∷ notSoFar ∷ [])
+    ∷ soFar And (levelIs 300) (yesSoFar ∷ notSoFar ∷ notSoFar ∷ notSoFar ∷ [])
+    ∷ soFar And always (yesSoFar ∷ yesSoFar ∷ yesSoFar ∷ yesSoFar ∷ [])
+    -- "and 2C, at one or more of them": true at the first alone, at one between alone, at all but the first, at none
+    ∷ soFar Or (levelIs 300) (yesSoFar ∷ yesSoFar ∷ yesSoFar ∷ yesSoFar ∷ [])
+    ∷ soFar Or (levelIs 302) (notSoFar ∷ notSoFar ∷ yesSoFar ∷ yesSoFar ∷ [])
+    ∷ soFar Or (negated (levelIs 300)) (notSoFar ∷ yesSoFar ∷ yesSoFar ∷ yesSoFar ∷ [])
+    ∷ soFar Or (negated always) (notSoFar ∷ notSoFar ∷ notSoFar ∷ notSoFar ∷ [])
+    -- what is joined are the positions, each with the whole constraint: one side held at some of them and the other at the rest
+    ∷ soFar And (joined Or (levelIs 300) (negated (levelIs 300))) (yesSoFar ∷ yesSoFar ∷ yesSoFar ∷ yesSoFar ∷ [])
+    ∷ soFar Or (joined And (levelIs 300) (levelIs 301)) (notSoFar ∷ notSoFar ∷ notSoFar ∷ notSoFar ∷ [])
+    -- a lag counts from the position looked at: lag 3 reads state 0 up to position 3, and state 1 at position 4
+    ∷ soFar Or (compared Equal (fluent 0 3) (constant (pos 301))) (notSoFar ∷ notSoFar ∷ notSoFar ∷ notSoFar ∷ yesSoFar ∷ yesSoFar ∷ [])
+    ∷ soFar And (compared Equal (fluent 0 3) (constant (pos 300))) (yesSoFar ∷ yesSoFar ∷ yesSoFar ∷ yesSoFar ∷ notSoFar ∷ notSoFar ∷ [])
+    ∷ soFar Or (joined And (compared Equal (fluent 0 3) (constant (pos 300))) (levelIs 301)) (notSoFar ∷ yesSoFar ∷ yesSoFar ∷ yesSoFar ∷ yesSoFar ∷ [])
+    -- code 29 looks at its step: step 2 is the one from position 1; with lag 1, from position 2; and false before step 1
+    ∷ soFar Or (occurs 0 0) (notSoFar ∷ yesSoFar ∷ yesSoFar ∷ yesSoFar ∷ [])
+    ∷ soFar And (negated (occurs 0 0)) (yesSoFar ∷ notSoFar ∷ notSoFar ∷ notSoFar ∷ [])
+    ∷ soFar Or (occurs 0 1) (notSoFar ∷ notSoFar ∷ yesSoFar ∷ yesSoFar ∷ [])
+    ∷ soFar And (negated (occurs 0 1)) (yesSoFar ∷ yesSoFar ∷ notSoFar ∷ notSoFar ∷ [])
+    ∷ soFar Or (occurs 0 2) (notSoFar ∷ notSoFar ∷ notSoFar ∷ yesSoFar ∷ yesSoFar ∷ [])
+    ∷ prints (filling ++ text "A80D282C262900012011000010012C\nB1020100\nB1020100\n") (text "S 0 300\nS 1 301\nS 2 302\nACCEPTED\n")
+    -- "Every position is read, so one without a value leaves the whole without value": 1 by 0 at the first
+    ∷ soFar And (isZero (byLevel 300)) (no-value ZeroDivisor ∷ no-value ZeroDivisor ∷ no-value ZeroDivisor ∷ [])
+    ∷ soFar Or (negated (isZero (byLevel 300))) (no-value ZeroDivisor ∷ no-value ZeroDivisor ∷ no-value ZeroDivisor ∷ [])
+    -- also where the answer would be clear without it: false, or true, at position 0, and no value at position 1
+    ∷ soFar And (isZero (byLevel 301)) (notSoFar ∷ no-value ZeroDivisor ∷ no-value ZeroDivisor ∷ [])
+    ∷ soFar Or (negated (isZero (byLevel 301))) (yesSoFar ∷ no-value ZeroDivisor ∷ no-value ZeroDivisor ∷ [])
+    ∷ soFar And (isZero beyondFrom301) (notSoFar ∷ no-value OutOfRange ∷ no-value OutOfRange ∷ [])
+    ∷ soFar Or (negated (isZero beyondFrom301)) (yesSoFar ∷ no-value OutOfRange ∷ no-value OutOfRange ∷ [])
+    -- "where K2's two reasons occur, the earliest position's is given": 1 by 0 at position 1, beyond the range at 2, and the other way round
+    ∷ soFar And (isZero (two Sum beyondFrom302 (byLevel 301))) (notSoFar ∷ no-value ZeroDivisor ∷ no-value ZeroDivisor ∷ [])
+    ∷ soFar Or (isZero (two Sum beyondFrom302 (byLevel 301))) (notSoFar ∷ no-value ZeroDivisor ∷ no-value ZeroDivisor ∷ [])
+    ∷ soFar And (isZero (two Sum (byLevel 302) beyondFrom301)) (notSoFar ∷ no-value OutOfRange ∷ no-value OutOfRange ∷ [])
+    ∷ soFar Or (isZero (two Sum (byLevel 302) beyondFrom301)) (notSoFar ∷ no-value OutOfRange ∷ no-value OutOfRange ∷ [])
+    -- an earlier position's, of the right side, before a later one's, of the left
+    ∷ soFar And (joined And (isZero beyondFrom302) (isZero (byLevel 301))) (notSoFar ∷ no-value ZeroDivisor ∷ no-value ZeroDivisor ∷ [])
+    ∷ soFar Or (joined Or (isZero (byLevel 302)) (isZero beyondFrom301)) (notSoFar ∷ no-value OutOfRange ∷ no-value OutOfRange ∷ [])
+    -- two that look back side by side, each with its own reason: the left one's, though its position is the later
+    ∷ record { Of = Valued Bool; left = evalC (joined And (lookBack Or (isZero (byLevel 302))) (lookBack And (isZero beyondFrom301))) watched 2; right = no-value ZeroDivisor }
+    -- "not if the weir gate has been opened at any time today": the tow before it, after it, in the same step, and long after it
+    ∷ prints (weir ++ text "B1020002\nB1020100\n") (text "S 0 300\nS 1 300\nS 2 286\nACCEPTED\n")
+    ∷ prints (weir ++ text "B1020100\nB1020002\n") (text "S 0 300\nS 1 286\nBROKEN 2 2 1\n")
+    ∷ prints (weir ++ text "B1020102\n") (text "S 0 300\nBROKEN 2 1 1\n")
+    ∷ prints (weir ++ text "B1020100\nB1020000\nB1020000\nB1020002\n") (text "S 0 300\nS 1 286\nS 2 286\nS 3 286\nBROKEN 2 4 1\n")
+    ∷ record { Of = Reading Judged; left = judgedUnder weir (first ∷ (replicate 62 (0 ∷ 0 ∷ []) ++ (second ∷ []))); right = gives (300 ∷ replicate 63 286) (broken 2 64 1) }
+    -- all 65 positions of 64 steps: held at the first alone, and at the last alone
+    ∷ record { Of = Reading Judged; left = judgedUnder (chamber ++ text "A9082C2011000010012C\n") (first ∷ replicate 63 (0 ∷ 0 ∷ [])); right = gives (300 ∷ replicate 64 286) accepted }
+    ∷ record { Of = Reading Judged; left = judgedUnder (chamber ++ text "A9082C2011000010011E\n") (replicate 63 (0 ∷ 0 ∷ []) ++ (first ∷ [])); right = gives (replicate 64 300 ++ (286 ∷ [])) accepted }
+    -- in A5 by levels, of a pool that was lowered to 286 and is at 300 again
+    ∷ prints (lowered ++ text "B1020002\nB1020100\nB1020300\nB1020002\n") (text "S 0 300\nS 1 300\nS 2 286\nS 3 300\nBROKEN 2 4 1\n")
+    -- in A7: at every state, 290 or more; at one or more of them, 300
+    ∷ prints (chamber ++ text "A7082B25110000100122\nB1020100\n") (text "S 0 300\nBROKEN 6 1 4\n")
+    ∷ prints (chamber ++ text "A7082C2011000010012C\nB1020100\n") (text "S 0 300\nS 1 286\nACCEPTED\n")
+    -- at position 0, step 0 of A7
+    ∷ prints (chamber ++ text "A7082B2011000010012C\n") (text "S 0 300\nACCEPTED\n")
+    ∷ prints (chamber ++ text "A7082C2011000010011E\nB1020100\n") (text "BROKEN 6 0 4\n")
+    ∷ prints (chamber ++ text "A7082B2011000010011E\nB1020100\n") (text "BROKEN 6 0 4\n")
+    -- in A8: the entry occurs in this step or has before; it has not before
+    ∷ prints (pool ++ text "A8042C290000\nB1020100\nB1020000\n") (text "S 0 300\nS 1 300\nS 2 300\nACCEPTED\n")
+    ∷ prints (pool ++ text "A8042C290000\nB1020000\n") (text "S 0 300\nBROKEN 3 1 1\n")
+    ∷ prints (pool ++ text "A8052B28290001\nB1020100\nB1020000\n") (text "S 0 300\nS 1 300\nBROKEN 3 2 1\n")
+    ∷ prints (pool ++ text "A8052B28290000\nB1020000\nB1020100\n") (text "S 0 300\nS 1 300\nBROKEN 3 2 1\n")
+    -- in A9: states 0 to n
+    ∷ prints (chamber ++ text "A9082C2011000010011E\nB1020100\nB1020200\n") (text "S 0 300\nS 1 286\nS 2 300\nACCEPTED\n")
+    ∷ prints (chamber ++ text "A9082C2011000010011E\nB1020000\n") (text "S 0 300\nS 1 300\nBROKEN 8 1 4\n")
+    ∷ prints (chamber ++ text "A9082B25110000100122\nB1020100\nB1020200\n") (text "S 0 300\nS 1 286\nS 2 300\nBROKEN 8 2 4\n")
+    ∷ prints (chamber ++ text "A9082B2011000010012C\n") (text "S 0 300\nACCEPTED\n")
+    ∷ prints (chamber ++ text "A9082C2011000010011E\n") (text "S 0 300\nBROKEN 8 0 4\n")
+    -- in A6: the constraint, and the expression by code 19
+    ∷ prints (pool ++ text "A611002B2011000010012C001311000010000E\nB1020100\nB1020100\n") (text "S 0 300\nS 1 286\nS 2 286\nACCEPTED\n")
+    ∷ prints (pool ++ text "A611002C2011000010012C001311000010000E\nB1020100\nB1020100\n") (text "S 0 300\nS 1 286\nS 2 272\nACCEPTED\n")
+    ∷ prints (pool ++ text "A614002A001311000014192B2011000010012C10000E\nB1020100\nB1020100\n") (text "S 0 300\nS 1 286\nS 2 286\nACCEPTED\n")
+    ∷ prints (pool ++ text "A614002A001311000014192C2011000010012C10000E\nB1020100\nB1020100\n") (text "S 0 300\nS 1 286\nS 2 272\nACCEPTED\n")
+    -- code 29 there, in the constraint and in the expression
+    ∷ prints (pool ++ text "A60D002C290000001311000010000E\nB1020100\n") (text "S 0 300\nS 1 286\nACCEPTED\n")
+    ∷ prints (pool ++ text "A610002A001311000014192C29000110000E\nB1020100\nB1020100\n") (text "S 0 300\nS 1 300\nS 2 286\nACCEPTED\n")
+    -- "Neither may stand inside the other or itself … 4 for one inside another": each in each
+    ∷ prints (pool ++ text "A8032B2B2A\n") (text "REFUSED 4 5\n")
+    ∷ prints (pool ++ text "A8032B2C2A\n") (text "REFUSED 4 5\n")
+    ∷ prints (pool ++ text "A8032C2B2A\n") (text "REFUSED 4 5\n")
+    ∷ prints (pool ++ text "A8032C2C2A\n") (text "REFUSED 4 5\n")
+    -- through "not", "and" and "or" on either side
+    ∷ prints (pool ++ text "A8042B282C2A\n") (text "REFUSED 4 5\n")
+    ∷ prints (pool ++ text "A8052B262C2A2A\n") (text "REFUSED 4 5\n")
+    ∷ prints (pool ++ text "A8052C262A2B2A\n") (text "REFUSED 4 5\n")
+    ∷ prints (pool ++ text "A8052B272B2A2A\n") (text "REFUSED 4 5\n")
+    ∷ prints (pool ++ text "A8052C272A2B2A\n") (text "REFUSED 4 5\n")
+    -- through code 19 on either side of a comparison and of an operation, under 17 and 18, in an A6's expression, in A7; in A5 and A9
+    ∷ prints (pool ++ text "A8082B20192C2A100000\n") (text "REFUSED 4 5\n")
+    ∷ prints (pool ++ text "A8082C20100000192B2A\n") (text "REFUSED 4 5\n")
+    ∷ prints (pool ++ text "A80E2B28221217192C2A100000100001\n") (text "REFUSED 4 5\n")
+    ∷ prints (pool ++ text "A80C2C2012100001192B2A100001\n") (text "REFUSED 4 5\n")
+    ∷ prints (pool ++ text "A8092B2018192C2A100001\n") (text "REFUSED 4 5\n")
+    ∷ prints (pool ++ text "A60C002A00192B20192C2A100000\n") (text "REFUSED 4 5\n")
+    ∷ prints (pool ++ text "A505002C282C2A\n") (text "REFUSED 4 5\n")
+    ∷ prints (pool ++ text "A7082B20192B2A100000\n") (text "REFUSED 4 5\n")
+    ∷ prints (pool ++ text "A9042C282B2A\n") (text "REFUSED 4 5\n")
+    -- side by side they may stand: under "and", under code 19, in an A6's constraint and its expression
+    ∷ prints (pool ++ text "A60B002B2A0012110000192C2A\nA805262B2A2C2A\nA80720192B2A192C2A\nB1020100\n") (text "S 0 300\nS 1 301\nACCEPTED\n")
+    -- and below and beside every other code: under "or", 17, 18 and an operation, two of one code, with 19 and lags inside
+    ∷ prints (pool ++ text "A805272B2A2C2A\nA805262C2A2C2A\nA8082017192B2A10FFFF\nA8082018192C2A100001\nA80B2012192B2A192B2A100002\nA8072B20192A100001\nA8082C20110001110003\nB1020000\n") (text "S 0 300\nS 1 300\nACCEPTED\n")
+    -- a level of depth: 16 deep, with 2B outermost and 2C innermost, and 17
+    ∷ prints (pool ++ text "A8102B28282828282828282828282828282A\nB1020000\n") (text "S 0 300\nS 1 300\nACCEPTED\n")
+    ∷ prints (pool ++ text "A81028282828282828282828282828282C2A\nB1020000\n") (text "S 0 300\nS 1 300\nACCEPTED\n")
+    ∷ prints (pool ++ text "A8112B2828282828282828282828282828282A\n") (text "REFUSED 4 5\n")
+    ∷ prints (pool ++ text "A8112828282828282828282828282828282C2A\n") (text "REFUSED 4 5\n")
+    -- code 29 inside them is refused in A7 and A9, under 19 too; in every law an unknown entry or fluent and a lag of 64
+    ∷ prints (pool ++ text "A7042C290000\n") (text "REFUSED 4 5\n")
+    ∷ prints (pool ++ text "A9052B28290000\n") (text "REFUSED 4 5\n")
+    ∷ prints (pool ++ text "A7092C2019290000100001\n") (text "REFUSED 4 5\n")
+    ∷ prints (pool ++ text "A8042C290100\n") (text "REFUSED 4 5\n")
+    ∷ prints (pool ++ text "A8052B28290100\n") (text "REFUSED 4 5\n")
+    ∷ prints (pool ++ text "A8042C290040\n") (text "REFUSED 4 5\n")
+    ∷ prints (pool ++ text "A8082B25110100100000\n") (text "REFUSED 4 5\n")
+    ∷ prints (pool ++ text "A8082C25110100100000\n") (text "REFUSED 4 5\n")
+    ∷ prints (pool ++ text "A8082B25110040100000\n") (text "REFUSED 4 5\n")
+    -- entry 1 and lags up to 63 may stand there
+    ∷ prints (chamber ++ text "A8042C29013F\nB1020100\n") (text "S 0 300\nBROKEN 3 1 4\n")
+    ∷ prints (chamber ++ text "A8082B2011003F10012C\nA8042C290100\nB1020200\n") (text "S 0 300\nS 1 314\nACCEPTED\n")
+    -- one constraint follows: none, an expression, a byte after it; and neither is an expression
+    ∷ prints (pool ++ text "A8012B\n") (text "REFUSED 4 5\n")
+    ∷ prints (pool ++ text "A8042C100001\n") (text "REFUSED 4 5\n")
+    ∷ prints (pool ++ text "A8032B2A2A\n") (text "REFUSED 4 5\n")
+    ∷ prints (pool ++ text "A806202C2A100001\n") (text "REFUSED 4 5\n")
+    -- they name what their constraint names: a fluent known to nobody in the crew, to one of it, and no reading where it is unknown
+    ∷ prints (gauge ++ text "A303010004\nA403010003\nA509002C25110100100000\nB103010100\n") (text "S 0 300 1\nBROKEN 2 1 0\n")
+    ∷ prints (gauge ++ text "A303010004\nA403010003\nA50A00282B25110100100005\nB103010100\n") (text "S 0 300 1\nBROKEN 2 1 0\n")
+    ∷ prints (gauge ++ text "A303010002\nA403010003\nA509002C25110100100000\nB103010100\n") (text "S 0 300 1\nS 1 300 1\nACCEPTED\n")
+    ∷ prints (gauge ++ text "A303010004\nA403010003\nA511002C201510000113110100100001100000\nB103010100\n") (text "S 0 300 1\nBROKEN 2 1 0\n")
+    -- a law's kind by its earliest position: a goal read at state 2 alone, 7 before 9 and 9 before 7, though its first position is false, or true
+    ∷ prints (filling ++ text "A91C2B2012151000011311000010012D1414110000110000102AD5100000\nB1020100\nB1020100\n") (text "S 0 300\nS 1 301\nS 2 302\nBROKEN 7 2 2\n")
+    ∷ prints (filling ++ text "A91C2C2112151000011311000010012E1414110000110000102B67100000\nB1020100\nB1020100\n") (text "S 0 300\nS 1 301\nS 2 302\nBROKEN 9 2 2\n")
+    -- in A5: false at position 0, 1 by 0 at position 1: 7, not 2
+    ∷ prints (text "A10102\nA20600C80140012C\nA303000003\nA403010001\nA403020002\nA502002A\nA511012B20151000011311000010012D100000\nA60A002A0012110000100001\nB1020100\nB1020002\n") (text "S 0 300\nS 1 301\nBROKEN 7 2 1\n")
+    -- under a supplement, refused in one, and in a report
+    ∷ lowPrints (kinds ++ text "AF0703A82B28290000\nB1020000\nB1020100\n") (text "S 0 300\nS 1 300\nBROKEN 3 2 3\n")
+    ∷ lowPrints (kinds ++ text "AF0A02A72C2011000010012B\nB1020000\n") (text "BROKEN 6 0 2\n")
+    ∷ lowPrints (kinds ++ text "AF0503A82B2C2A\nB1020000\n") (text "REFUSED 4 9\n")
+    ∷ lowPrints (kinds ++ text "AF0604A92C290000\nB1020000\n") (text "REFUSED 4 9\n")
+    -- 20 before it: of another kind than law 3
+    ∷ lowPrints (kinds ++ text "AF0503A92B2C2A\nB1020000\n") (text "REFUSED 20 9\n")
+    ∷ reports (weir ++ text "B000\nB1020002\nB1020100\nB000\nB1020100\nB1020002\n") (text "SHEETS 1 1\nF 0 286 300 886 3\n")
+    -- 64 steps, each law read at every position
+    ∷ reports (pool ++ text "A7082B2011000010012C\nA8082B2011000010012C\nB000\n" ++ flat (replicate 64 (text "B1020000\n"))) (text "SHEETS 1 0\nF 0 300 300 19500 65\n")
+    -- accepted lines are written again as they were
+    ∷ record { Of = Written; left = writeDomain (161 ∷ 1 ∷ 1 ∷ 162 ∷ 6 ∷ 0 ∷ 0 ∷ 0 ∷ 9 ∷ 0 ∷ 1 ∷ 164 ∷ 3 ∷ 1 ∷ 0 ∷ 1 ∷ 165 ∷ 6 ∷ 0 ∷ 38 ∷ 43 ∷ 42 ∷ 44 ∷ 42 ∷ []) (replicate 60 7); right = record { answer = got 52; buffer = text "A10101\nA206000000090001\nA403010001\nA50600262B2A2C2A\n" ++ replicate 8 7 } }
+    ∷ []
+
 abbrev pub AllHold : List Case → Type 0
 AllHold [] = Unit {0}
 AllHold (c ∷ l) = (c .left ≡ c .right) × AllHold l
@@ -841,3 +1048,7 @@ mornings-shown = (refl, (refl, (refl, (refl, (refl, (refl, (refl, (refl, (refl, 
 pub values-shown : AllHold troubles × AllHold divisions
 unfolding text all flat any numbers bounded signedWord namedE namedC allowedE allowedC evalE evalC codeOf parseE parseC linesOf digit bytes framed decode occursIn knownTo readable maskFits agentsFit fluentFits knowledgeFits entryFits executableIn effectIn mustIn lawIn itemIn inOrder room fresh checked accept complete takenFrom stepOf stepsFrom eachFrom history holds carries placed permits permitted mayOccur sets settled levelAfter stateAfter inRange landed step carried ran judge digitsOf spaced startsWith split output replacementOf supplementFrom lowWater those textsOf sheetsFrom lowestOf highestOf sumOf report stateLines inForceFrom replaced replacementIn standsAt frameAt framesFrom domainIn edited replayed standingSheet verdict
 values-shown = ((refl, (refl, (refl, (refl, (refl, (refl, (refl, (refl, (refl, (refl, (refl, (refl, (refl, (refl, (refl, (refl, (refl, (refl, (refl, (refl, (refl, (refl, (refl, (refl, (refl, (refl, (refl, (refl, (refl, (refl, (refl, (refl, (refl, (refl, (refl, (refl, (refl, (refl, (refl, (refl, (refl, (refl, (refl, (refl, (refl, (refl, (refl, (refl, (refl, (refl, (refl, (refl, (refl, (refl, (refl, (refl, (refl, (refl, (refl, (refl, (refl, (refl, (refl, (refl, (refl, (refl, (refl, (refl, (refl, (refl, (refl, (refl, (refl, (refl, (refl, (refl, (refl, tt))))))))))))))))))))))))))))))))))))))))))))))))))))))))))))))))))))))))))))), (refl, (refl, (refl, (refl, (refl, (refl, (refl, (refl, (refl, (refl, (refl, (refl, (refl, (refl, (refl, (refl, (refl, (refl, (refl, (refl, (refl, (refl, (refl, (refl, (refl, (refl, (refl, (refl, (refl, (refl, (refl, (refl, (refl, (refl, (refl, (refl, (refl, (refl, (refl, (refl, (refl, (refl, (refl, (refl, (refl, (refl, (refl, (refl, (refl, (refl, (refl, tt))))))))))))))))))))))))))))))))))))))))))))))))))))
+
+pub look-backs-shown : AllHold lookBacks
+unfolding text all flat any numbers bounded signedWord namedE namedC allowedE allowedC upTo evalE evalC codeOf parseE parseC linesOf digit bytes framed decode occursIn knownTo readable maskFits agentsFit fluentFits knowledgeFits entryFits executableIn effectIn mustIn lawIn itemIn inOrder room fresh checked accept complete takenFrom stepOf stepsFrom eachFrom history holds carries placed permits permitted mayOccur sets settled levelAfter stateAfter inRange landed step carried ran judge digitsOf spaced startsWith split output replacementOf supplementFrom lowWater those textsOf sheetsFrom lowestOf highestOf sumOf report stateLines inForceFrom replaced replacementIn judgedUnder writeDomain standsAt frameAt framesFrom domainIn digitFor hex lineFor
+look-backs-shown = (refl, (refl, (refl, (refl, (refl, (refl, (refl, (refl, (refl, (refl, (refl, (refl, (refl, (refl, (refl, (refl, (refl, (refl, (refl, (refl, (refl, (refl, (refl, (refl, (refl, (refl, (refl, (refl, (refl, (refl, (refl, (refl, (refl, (refl, (refl, (refl, (refl, (refl, (refl, (refl, (refl, (refl, (refl, (refl, (refl, (refl, (refl, (refl, (refl, (refl, (refl, (refl, (refl, (refl, (refl, (refl, (refl, (refl, (refl, (refl, (refl, (refl, (refl, (refl, (refl, (refl, (refl, (refl, (refl, (refl, (refl, (refl, (refl, (refl, (refl, (refl, (refl, (refl, (refl, (refl, (refl, (refl, (refl, (refl, (refl, (refl, (refl, (refl, (refl, (refl, (refl, (refl, (refl, (refl, (refl, (refl, (refl, (refl, (refl, (refl, (refl, (refl, (refl, (refl, (refl, (refl, (refl, (refl, (refl, (refl, (refl, (refl, (refl, (refl, (refl, tt)))))))))))))))))))))))))))))))))))))))))))))))))))))))))))))))))))))))))))))))))))))))))))))))))))))))))))))))))))

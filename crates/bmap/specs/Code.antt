@@ -6,7 +6,7 @@ use lib.Dec.{eqb}
 use lib.ListN.{drop}
 use Rattle.bmap.specs.Plain.{if-else}
 use Rattle.bmap.specs.Number.{signedWord}
-use Rattle.bmap.specs.Tree.{Expr, Con, constant, fluent, two, one, reified, compared, joined, negated, occurs, always}
+use Rattle.bmap.specs.Tree.{Expr, Con, constant, fluent, two, one, reified, compared, joined, negated, occurs, always, lookBack}
 use Rattle.bmap.specs.declared.Operation.{Operation}
 use Rattle.bmap.specs.declared.Operation.the-variants.{Sum, Difference, Product, Quotient, Remainder}
 use Rattle.bmap.specs.declared.Single.{Single}
@@ -27,6 +27,7 @@ pub data ConCode : Type 0 where
   of-comparison : Comparison → ConCode
   of-junction : Junction → ConCode
   a-negation an-occurrence a-truth : ConCode
+  a-look-back : Junction → ConCode
 
 pub data Code : Type 0 where
   expression : ExprCode → Code
@@ -63,6 +64,9 @@ codes =
     ∷ row 0x28 (constraint a-negation)
     ∷ row 0x29 (constraint an-occurrence)
     ∷ row 0x2A (constraint a-truth)
+    -- K4: "Add two constraint codes: 2B, its constraint held at every position …, and 2C, at one or more of them"
+    ∷ row 0x2B (constraint (a-look-back And))
+    ∷ row 0x2C (constraint (a-look-back Or))
     ∷ []
 
 -- "Every other code from 00 to FF is refused"
@@ -122,6 +126,7 @@ module _ (pe : Parser Expr) (pc : Parser Con) where
   conAfter (constraint a-negation) = operand negated pc
   conAfter (constraint an-occurrence) = twoBytes occurs
   conAfter (constraint a-truth) = λ bytes. parsed always 1
+  conAfter (constraint (a-look-back o)) = operand (lookBack o) pc
   conAfter (expression c) = λ bytes. none
   conAfter no-code = λ bytes. none
 

@@ -80,8 +80,9 @@ abbrev pub last : {L : Type 0} → L → List ℕ → Option L
 last l [] = some l
 last l (x ∷ rest) = none
 
+-- K4: every law may look back
 abbrev pub context : Counts → Bool → Context
-context n occurrences = record { fluents = n .fluents; entries = n .entries; occurrences = occurrences }
+context n occurrences = record { fluents = n .fluents; entries = n .entries; occurrences = occurrences; back = true }
 
 abbrev pub conIn : {L : Type 0} → Context → List ℕ → (Con → List ℕ → Option L) → Option L
 conIn x p k = treeIn (allowedC x) p (parseC mostDepth p) k

@@ -2,7 +2,7 @@
 use Prim.Native.Nat.{ℕ, _≤_, _<_, _+_, _*_, _/_}
 use mathlib.Core.Path.{_≡_}
 use mathlib.Core.Logic.{_↔_, _⊎_}
-use mathlib.Core.Bool.{Bool, true}
+use mathlib.Core.Bool.{Bool, true, false}
 use mathlib.Core.List.{List, [], map}
 use mathlib.Core.Option.{none, some}
 use lib.Dec.{T, leb, ltb}
@@ -12,6 +12,8 @@ use lib.ListN.{length, getD, take, replicate}
 use Rattle.bmap.specs.Plain.{if-else, all, flat, maybe}
 use Rattle.bmap.specs.Limits.{mostAgents, mostFluents, mostKnowledge, mostEntries, mostLaws, mostPayload, mostSteps, storeSize, sheetSize, levelsSize, supplementSize, reportInput}
 use Rattle.bmap.specs.Number.{Valued, value, no-value, inBounds, bounded, operate}
+use Rattle.bmap.specs.Tree.{Con, lookBack}
+use Rattle.bmap.specs.Meaning.{History, evalC}
 use Rattle.bmap.specs.Refusal.{got, refused, need, then, read}
 use Rattle.bmap.specs.Line.{linesOf, lineSize}
 use Rattle.bmap.specs.Domain.{Domain, Names, Law}
@@ -28,8 +30,11 @@ use Rattle.bmap.specs.Program.{split, sheetMark, supplemented, output, l
 use Rattle.bmap.specs.Report.{report}
 use Rattle.bmap.specs.Session.{isOpen, CouldBeLeft, Call, opened, after, replies, standingSheet, replayed, layout, openSession, verdictOf}
 use Rattle.bmap.specs.Series.{sessionAfter, repliesOf}
+use Rattle.bmap.specs.declared.Reason.{Reason}
 use Rattle.bmap.specs.declared.Reason.the-variants.{ZeroDivisor}
 use Rattle.bmap.specs.declared.Operation.the-variants.{Quotient, Remainder}
+use Rattle.bmap.specs.declared.Junction.{Junction}
+use Rattle.bmap.specs.declared.Junction.the-variants.{And, Or}
 use Rattle.bmap.specs.declared.session.Session.{Session}
 
 -- what a lent buffer of bytes holds
@@ -142,6 +147,42 @@ QuotientDown = (a b q : ℤ) → operate Quotient a b ≡ value q → (n : ℤ) 
 pub record DivisionValued : Type 0 where
   pub values : (a b : ℤ) → inBounds a ≡ true → inBounds b ≡ true → (b ≡ pos 0 → ⊥) → (q : ℤ) × (r : ℤ) × Gives a b (value q) (value r)
   pub none : (a : ℤ) → Gives a (pos 0) (no-value ZeroDivisor) (no-value ZeroDivisor)
+
+-- ---- K4
+
+-- what a constraint gives "at every position from 0 to the present one", j
+abbrev pub AtEvery : Con → History → ℕ → Bool → Type 0
+AtEvery c h j b = (i : ℕ) → i ≤ j → evalC c h i ≡ value b
+
+-- what it gives "at one or more of them", where each of them has a value
+pub record AtOneOrMore (c : Con) (h : History) (j : ℕ) (b : Bool) : Type 0 where
+  pub position : ℕ
+  pub so-far : position ≤ j
+  pub gives : evalC c h position ≡ value b
+  pub values : (i : ℕ) → i ≤ j → (a : Bool) × (evalC c h i ≡ value a)
+
+-- "the earliest position's": a position without value for this reason, and those before it have values
+pub record Earliest (c : Con) (h : History) (j : ℕ) (why : Reason) : Type 0 where
+  pub position : ℕ
+  pub so-far : position ≤ j
+  pub lacks : evalC c h position ≡ no-value why
+  pub before : (i : ℕ) → i < position → (a : Bool) × (evalC c h i ≡ value a)
+
+-- K4's sentences, of a constraint at any position of any history
+pub record LooksBack (c : Con) (h : History) (j : ℕ) : Type 0 where
+  -- "2B, its constraint held at every position from 0 to the present one"; false where each has a value and one or more is false
+  pub every : (evalC (lookBack And c) h j ≡ value true) ↔ AtEvery c h j true
+  pub not-every : (evalC (lookBack And c) h j ≡ value false) ↔ AtOneOrMore c h j false
+  -- "and 2C, at one or more of them"; false where each is false
+  pub one-or-more : (evalC (lookBack Or c) h j ≡ value true) ↔ AtOneOrMore c h j true
+  pub none : (evalC (lookBack Or c) h j ≡ value false) ↔ AtEvery c h j false
+  -- "Every position is read, so one without a value leaves the whole without value"
+  pub without : (o : Junction) (i : ℕ) (why : Reason) → i ≤ j → evalC c h i ≡ no-value why → (r : Reason) × (evalC (lookBack o c) h j ≡ no-value r)
+  -- "where K2's two reasons occur, the earliest position's is given"
+  pub lacks : (o : Junction) (why : Reason) → (evalC (lookBack o c) h j ≡ no-value why) ↔ Earliest c h j why
+
+abbrev pub LookBackRead : Type 0
+LookBackRead = (c : Con) (h : History) (j : ℕ) → LooksBack c h j
 
 -- ---- K7
 

@@ -1,6 +1,6 @@
 -- Expressions and constraints.
 use Prim.Native.Nat.{ℕ}
-use mathlib.Core.Bool.{Bool, true}
+use mathlib.Core.Bool.{Bool, true, false}
 use mathlib.Core.List.{List, [], _∷_, _++_}
 use lib.Dec.{leb, ltb}
 use lib.IntN.{ℤ}
@@ -27,6 +27,8 @@ mutual
     negated : Con → Con
     occurs : ℕ → ℕ → Con
     always : Con
+    -- K4: its constraint at every position so far (and), or at one or more of them (or): source document 000's "always" and "sometime"
+    lookBack : Junction → Con → Con
 
 -- the fluents that a tree names
 unfoldable mutual
@@ -43,8 +45,13 @@ unfoldable mutual
   namedC (negated a) = namedC a
   namedC (occurs e t) = []
   namedC always = []
+  namedC (lookBack o a) = namedC a
 
--- no "unknown … fluent or entry", "lag (0 to 63)", and code 29 only where occurrences may be asked
+-- K4: "Neither may stand inside the other or itself": where one looks back already, at any depth, neither may stand
+abbrev pub lookingBack : Context → Context
+lookingBack x = record { fluents = x .fluents; entries = x .entries; occurrences = x .occurrences; back = false }
+
+-- no "unknown … fluent or entry", "lag (0 to 63)", code 29 only where occurrences may be asked, and 2B and 2C only where a law may look back
 unfoldable mutual
   pub allowedE : Context → Expr → Bool
   allowedE x (constant z) = true
@@ -59,3 +66,4 @@ unfoldable mutual
   allowedC x (negated a) = allowedC x a
   allowedC x (occurs e t) = both (x .occurrences) (both (ltb e (x .entries)) (leb t mostLag))
   allowedC x always = true
+  allowedC x (lookBack o a) = both (x .back) (allowedC (lookingBack x) a)

@@ -23,11 +23,12 @@ impl Counts {
     pub const LAWS: usize = 128;
 }
 
-// What a law may name.
+// What a law may: name so many fluents and entries, ask for occurrences, look back.
 pub struct Context {
     pub fluents: usize,
     pub entries: usize,
     pub occurrences: bool,
+    pub back: bool,
 }
 
 // A sheet: the names step after step, one for each agent, zeros after.

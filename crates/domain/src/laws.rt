@@ -11,7 +11,7 @@ ghost use lib.ListN.{drop};
 ghost use Rattle.bmap.specs.Payload.{last, conIn, exprIn, context, executableIn, effectIn, lawIn};
 ghost use Rattle.domain.specs.Check.{isSome};
 
-// "Code 29 is refused in A7 and A9": occurrences says whether it may stand here.
+// "Code 29 is refused in A7 and A9": occurrences says whether it may stand here. Every law may look back.
 fn context_of(n: Counts, occurrences: bool) -> Context
     ensures { λ r. ⌜ r ≡ context n occurrences ⌝ }
 {
@@ -19,6 +19,7 @@ fn context_of(n: Counts, occurrences: bool) -> Context
         fluents: n.fluents,
         entries: n.entries,
         occurrences,
+        back: true,
     }
 }
 

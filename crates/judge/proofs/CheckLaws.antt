@@ -17,10 +17,10 @@ use Rattle.bmap.specs.Meaning.{History, evalC}
 use Rattle.bmap.specs.Domain.{Domain, Names, Entry, Law, executable, effect, must, Scope, static, concurrency, goal, has, entryAt, occursIn, readable}
 use Rattle.bmap.specs.Payload.{scopeKind}
 use Rattle.bmap.specs.Accept.{countsOf}
-use Rattle.bmap.specs.Judge.{pass, fault, unless, next, troubleKind, reads, placed, carries, sameScope, holds, permits, permitted, mayOccur}
+use Rattle.bmap.specs.Judge.{pass, fault, unless, next, troubleKind, reads, placed, carries, sameScope, eachFrom, holds, permits, permitted, mayOccur}
 use Rattle.index.specs.Index.{lawNumber, noLaw}
 use Rattle.judge.specs.Told.{Belonging, Says, Lawful, Within, Owned, Own, ownerOf, frameOf, conOf, placeOf, asksOf}
-use Rattle.judge.proofs.LoopLaws.{starts, rests}
+use Rattle.judge.proofs.LoopLaws.{starts, rests, each-on}
 use Rattle.judge.proofs.ByteLaws.{Spelt, spelt}
 
 -- ---- the laws of a run
@@ -124,6 +124,11 @@ module _ (d : Domain) (frame : List ℕ) where
     pub holds-same : (l : Law) {v : Valued Bool} → l ≡ must s (conOf l) → v ≡ evalC (conOf l) h j → holds s kind h j n l ≡ next (reads n v) (unless kind n)
     unfolding holds
     holds-same l e q = ap (λ (m : Law). holds s kind h j n m) e ∙ rw (scope-self s, ← q)
+
+-- a law of another kind is passed over
+module _ (d : Domain) (held : List ℕ) (s : Scope) (kind : ℕ) (h : History) (j : ℕ) {asked : ℕ} (is : asked ≡ scopeKind s) where
+  pub others-pass : (k : ℕ) (l : Law) (rest : List Law) → Says d (frameOf held k) l → (getD (frameOf held k) 0 0 ≡ asked → ⊥) → eachFrom k (holds s kind h j) (l ∷ rest) ≡ eachFrom (suc k) (holds s kind h j) rest
+  others-pass k l rest w q = each-on (holds s kind h j) k l rest (holds-other d (frameOf held k) s kind h j k l w (λ e. q (e ∙ sym is)))
 
 -- ---- 2: the laws of an entry
 

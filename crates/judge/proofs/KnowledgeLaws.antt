@@ -58,7 +58,7 @@ module _ (d : Domain) (table : List ℕ) (w : ℕ) (crews : List ℕ) (agents : 
   unfolding readable
   readable-is c used {o} {mask} q fit m =
       ap (namesOnly mask) q
-      ∙ same-named (context (countsOf d) true) (has mask) (knownTo d (entryAt d e))
+      ∙ same-named (has mask) (knownTo d (entryAt d e)) (context (countsOf d) true)
       (λ f p. let h : f < w = subst (λ (k : ℕ). f < k) (knowing .fluents) p in ap (λ (k : ℕ). has k f) m ∙ (mask-bit (shared cut table) 0 w f h ∙ (ap (shared cut table) (let z : 0 + f ≡ f = omega arith in z) ∙ known-is f h))) c fit
 
 -- a law is said in its frame's bytes alone

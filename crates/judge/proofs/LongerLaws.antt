@@ -7,8 +7,8 @@ use native.Mathlib.Omega.{arith}
 use lib.ListN.{length, drop}
 use lib.Seq.{drop-append-le}
 use Rattle.bmap.specs.Number.{signedWord}
-use Rattle.bmap.specs.Tree.{Expr, Con, constant, fluent, two, one, reified, compared, joined, negated, occurs}
-use Rattle.bmap.specs.Code.{Code, expression, constraint, no-code, a-constant, a-fluent, of-two, of-one, a-reified, of-comparison, of-junction, a-negation, an-occurrence, a-truth}
+use Rattle.bmap.specs.Tree.{Expr, Con, constant, fluent, two, one, reified, compared, joined, negated, occurs, lookBack}
+use Rattle.bmap.specs.Code.{Code, expression, constraint, no-code, a-constant, a-fluent, of-two, of-one, a-reified, of-comparison, of-junction, a-negation, an-occurrence, a-truth, a-look-back}
 use Rattle.bmap.specs.Code.{Parsed, Parser, twoBytes, made, second, operand, operands, codeOf, exprAfter, conAfter, parseE, parseC}
 use Rattle.law.proofs.Used.{used-e, used-c}
 
@@ -62,6 +62,7 @@ module _ (more : List ℕ) where
     stays-con (constraint a-negation) = stays-operand pc sc uc negated l
     stays-con (constraint an-occurrence) = stays-pair occurs l
     stays-con (constraint a-truth) = refl
+    stays-con (constraint (a-look-back o)) = stays-operand pc sc uc (lookBack o) l
     stays-con (expression c) = tt
     stays-con no-code = tt
 

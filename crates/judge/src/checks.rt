@@ -176,3 +176,22 @@ pub(crate) fn check_laws(
     }
     Check::Passed
 }
+
+// The same in a step. A domain often has no law of a kind: small enough to be compiled into its callers, this costs it no call.
+pub(crate) fn check_in_step(
+    held: &[u8; HELD],
+    run: Run,
+    kind: u8,
+    fault: Fault,
+    history: &[i16; HISTORY],
+    j: usize,
+) -> Check
+    requires { ⌜ run .to ≤ mostLaws ⌝ }
+    ensures { λ r. ⌜ ((d : Domain) (h : History) (s : Scope) (n : ℕ) → kind ≡ scopeKind s → Lawful d (now (held .entry)) n → Within (now (held .entry)) n kind (run .from) (run .to)
+        → Seen (asks s) d h (now (history .entry)) j → passOf r ≡ allHold s (kindOf fault) d h j) ⌝ }
+{
+    if run.to <= run.from {
+        return Check::Passed;
+    }
+    check_laws(held, run, kind, fault, history, j)
+}

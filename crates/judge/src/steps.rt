@@ -20,6 +20,7 @@ use crate::acting::Acting;
 use crate::acting::Step;
 use crate::acting::acting_in;
 use crate::checks::check_entries;
+use crate::checks::check_in_step;
 use crate::checks::check_laws;
 use crate::effects::lay_effects;
 use crate::landing::old_levels;
@@ -59,7 +60,7 @@ fn check_acts(
         return Check::Failed(fault, n);
     }
     let together = runs.concurrency;
-    check_laws(
+    check_in_step(
         held,
         together,
         Kind::CONCURRENCY,
@@ -103,7 +104,7 @@ fn land(
     if let Check::Failed(fault, n) = put_state(lowest, highest, w, new, history, present) {
         return Check::Failed(fault, n);
     }
-    check_laws(held, runs.fixed, Kind::STATIC, Fault::Static, history, next)
+    check_in_step(held, runs.fixed, Kind::STATIC, Fault::Static, history, next)
 }
 
 // A verdict, and how many states were reached.

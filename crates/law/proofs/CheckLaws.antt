@@ -18,16 +18,16 @@ use Rattle.bmap.specs.declared.Junction.{Junction}
 use Rattle.bmap.specs.Plain.{both, all, if-else}
 use Rattle.bmap.specs.Refusal.{Answer, got, refused, need}
 use Rattle.bmap.specs.Number.{signedWord}
-use Rattle.bmap.specs.Tree.{Expr, Con, constant, fluent, two, one, reified, compared, joined, negated, occurs, always, allowedE, allowedC, namedE, namedC}
+use Rattle.bmap.specs.Tree.{Expr, Con, constant, fluent, two, one, reified, compared, joined, negated, occurs, always, lookBack, allowedE, allowedC, namedE, namedC}
 use Rattle.bmap.proofs.PlainLaws.{all-append}
 use Rattle.bmap.specs.Code.{Code, Parsed, Parser, codeOf, made, second, operands, twoBytes, parseE, parseC}
 use Rattle.bmap.specs.Domain.{has}
 use Rattle.law.specs.declared.table.Node.the-variants.{Expression, Constraint}
 use Rattle.law.specs.declared.table.Pair.the-variants.{Bytes, Short}
-use Rattle.law.specs.Table.{opened, pairOf, followsIn, operatorIn, operationAt, singleAt, comparisonAt, junctionAt}
+use Rattle.law.specs.Table.{opened, pairOf, followsIn, operatorIn, looksBackIn, operationAt, singleAt, comparisonAt, junctionAt, lookBackAt}
 use Rattle.law.specs.Names.{namesOnly}
-use Rattle.law.specs.Check.{Test, allowed, in-mask, nextOf, endOf, passesE, passesC, leafIn}
-use Rattle.law.proofs.Trees.{at-constant, at-fluent, at-reified, at-one, at-two, at-truth, at-occurrence, at-negation, at-junction, at-comparison, pair-short, pair-long, no-pair, a-pair}
+use Rattle.law.specs.Check.{Test, allowed, in-mask, nextOf, endOf, passesE, passesC, mayBack, backAt, leafIn}
+use Rattle.law.proofs.Trees.{at-constant, at-fluent, at-reified, at-one, at-two, at-truth, at-occurrence, at-negation, at-look-back, at-junction, at-comparison, pair-short, pair-long, no-pair, a-pair}
 
 -- A tree passes where its operands do.
 pub passes-constant : (t : Test) (hi lo : ℕ) → passesE t (constant (signedWord hi lo)) ≡ true
@@ -70,17 +70,22 @@ unfolding allowedC namedC all
 passes-always (allowed x) = refl
 passes-always (in-mask m) = refl
 
+passes-look-back : (t : Test) (o : Junction) (a : Con) → passesC t (lookBack o a) ≡ both (mayBack t) (passesC (backAt t) a)
+unfolding allowedC namedC
+passes-look-back (allowed x) o a = refl
+passes-look-back (in-mask m) o a = refl
+
 -- One operand, and two.
 module _ {T A : Type 0} (okA : A → Bool) (okT : T → Bool) where
   one-checked : (make : A → T) → ((a : A) → okT (make a) ≡ okA a) → (at k : ℕ) (o : Option (Parsed A)) → endOf okA (at + k) o ≡ endOf okT at (made make k o)
   one-checked make h at k none = refl
   one-checked make h at k (some p) = rw (h (p .tree), add-assoc at k (p .used))
 
-  module _ (make : A → A → T) (h : (a b : A) → okT (make a b) ≡ both (okA a) (okA b)) (pa : Parser A) (s : List ℕ) (at : ℕ) where
-    fails : (a : A) → okA a ≡ false → (k : ℕ) (o : Option (Parsed A)) → refused 4 ≡ endOf okT at (made (make a) k o)
-    fails a f k none = refl
-    fails a f k (some p) = rw (h a (p .tree), f)
+  one-refused : (make : A → T) → ((a : A) → okT (make a) ≡ false) → (at k : ℕ) (o : Option (Parsed A)) → refused 4 ≡ endOf okT at (made make k o)
+  one-refused make h at k none = refl
+  one-refused make h at k (some p) = rw (h (p .tree))
 
+  module _ (make : A → A → T) (h : (a b : A) → okT (make a b) ≡ both (okA a) (okA b)) (pa : Parser A) (s : List ℕ) (at : ℕ) where
     abbrev after : Answer ℕ → Answer ℕ
     after (refused n) = refused n
     after (got m) = endOf okA m (pa (drop m s))
@@ -90,7 +95,7 @@ module _ {T A : Type 0} (okA : A → Bool) (okT : T → Bool) where
     two-checked (some p) = go (okA (p .tree)) refl
       where
         go : (b : Bool) → okA (p .tree) ≡ b → after (need b 4 (got (at + 1 + p .used))) ≡ endOf okT at (made (make (p .tree)) (1 + p .used) (pa (drop (p .used) (drop (at + 1) s))))
-        go false f = fails (p .tree) f (1 + p .used) (pa (drop (p .used) (drop (at + 1) s)))
+        go false f = one-refused (make (p .tree)) (λ b. rw (h (p .tree) b, f)) at (1 + p .used) (pa (drop (p .used) (drop (at + 1) s)))
         go true f =
             rw (drop-drop (p .used) (at + 1) s, add-assoc at 1 (p .used))
             (one-checked (make (p .tree)) (λ b. rw (h (p .tree) b, f)) at (1 + p .used) (pa (drop (at + (1 + p .used)) s)))
@@ -224,8 +229,19 @@ module _ (t : Test) (s : List ℕ) (at d : ℕ) (ne : d ≡ 0 → ⊥) (lt : at 
     pub check-truth : followsIn row ≡ 0 → nextOf (at + 1) ≡ whole-c
     check-truth n = rw (at-truth s at d ne lt p n, passes-always t) (past at 1 (omega arith))
 
-    pub check-negation : followsIn row ≡ 7 → part-c (at + 1) ≡ whole-c
-    check-negation q = rw (at-negation s at d ne lt p q) (one-checked (passesC t) (passesC t) negated (passes-negated t) at 1 (parseC (d - 1) (drop (at + 1) s)))
+    pub check-negation : followsIn row ≡ 7 → looksBackIn row ≡ false → part-c (at + 1) ≡ whole-c
+    check-negation q r = rw (at-negation s at d ne lt p q r) (one-checked (passesC t) (passesC t) negated (passes-negated t) at 1 (parseC (d - 1) (drop (at + 1) s)))
+
+    -- "Neither may stand inside the other or itself"
+    module _ (r : looksBackIn row ≡ true) where
+      abbrev over : Junction
+      over = lookBackAt (operatorIn row)
+
+      pub check-look-back : mayBack t ≡ true → endOf (passesC (backAt t)) (at + 1) (parseC (d - 1) (drop (at + 1) s)) ≡ whole-c
+      check-look-back b = rw (at-look-back s at d ne lt p r) (one-checked (passesC (backAt t)) (passesC t) (lookBack over) (λ a. rw (passes-look-back t over a, b)) at 1 (parseC (d - 1) (drop (at + 1) s)))
+
+      pub check-barred : mayBack t ≡ false → refused 4 ≡ whole-c
+      check-barred b = rw (at-look-back s at d ne lt p r) (one-refused (passesC t) (passesC t) (lookBack over) (λ a. rw (passes-look-back t over a, b)) at 1 (parseC (d - 1) (drop (at + 1) s)))
 
     module _ (q : followsIn row ≡ 10 → ⊥) (r : followsIn row ≡ 9 → ⊥) (m : followsIn row ≡ 0 → ⊥) (n : followsIn row ≡ 7 → ⊥) where
       abbrev junction : Junction

@@ -73,13 +73,13 @@ module _ (b : ℕ) where
   unfolding codeOf
   between-codes lo hi = nothing (codeOf b) (range 2 0x1A 6 tt b lo (omega arith))
 
-  pub constraint-codes : 0x20 ≤ b → b < 0x2B → Constraint (rowOf (codeOf b)) ≡ opened (codeOf b)
+  pub constraint-codes : 0x20 ≤ b → b < 0x2D → Constraint (rowOf (codeOf b)) ≡ opened (codeOf b)
   unfolding codeOf
-  constraint-codes lo hi = a-constraint (codeOf b) (range 1 0x20 11 tt b lo (omega arith))
+  constraint-codes lo hi = a-constraint (codeOf b) (range 1 0x20 13 tt b lo (omega arith))
 
-  pub past-codes : 0x2B ≤ b → Refused ≡ opened (codeOf b)
+  pub past-codes : 0x2D ≤ b → Refused ≡ opened (codeOf b)
   unfolding codeOf
-  past-codes lo = nothing (codeOf b) (ap sort (found-past 0x2B b codes tt lo))
+  past-codes lo = nothing (codeOf b) (ap sort (found-past 0x2D b codes tt lo))
 
 -- what a list of the values at the n numbers from i on has at k
 listed : {A : Type 0} (f : ℕ → A) (i n k : ℕ) (d : A) → k < n → getD (map f (numbers i n)) k d ≡ f (i + k)

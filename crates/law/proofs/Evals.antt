@@ -3,8 +3,9 @@ use mathlib.Core.Path.{_≡_, refl, sym, ap, _∙_}
 use mathlib.Core.Bool.{Bool, true, false, not}
 use mathlib.Core.List.{List, [], _∷_}
 use mathlib.Core.Option.{Option, none, some}
-use Prim.Native.Nat.{ℕ, _+_, _-_, _*_, _≤_, _<_}
+use Prim.Native.Nat.{ℕ, suc, _+_, _-_, _*_, _≤_, _<_}
 use native.Mathlib.Nat.{add-assoc}
+use native.Mathlib.Numerals.{add-one}
 use native.Mathlib.Omega.{arith}
 use native.Mathlib.Decide.{ℕ-discrete}
 use borrow.Author.Tests.{le-leb, lt-leb, eq-eqb, ne-eqb}
@@ -12,16 +13,19 @@ use lib.Dec.{leb}
 use lib.IntN.{ℤ, pos}
 use lib.ListN.{length, drop, getD, List·getD-eq-default}
 use lib.Seq.{drop-drop}
+use Rattle.bmap.specs.declared.Junction.{Junction}
 use Rattle.bmap.specs.Plain.{both}
 use Rattle.bmap.specs.Limits.{mostFluents}
 use Rattle.bmap.specs.Number.{Valued, value, with1, with2, operate, change, compare, join, flag, signedWord}
-use Rattle.bmap.specs.Tree.{Expr, Con, constant, fluent, two, one, reified, compared, joined, negated, occurs}
-use Rattle.bmap.specs.Meaning.{evalE, evalC}
+use Rattle.bmap.specs.Tree.{Expr, Con, constant, fluent, two, one, reified, compared, joined, negated, occurs, lookBack}
+use Rattle.bmap.specs.Meaning.{upTo, evalE, evalC}
 use Rattle.bmap.specs.Code.{Code, Parsed, Parser, codeOf, made, second, operand, operands, twoBytes, parseE, parseC}
 use Rattle.law.specs.declared.table.Node.the-variants.{Expression, Constraint}
-use Rattle.law.specs.Table.{opened, followsIn, operatorIn, operationAt, singleAt, comparisonAt, junctionAt}
-use Rattle.law.specs.Evaluate.{Meant, malformed, gives, meant, onward, rowSize, cellAt, marked, inStep, leafOf, historyOf, valueAt, truthAt}
-use Rattle.law.proofs.Trees.{at-constant, at-fluent, at-reified, at-one, at-two, at-truth, at-occurrence, at-negation, at-junction, at-comparison, pair-short, pair-long, no-pair, a-pair}
+use Rattle.law.specs.Table.{opened, followsIn, operatorIn, looksBackIn, operationAt, singleAt, comparisonAt, junctionAt, lookBackAt}
+use Rattle.law.specs.Evaluate.{Meant, malformed, gives, meant, onward, rowSize, cellAt, marked, inStep, leafOf, historyOf, valueAt, truthAt, soFarAt}
+use Rattle.law.specs.Packed.{endIn, truthIn, judgedIn}
+use Rattle.law.proofs.PackedLaws.{placed-value}
+use Rattle.law.proofs.Trees.{at-constant, at-fluent, at-reified, at-one, at-two, at-truth, at-occurrence, at-negation, at-look-back, at-junction, at-comparison, pair-short, pair-long, no-pair, a-pair}
 
 -- The history: what was never written, and the step that code 29 looks at.
 pub no-cell : (l : List ℤ) (k f : ℕ) → length l ≤ rowSize * k + f → pos 0 ≡ cellAt l k f
@@ -64,6 +68,10 @@ module _ {A B : Type 0} (op : A → B) {x : Meant A} where
   pub onward-gives : {v : A} {w : B} {n : ℕ} → gives v n ≡ x → w ≡ op v → gives w n ≡ onward op x
   onward-gives {n = n} e q = ap (λ (y : B). gives y n) q ∙ ap (onward op) e
 
+onward-same : {A : Type 0} (m : Meant A) → onward (λ v. v) m ≡ m
+onward-same malformed = refl
+onward-same (gives v n) = refl
+
 module _ {S T A B : Type 0} (fs : S → A) (ft : T → B) where
   made-meant : (make : S → T) (op : A → B) → ((a : S) → ft (make a) ≡ op (fs a)) → (at k : ℕ) (o : Option (Parsed S)) → onward op (meant fs (at + k) o) ≡ meant ft at (made make k o)
   made-meant make op h at k none = refl
@@ -89,6 +97,22 @@ module _ {S T A B : Type 0} (fs : S → A) (ft : T → B) where
 
       then-second : {v : A} {m : ℕ} → gives v m ≡ meant fs (at + 1) (ps (drop (at + 1) s)) → onward (op v) (meant fs m (ps (drop m s))) ≡ meant ft at (operands make ps (drop (at + 1) s))
       then-second e = ap after e ∙ two-meant (ps (drop (at + 1) s))
+
+-- The positions that 2B and 2C look at: the first, and each after those that are joined.
+module _ (o : Junction) (d : ℕ) (s : List ℕ) (at : ℕ) (l : List ℤ) where
+  pub first-position : truthAt d s at l 0 ≡ soFarAt o d s at l 0
+  unfolding upTo
+  first-position = refl
+
+  pub next-position : (a b r i : ℕ) → judgedIn a ≡ soFarAt o d s at l i → judgedIn b ≡ truthAt d s at l (i + 1)
+      → judgedIn r ≡ onward (with2 (λ x y. value (join o x y)) (truthIn a)) (judgedIn b) → judgedIn r ≡ soFarAt o d s at l (i + 1)
+  unfolding upTo
+  next-position a b r i before here all = rw add-one (go (parseC d (drop at s)) before (rw add-one at here))
+    where
+      go : (p : Option (Parsed Con)) → judgedIn a ≡ meant (λ t. upTo o (λ k. evalC t (historyOf l) k) i) at p → judgedIn b ≡ meant (λ t. evalC t (historyOf l) (suc i)) at p
+          → judgedIn r ≡ meant (λ t. with2 (λ x y. value (join o x y)) (upTo o (λ k. evalC t (historyOf l) k) i) (evalC t (historyOf l) (suc i))) at p
+      go none e f = all ∙ ap (onward (with2 (λ x y. value (join o x y)) (truthIn a))) f
+      go (some p) e f = all ∙ (ap (onward (with2 (λ x y. value (join o x y)) (truthIn a))) f ∙ rw (placed-value (truthIn a) (endIn a) e))
 
 -- The tree at a place, by its code.
 module _ (s : List ℕ) (at d : ℕ) (l : List ℤ) (j : ℕ) (ne : d ≡ 0 → ⊥) (lt : at < length s) where
@@ -161,9 +185,15 @@ module _ (s : List ℕ) (at d : ℕ) (l : List ℤ) (j : ℕ) (ne : d ≡ 0 → 
     unfolding evalC
     eval-truth n = rw (at-truth s at d ne lt p n)
 
-    pub eval-negation : followsIn row ≡ 7 → onward (with1 (λ x. value (not x))) (part-c (at + 1)) ≡ whole-c
+    pub eval-negation : followsIn row ≡ 7 → looksBackIn row ≡ false → onward (with1 (λ x. value (not x))) (part-c (at + 1)) ≡ whole-c
     unfolding evalC
-    eval-negation q = rw (at-negation s at d ne lt p q) (one-meant fc fc pc s at negated (with1 (λ x. value (not x))) (λ a. refl))
+    eval-negation q r = rw (at-negation s at d ne lt p q r) (one-meant fc fc pc s at negated (with1 (λ x. value (not x))) (λ a. refl))
+
+    pub eval-look-back : looksBackIn row ≡ true → soFarAt (lookBackAt (operatorIn row)) (d - 1) s (at + 1) l j ≡ whole-c
+    unfolding evalC
+    eval-look-back b =
+        let over : Con → Valued Bool = λ t. upTo (lookBackAt (operatorIn row)) (λ i. evalC t (historyOf l) i) j in
+        rw (at-look-back s at d ne lt p b) (sym (onward-same _) ∙ one-meant over fc pc s at (lookBack (lookBackAt (operatorIn row))) (λ v. v) (λ a. refl))
 
     module _ (q : followsIn row ≡ 10 → ⊥) (r : followsIn row ≡ 9 → ⊥) (m : followsIn row ≡ 0 → ⊥) (n : followsIn row ≡ 7 → ⊥) where
       pub eval-junction : {v : Valued Bool} {k : ℕ} → gives v k ≡ part-c (at + 1) → onward (with2 (λ x y. value (join (junctionAt (operatorIn row)) x y)) v) (part-c k) ≡ whole-c

@@ -11,14 +11,14 @@ use lib.Dec.{eqb}
 use lib.ListN.{length, drop, getD}
 use Rattle.bmap.specs.Refusal.{got, refused}
 use Rattle.bmap.specs.Tree.{occurs}
-use Rattle.bmap.specs.Code.{Code, expression, constraint, no-code, a-constant, a-fluent, of-two, of-one, a-reified, of-comparison, of-junction, a-negation, an-occurrence, a-truth, codeOf}
+use Rattle.bmap.specs.Code.{Code, expression, constraint, no-code, a-constant, a-fluent, of-two, of-one, a-reified, of-comparison, of-junction, a-negation, an-occurrence, a-truth, a-look-back, codeOf}
 use Rattle.law.specs.declared.table.Node.the-variants.{Expression, Constraint}
 use Rattle.law.specs.declared.table.Pair.the-variants.{Bytes, Short}
-use Rattle.law.specs.Table.{rowOf, followsIn, sortIn, countIn, opened, pairOf}
-use Rattle.law.specs.Check.{Test, nextOf, passesE, passesC, leafIn, treeEnd, rowFor, pairPasses}
-use Rattle.law.proofs.Trees.{deep-e, deep-c, end-e, end-c, no-expression, no-constraint}
+use Rattle.law.specs.Table.{rowOf, followsIn, sortIn, countIn, looksBackIn, opened, pairOf}
+use Rattle.law.specs.Check.{Test, nextOf, passesE, passesC, mayBack, backAt, leafIn, treeEnd, rowFor, pairPasses}
+use Rattle.law.proofs.Trees.{deep-e, deep-c, end-e, end-c, no-expression, no-constraint, never-back}
 use Rattle.law.proofs.CheckLaws.{no-tree, leaf-short, leaf-passes, leaf-fails, check-leaf, check-reified, check-one, check-two, check-first}
-use Rattle.law.proofs.CheckLaws.{check-compared, check-first-e, check-occurrence, check-truth, check-negation, check-junction, check-first-c}
+use Rattle.law.proofs.CheckLaws.{check-compared, check-first-e, check-occurrence, check-truth, check-negation, check-look-back, check-barred, check-junction, check-first-c}
 use Rattle.law.proofs.table.Node as node-type
 
 by-test : {A : Type 0} (b : Bool) → (b ≡ true → A) → (b ≡ false → A) → A
@@ -60,6 +60,7 @@ module _ {row : ℕ} where
   of-constraint (constraint a-negation) p n = let z : row ≡ rowOf (constraint a-negation) = cc in omega arith
   of-constraint (constraint an-occurrence) p n = let z : row ≡ rowOf (constraint an-occurrence) = cc in omega arith
   of-constraint (constraint a-truth) p n = let z : row ≡ rowOf (constraint a-truth) = cc in omega arith
+  of-constraint (constraint (a-look-back o)) p n = let z : row ≡ rowOf (constraint (a-look-back o)) = cc in omega arith
   of-constraint (expression c) p n = cc
   of-constraint no-code p n = cc
 
@@ -69,6 +70,7 @@ module _ {row : ℕ} where
   of-expressions (constraint a-negation) p q r m = let z : row ≡ rowOf (constraint a-negation) = cc in absurd (r (omega arith))
   of-expressions (constraint an-occurrence) p q r m = let z : row ≡ rowOf (constraint an-occurrence) = cc in absurd (q (omega arith))
   of-expressions (constraint a-truth) p q r m = let z : row ≡ rowOf (constraint a-truth) = cc in absurd (m (omega arith))
+  of-expressions (constraint (a-look-back o)) p q r m = let z : row ≡ rowOf (constraint (a-look-back o)) = cc in absurd (r (omega arith))
   of-expressions (expression c) p q r m = cc
   of-expressions no-code p q r m = cc
 
@@ -88,6 +90,7 @@ no-row-c (constraint (of-junction o)) w f e = absurd (omega (arith, rw f at e))
 no-row-c (constraint a-negation) w f e = absurd (omega (arith, rw f at e))
 no-row-c (constraint an-occurrence) w f e = absurd (omega (arith, rw f at e))
 no-row-c (constraint a-truth) w f e = absurd (omega (arith, rw f at e))
+no-row-c (constraint (a-look-back o)) w f e = absurd (omega (arith, rw f at e))
 no-row-c (expression c) w f e = hit (0 ∷ 2 ∷ []) 0 tt
 no-row-c no-code w f e = hit (0 ∷ 2 ∷ []) 2 tt
 
@@ -145,6 +148,14 @@ module _ (w : ℕ) (t : Test) (s : List ℕ) (at d : ℕ) where
               (λ f. rw f (leaf-fails (passesC t) occurs s at p (rw f at h) ∙ check-occurrence t s at d ne lt (con f) q))
               (λ f. rw f (leaf-fails (passesE t) (leafIn row) s at p (rw f at h) ∙ check-leaf t s at d ne lt (expr f) q))
 
+      -- 2B and 2C
+      module _ (b : looksBackIn row ≡ true) where
+        pub long-back : mayBack t ≡ true → treeEnd 3 (backAt t) (d - 1) s (at + 1) ≡ treeEnd w t d s at
+        long-back h = by-test (eqb w 3) (λ f. rw f (check-look-back t s at d ne lt (con f) b h)) (λ f. absurd (never-back code (expr f) b))
+
+        pub long-barred : mayBack t ≡ false → refused 4 ≡ treeEnd w t d s at
+        long-barred h = by-test (eqb w 3) (λ f. rw f (check-barred t s at d ne lt (con f) b h)) (λ f. absurd (never-back code (expr f) b))
+
       -- operands of the sort k
       module _ {k : ℕ} (sort : k ≡ sortIn row) where
         constraints : eqb k 3 ≡ true → sortIn row ≡ 3
@@ -156,10 +167,10 @@ module _ (w : ℕ) (t : Test) (s : List ℕ) (at d : ℕ) where
         one-of : eqb k 3 ≡ true → countIn row ≡ 1 → followsIn row ≡ 7
         one-of g n = omega (arith, constraints g)
 
-        pub long-one : countIn row ≡ 1 → treeEnd k t (d - 1) s (at + 1) ≡ treeEnd w t d s at
-        long-one n = by-test (eqb w 3)
+        pub long-one : looksBackIn row ≡ false → countIn row ≡ 1 → treeEnd k t (d - 1) s (at + 1) ≡ treeEnd w t d s at
+        long-one b n = by-test (eqb w 3)
             (λ f. by-test (eqb k 3)
-            (λ g. rw (f, g) (check-negation t s at d ne lt (con f) (one-of g n)))
+            (λ g. rw (f, g) (check-negation t s at d ne lt (con f) (one-of g n) b))
             (λ g. absurd (others g (of-constraint code (con f) n))))
             (λ f. by-test (eqb k 3)
             (λ g. rw (f, g) (check-reified t s at d ne lt (expr f) (one-of g n)))

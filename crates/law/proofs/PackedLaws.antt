@@ -26,6 +26,11 @@ module _ {A : Type 0} (v : A) where
   there zero h = absurd (h refl)
   there (suc n) h = refl
 
+  -- what stands there is what it gives
+  pub placed-value : {w : A} {m : ℕ} (n : ℕ) → placed v n ≡ gives w m → v ≡ w
+  placed-value zero e = cc
+  placed-value (suc n) e = cc
+
 -- as a tree's end was read
 module _ {A : Type 0} (v : A) {e n : ℕ} (is : e ≡ n) where
   pub ends-nowhere : e ≡ 0 → malformed ≡ placed v n

@@ -1,25 +1,27 @@
 -- The tree at a place of some bytes, by its code: what the table says of the code, and what the parser does after it.
 use mathlib.Core.Path.{_≡_, refl, subst}
 use mathlib.Core.Logic.{⊎-elim}
+use mathlib.Core.Bool.{true, false}
 use mathlib.Core.List.{List, [], _∷_}
 use mathlib.Core.Option.{none}
 use Prim.Native.Nat.{ℕ, zero, suc, _+_, _-_, _*_, _≤_, _<_}
 use native.Mathlib.Numerals.{add-one}
 use native.Mathlib.Decide.{decLe}
 use native.Mathlib.Omega.{arith}
+use borrow.Author.Tests.{leb-true, leb-false}
 use types.Run.{OneOf}
 use denote.Enum.Declared.{tagOf}
 use lib.ListN.{length, drop, getD, length-drop, drop-of-length-le}
 use lib.Seq.{drop-cons}
-use Rattle.bmap.specs.Code.{Code, expression, constraint, no-code, a-constant, a-fluent, of-two, of-one, a-reified, of-comparison, of-junction, a-negation, an-occurrence, a-truth}
+use Rattle.bmap.specs.Code.{Code, expression, constraint, no-code, a-constant, a-fluent, of-two, of-one, a-reified, of-comparison, of-junction, a-negation, an-occurrence, a-truth, a-look-back}
 use Rattle.bmap.specs.Number.{signedWord}
-use Rattle.bmap.specs.Tree.{constant, fluent, two, one, reified, compared, joined, negated, occurs, always}
+use Rattle.bmap.specs.Tree.{constant, fluent, two, one, reified, compared, joined, negated, occurs, always, lookBack}
 use Rattle.bmap.specs.Code.{codeOf, parsed, twoBytes, operand, operands, exprAfter, conAfter, parseE, parseC}
 use Rattle.law.specs.declared.table.Node.{Node}
 use Rattle.law.specs.declared.table.Node.the-variants.{Expression, Constraint}
 use Rattle.law.specs.declared.table.Pair.the-variants.{Bytes, Short}
-use Rattle.law.specs.Table.{sortOf, countOf, operatorOf, rowOf, followsIn, operatorIn, opened, pairOf}
-use Rattle.law.specs.Table.{operationNumber, operationAt, singleNumber, singleAt, comparisonNumber, comparisonAt, junctionNumber, junctionAt}
+use Rattle.law.specs.Table.{sortOf, countOf, operatorOf, rowOf, followsIn, operatorIn, looksBackIn, opened, pairOf}
+use Rattle.law.specs.Table.{operationNumber, operationAt, singleNumber, singleAt, comparisonNumber, comparisonAt, junctionNumber, junctionAt, lookBackNumber, lookBackAt}
 use Rattle.bmap.specs.declared.Operation.{Operation}
 use Rattle.bmap.specs.declared.Operation.the-variants.{Sum, Difference, Product, Quotient, Remainder}
 use Rattle.bmap.specs.declared.Single.{Single}
@@ -48,6 +50,7 @@ few-sorts (constraint (of-junction o)) = omega arith
 few-sorts (constraint a-negation) = omega arith
 few-sorts (constraint an-occurrence) = omega arith
 few-sorts (constraint a-truth) = omega arith
+few-sorts (constraint (a-look-back o)) = omega arith
 few-sorts no-code = omega arith
 
 few-operands : (c : Code) → countOf c < 4
@@ -61,6 +64,7 @@ few-operands (constraint (of-junction o)) = omega arith
 few-operands (constraint a-negation) = omega arith
 few-operands (constraint an-occurrence) = omega arith
 few-operands (constraint a-truth) = omega arith
+few-operands (constraint (a-look-back o)) = omega arith
 few-operands no-code = omega arith
 
 record Reads (row : ℕ) (c : Code) : Type 0 where
@@ -95,6 +99,34 @@ comparison-back AtLeast = refl
 junction-back : (o : Junction) → junctionAt (junctionNumber o) ≡ o
 junction-back And = refl
 junction-back Or = refl
+
+-- few of each, so that what looks back is past them
+few-operations : (o : Operation) → operationNumber o < 8
+few-operations Sum = omega arith
+few-operations Difference = omega arith
+few-operations Product = omega arith
+few-operations Quotient = omega arith
+few-operations Remainder = omega arith
+
+few-singles : (o : Single) → singleNumber o < 8
+few-singles Negation = omega arith
+few-singles Absolute = omega arith
+
+few-comparisons : (o : Comparison) → comparisonNumber o < 8
+few-comparisons Equal = omega arith
+few-comparisons Unequal = omega arith
+few-comparisons Less = omega arith
+few-comparisons AtMost = omega arith
+few-comparisons Greater = omega arith
+few-comparisons AtLeast = omega arith
+
+few-junctions : (o : Junction) → junctionNumber o < 8
+few-junctions And = omega arith
+few-junctions Or = omega arith
+
+look-back-back : (o : Junction) → lookBackAt (lookBackNumber o) ≡ o
+look-back-back And = refl
+look-back-back Or = refl
 
 -- and they decide the code
 module _ {row : ℕ} where
@@ -149,6 +181,7 @@ module _ {row : ℕ} where
   is-comparison (constraint a-negation) p q = let w = reads row (constraint a-negation) cc in absurd (omega (arith, w .follows, q))
   is-comparison (constraint an-occurrence) p q = let w = reads row (constraint an-occurrence) cc in absurd (omega (arith, w .follows, q))
   is-comparison (constraint a-truth) p q = let w = reads row (constraint a-truth) cc in absurd (omega (arith, w .follows, q))
+  is-comparison (constraint (a-look-back o)) p q = let w = reads row (constraint (a-look-back o)) cc in absurd (omega (arith, w .follows, q))
   is-comparison (expression c) p q = cc
   is-comparison no-code p q = cc
 
@@ -158,6 +191,7 @@ module _ {row : ℕ} where
   is-occurrence (constraint a-negation) p q = let w = reads row (constraint a-negation) cc in absurd (omega (arith, w .follows, q))
   is-occurrence (constraint an-occurrence) p q = refl
   is-occurrence (constraint a-truth) p q = let w = reads row (constraint a-truth) cc in absurd (omega (arith, w .follows, q))
+  is-occurrence (constraint (a-look-back o)) p q = let w = reads row (constraint (a-look-back o)) cc in absurd (omega (arith, w .follows, q))
   is-occurrence (expression c) p q = cc
   is-occurrence no-code p q = cc
 
@@ -167,17 +201,39 @@ module _ {row : ℕ} where
   is-truth (constraint a-negation) p n = let w = reads row (constraint a-negation) cc in absurd (omega (arith, w .follows, n))
   is-truth (constraint an-occurrence) p n = let w = reads row (constraint an-occurrence) cc in absurd (omega (arith, w .follows, n))
   is-truth (constraint a-truth) p n = refl
+  is-truth (constraint (a-look-back o)) p n = let w = reads row (constraint (a-look-back o)) cc in absurd (omega (arith, w .follows, n))
   is-truth (expression c) p n = cc
   is-truth no-code p n = cc
 
-  is-negation : (c : Code) → Constraint row ≡ opened c → followsIn row ≡ 7 → c ≡ constraint a-negation
-  is-negation (constraint (of-comparison o)) p q = let w = reads row (constraint (of-comparison o)) cc in absurd (omega (arith, w .follows, q))
-  is-negation (constraint (of-junction o)) p q = let w = reads row (constraint (of-junction o)) cc in absurd (omega (arith, w .follows, q))
-  is-negation (constraint a-negation) p q = refl
-  is-negation (constraint an-occurrence) p q = let w = reads row (constraint an-occurrence) cc in absurd (omega (arith, w .follows, q))
-  is-negation (constraint a-truth) p q = let w = reads row (constraint a-truth) cc in absurd (omega (arith, w .follows, q))
-  is-negation (expression c) p q = cc
-  is-negation no-code p q = cc
+  is-negation : (c : Code) → Constraint row ≡ opened c → followsIn row ≡ 7 → looksBackIn row ≡ false → c ≡ constraint a-negation
+  is-negation (constraint (of-comparison o)) p q b = let w = reads row (constraint (of-comparison o)) cc in absurd (omega (arith, w .follows, q))
+  is-negation (constraint (of-junction o)) p q b = let w = reads row (constraint (of-junction o)) cc in absurd (omega (arith, w .follows, q))
+  is-negation (constraint a-negation) p q b = refl
+  is-negation (constraint an-occurrence) p q b = let w = reads row (constraint an-occurrence) cc in absurd (omega (arith, w .follows, q))
+  is-negation (constraint a-truth) p q b = let w = reads row (constraint a-truth) cc in absurd (omega (arith, w .follows, q))
+  is-negation (constraint (a-look-back o)) p q b = let z : row ≡ rowOf (constraint (a-look-back o)) = cc in absurd (omega (arith, leb-false 128 row b))
+  is-negation (expression c) p q b = cc
+  is-negation no-code p q b = cc
+
+  is-look-back : (c : Code) → Constraint row ≡ opened c → looksBackIn row ≡ true → c ≡ constraint (a-look-back (lookBackAt (operatorIn row)))
+  is-look-back (constraint (of-comparison o)) p b = let z : row ≡ rowOf (constraint (of-comparison o)) = cc in absurd (omega (arith, leb-true 128 row b, few-comparisons o))
+  is-look-back (constraint (of-junction o)) p b = let z : row ≡ rowOf (constraint (of-junction o)) = cc in absurd (omega (arith, leb-true 128 row b, few-junctions o))
+  is-look-back (constraint a-negation) p b = let z : row ≡ rowOf (constraint a-negation) = cc in absurd (omega (arith, leb-true 128 row b))
+  is-look-back (constraint an-occurrence) p b = let z : row ≡ rowOf (constraint an-occurrence) = cc in absurd (omega (arith, leb-true 128 row b))
+  is-look-back (constraint a-truth) p b = let z : row ≡ rowOf (constraint a-truth) = cc in absurd (omega (arith, leb-true 128 row b))
+  is-look-back (constraint (a-look-back o)) p b = let w = reads row (constraint (a-look-back o)) cc in rw (w .operator, look-back-back o)
+  is-look-back (expression c) p b = cc
+  is-look-back no-code p b = cc
+
+  -- no expression looks back
+  pub never-back : (c : Code) → Expression row ≡ opened c → looksBackIn row ≡ true → ⊥
+  never-back (expression a-constant) p b = let z : row ≡ rowOf (expression a-constant) = cc in omega (arith, leb-true 128 row b)
+  never-back (expression a-fluent) p b = let z : row ≡ rowOf (expression a-fluent) = cc in omega (arith, leb-true 128 row b)
+  never-back (expression (of-two o)) p b = let z : row ≡ rowOf (expression (of-two o)) = cc in omega (arith, leb-true 128 row b, few-operations o)
+  never-back (expression (of-one o)) p b = let z : row ≡ rowOf (expression (of-one o)) = cc in omega (arith, leb-true 128 row b, few-singles o)
+  never-back (expression a-reified) p b = let z : row ≡ rowOf (expression a-reified) = cc in omega (arith, leb-true 128 row b)
+  never-back (constraint c) p b = let z : _≡_ {A = ℕ} 0 1 = cc in omega arith
+  never-back no-code p b = let z : _≡_ {A = ℕ} 0 1 = cc in omega arith
 
   is-junction : (c : Code) → Constraint row ≡ opened c → (followsIn row ≡ 10 → ⊥) → (followsIn row ≡ 9 → ⊥) → (followsIn row ≡ 0 → ⊥) → (followsIn row ≡ 7 → ⊥) → c ≡ constraint (of-junction (junctionAt (operatorIn row)))
   is-junction (constraint (of-comparison o)) p q r m n = let w = reads row (constraint (of-comparison o)) cc in absurd (q (w .follows))
@@ -185,6 +241,7 @@ module _ {row : ℕ} where
   is-junction (constraint a-negation) p q r m n = let w = reads row (constraint a-negation) cc in absurd (n (w .follows))
   is-junction (constraint an-occurrence) p q r m n = let w = reads row (constraint an-occurrence) cc in absurd (r (w .follows))
   is-junction (constraint a-truth) p q r m n = let w = reads row (constraint a-truth) cc in absurd (m (w .follows))
+  is-junction (constraint (a-look-back o)) p q r m n = let w = reads row (constraint (a-look-back o)) cc in absurd (n (w .follows))
   is-junction (expression c) p q r m n = cc
   is-junction no-code p q r m n = cc
 
@@ -272,8 +329,11 @@ module _ (s : List ℕ) (at d : ℕ) (ne : d ≡ 0 → ⊥) (lt : at < length s)
     pub at-truth : followsIn row ≡ 0 → parseC d (drop at s) ≡ parsed always 1
     at-truth n = after-c (constraint a-truth) (is-truth code p n)
 
-    pub at-negation : followsIn row ≡ 7 → parseC d (drop at s) ≡ operand negated (parseC (d - 1)) rest
-    at-negation q = after-c (constraint a-negation) (is-negation code p q)
+    pub at-negation : followsIn row ≡ 7 → looksBackIn row ≡ false → parseC d (drop at s) ≡ operand negated (parseC (d - 1)) rest
+    at-negation q r = after-c (constraint a-negation) (is-negation code p q r)
+
+    pub at-look-back : looksBackIn row ≡ true → parseC d (drop at s) ≡ operand (lookBack (lookBackAt (operatorIn row))) (parseC (d - 1)) rest
+    at-look-back b = after-c (constraint (a-look-back (lookBackAt (operatorIn row)))) (is-look-back code p b)
 
     pub at-junction : (followsIn row ≡ 10 → ⊥) → (followsIn row ≡ 9 → ⊥) → (followsIn row ≡ 0 → ⊥) → (followsIn row ≡ 7 → ⊥) → parseC d (drop at s) ≡ operands (joined (junctionAt (operatorIn row))) (parseC (d - 1)) rest
     at-junction q r m n = after-c (constraint (of-junction (junctionAt (operatorIn row)))) (is-junction code p q r m n)

@@ -6,8 +6,8 @@ use Prim.Native.Nat.{ℕ, zero, suc, _+_, _≤_}
 use native.Mathlib.Omega.{arith}
 use lib.ListN.{length, drop, length-drop}
 use Rattle.bmap.specs.Number.{signedWord}
-use Rattle.bmap.specs.Tree.{Expr, Con, constant, fluent, two, one, reified, compared, joined, negated, occurs}
-use Rattle.bmap.specs.Code.{Code, expression, constraint, no-code, a-constant, a-fluent, of-two, of-one, a-reified, of-comparison, of-junction, a-negation, an-occurrence, a-truth}
+use Rattle.bmap.specs.Tree.{Expr, Con, constant, fluent, two, one, reified, compared, joined, negated, occurs, lookBack}
+use Rattle.bmap.specs.Code.{Code, expression, constraint, no-code, a-constant, a-fluent, of-two, of-one, a-reified, of-comparison, of-junction, a-negation, an-occurrence, a-truth, a-look-back}
 use Rattle.bmap.specs.Code.{Parsed, Parser, twoBytes, made, second, operand, operands, codeOf, exprAfter, conAfter, parseE, parseC}
 
 abbrev Within : {T : Type 0} → List ℕ → Option (Parsed T) → Type 0
@@ -50,6 +50,7 @@ module _ (pe : Parser Expr) (pc : Parser Con) (we : (l : List ℕ) → Within l 
   within-con (constraint a-negation) = within-operand negated pc wc b l
   within-con (constraint an-occurrence) = within-pair occurs b l
   within-con (constraint a-truth) = (omega arith, omega arith)
+  within-con (constraint (a-look-back o)) = within-operand (lookBack o) pc wc b l
   within-con (expression c) = tt
   within-con no-code = tt
 

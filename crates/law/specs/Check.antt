@@ -1,6 +1,6 @@
--- What the checker answers, and what a tree may name.
-use Prim.Native.Nat.{ℕ, zero, suc, _+_, _*_, _/_, _%_, _≤_, _<_}
-use mathlib.Core.Bool.{Bool}
+-- What the checker answers, what a tree may name, and whether it may look back.
+use Prim.Native.Nat.{ℕ, zero, suc, _+_, _-_, _*_, _/_, _%_, _≤_, _<_}
+use mathlib.Core.Bool.{Bool, true, not}
 use mathlib.Core.List.{List}
 use mathlib.Core.Option.{Option}
 use mathlib.Core.Path.{_≡_}
@@ -9,7 +9,7 @@ use lib.ListN.{length, drop, getD}
 use Rattle.bmap.specs.Plain.{all, both, if-else}
 use Rattle.bmap.specs.Refusal.{Answer, got, refused, need, known, then}
 use Rattle.bmap.specs.Number.{signedWord}
-use Rattle.bmap.specs.Tree.{Expr, Con, constant, fluent, occurs, allowedE, allowedC, namedE, namedC}
+use Rattle.bmap.specs.Tree.{Expr, Con, constant, fluent, occurs, allowedE, allowedC, namedE, namedC, lookingBack}
 use Rattle.bmap.specs.Code.{Parsed, codeOf, parseE, parseC}
 use Rattle.bmap.specs.Domain.{has}
 use Rattle.bmap.specs.declared.limits.Context.{Context}
@@ -33,7 +33,8 @@ nextOf (suc n) = got (suc n)
 abbrev pub endOf : {T : Type 0} → (T → Bool) → ℕ → Option (Parsed T) → Answer ℕ
 endOf passes at parsed = then (known 4 parsed) (λ p. need (passes (p .tree)) 4 (got (at + p .used)))
 
--- the two tests that a tree may be put to: that it names only what a law may, or only fluents of a mask
+-- the two tests that a tree may be put to: that it names only what a law may and looks back only where it may, or that it names only
+-- fluents of a mask
 pub data Test : Type 0 where
   allowed : Context → Test
   in-mask : ℕ → Test
@@ -46,9 +47,19 @@ abbrev pub passesC : Test → Con → Bool
 passesC (allowed x) t = allowedC x t
 passesC (in-mask m) t = all (has m) (namedC t)
 
--- What a tree may name, in one word: so many fluents, and of them those of a mask; so many entries; and the largest lag.
-abbrev pub wordOf : ℕ → ℕ → ℕ → ℕ → ℕ
-wordOf fluents entries lag mask = fluents + 512 * entries + 262_144 * lag + 4_294_967_296 * mask
+-- whether a tree under the test may look back; and the test of what it looks back at
+abbrev pub mayBack : Test → Bool
+mayBack (allowed x) = x .back
+mayBack (in-mask m) = true
+
+abbrev pub backAt : Test → Test
+backAt (allowed x) = allowed (lookingBack x)
+backAt (in-mask m) = in-mask m
+
+-- What a tree may name, in one word: so many fluents, and of them those of a mask; so many entries; and the largest lag. In the same
+-- word whether it may look back: 0 where it may not, 1 where what it looks back at may not again, 2 where that may too.
+abbrev pub wordOf : ℕ → ℕ → ℕ → ℕ → ℕ → ℕ
+wordOf fluents entries lag back mask = fluents + 512 * entries + 262_144 * lag + 67_108_864 * back + 4_294_967_296 * mask
 
 -- a limit of what a byte may be; no byte reaches 256
 abbrev pub limitOf : ℕ → ℕ
@@ -63,6 +74,9 @@ entriesIn may = may / 512 % 512
 abbrev pub lagIn : ℕ → ℕ
 lagIn may = may / 262_144 % 256
 
+abbrev pub backIn : ℕ → ℕ
+backIn may = may / 67_108_864 % 4
+
 abbrev pub maskIn : ℕ → ℕ
 maskIn may = may / 4_294_967_296
 
@@ -74,10 +88,27 @@ fluentMay may f lag = both (ltb f (fluentsIn may)) (both (leb lag (lagIn may)) (
 unfoldable pub entryMay : ℕ → ℕ → ℕ → Bool
 entryMay may e lag = both (ltb e (entriesIn may)) (leb lag (lagIn may))
 
--- the word asks of the bytes that name what the test asks
+-- whether a tree may look back, and whether what it looks back at may again
+abbrev pub backMay : ℕ → Bool
+backMay may = not (eqb (backIn may) 0)
+
+abbrev pub againMay : ℕ → Bool
+againMay may = eqb (backIn may) 2
+
+-- what a law's part of the word is
+abbrev pub backOnce : Bool → ℕ
+backOnce b = if-else b 1 0
+
+-- "Neither may stand inside the other or itself": the word for what is looked back at
+abbrev pub insideIn : ℕ → ℕ
+insideIn may = if-else (againMay may) may (may - 67_108_864 * backIn may)
+
+-- the word asks what the test asks, of the bytes that name and of looking back
 pub record Asks (may : ℕ) (t : Test) : Type 0 where
   pub fluents : (f lag : ℕ) → f < 256 → lag < 256 → fluentMay may f lag ≡ passesE t (fluent f lag)
   pub entries : (e lag : ℕ) → e < 256 → lag < 256 → entryMay may e lag ≡ passesC t (occurs e lag)
+  pub back : backMay may ≡ mayBack t
+  pub again : againMay may ≡ mayBack (backAt t)
 
 -- what two bytes after a leaf's code are, by its row: a constant, or a fluent and its lag
 abbrev pub leafIn : ℕ → ℕ → ℕ → Expr

@@ -9,7 +9,8 @@ use lib.ListN.{length, drop, getD}
 use Rattle.bmap.specs.Limits.{mostFluents, mostEntries, mostLaws, mostSteps, frameSize}
 use Rattle.bmap.specs.Plain.{if-else}
 use Rattle.bmap.specs.Number.{Valued, value, signedWord}
-use Rattle.bmap.specs.Meaning.{History, evalE, evalC}
+use Rattle.bmap.specs.Meaning.{History, upTo, evalE, evalC}
+use Rattle.bmap.specs.declared.Junction.{Junction}
 use Rattle.bmap.specs.Code.{Parsed, codeOf, parseE, parseC}
 use lib.Dec.{eqb, leb}
 use lib.Signed.{leZ}
@@ -98,3 +99,7 @@ valueAt depth s at history j = meant (λ t. evalE t (historyOf history) j) at (p
 
 abbrev pub truthAt : ℕ → List ℕ → ℕ → List ℤ → ℕ → Meant (Valued Bool)
 truthAt depth s at history j = meant (λ t. evalC t (historyOf history) j) at (parseC depth (drop at s))
+
+-- the constraint at a place, read at every position up to j
+abbrev pub soFarAt : Junction → ℕ → List ℕ → ℕ → List ℤ → ℕ → Meant (Valued Bool)
+soFarAt o depth s at history j = meant (λ t. upTo o (λ i. evalC t (historyOf history) i) j) at (parseC depth (drop at s))

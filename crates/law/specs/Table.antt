@@ -1,9 +1,10 @@
 -- The operand table: for each code the sort of its operands, how many there are, and which operator is made of them.
 use Prim.Native.Nat.{ℕ, _+_, _*_, _/_, _%_}
+use mathlib.Core.Bool.{Bool}
 use mathlib.Core.List.{List, [], _∷_, map}
-use lib.Dec.{eqb}
+use lib.Dec.{eqb, leb}
 use Rattle.bmap.specs.Plain.{if-else, numbers}
-use Rattle.bmap.specs.Code.{Code, expression, constraint, no-code, a-constant, a-fluent, of-two, of-one, a-reified, of-comparison, of-junction, a-negation, an-occurrence, a-truth, codeOf}
+use Rattle.bmap.specs.Code.{Code, expression, constraint, no-code, a-constant, a-fluent, of-two, of-one, a-reified, of-comparison, of-junction, a-negation, an-occurrence, a-truth, a-look-back, codeOf}
 use Rattle.bmap.specs.declared.Operation.{Operation}
 use Rattle.bmap.specs.declared.Operation.the-variants.{Sum, Difference, Product, Quotient, Remainder}
 use Rattle.bmap.specs.declared.Single.{Single}
@@ -29,6 +30,7 @@ sortOf (constraint (of-junction o)) = 3
 sortOf (constraint a-negation) = 3
 sortOf (constraint an-occurrence) = 1
 sortOf (constraint a-truth) = 0
+sortOf (constraint (a-look-back o)) = 3
 sortOf no-code = 0
 
 -- "The number of operands of each code"
@@ -43,6 +45,7 @@ countOf (constraint (of-junction o)) = 2
 countOf (constraint a-negation) = 1
 countOf (constraint an-occurrence) = 2
 countOf (constraint a-truth) = 0
+countOf (constraint (a-look-back o)) = 1
 countOf no-code = 0
 
 -- the operators by number
@@ -81,6 +84,13 @@ junctionNumber Or = 1
 abbrev pub junctionAt : ℕ → Junction
 junctionAt n = if-else (eqb n 0) And Or
 
+-- what looks back has its number from 8 on, so that one test of its row finds it
+abbrev pub lookBackNumber : Junction → ℕ
+lookBackNumber o = 8 + junctionNumber o
+
+abbrev pub lookBackAt : ℕ → Junction
+lookBackAt n = junctionAt (n % 8)
+
 -- which of the codes with such operands it is: two bytes are a constant, 0, or a fluent and its lag, 1
 abbrev pub operatorOf : Code → ℕ
 operatorOf (expression a-constant) = 0
@@ -93,6 +103,7 @@ operatorOf (constraint (of-junction o)) = junctionNumber o
 operatorOf (constraint a-negation) = 0
 operatorOf (constraint an-occurrence) = 0
 operatorOf (constraint a-truth) = 0
+operatorOf (constraint (a-look-back o)) = lookBackNumber o
 operatorOf no-code = 0
 
 -- a row has the three in one number
@@ -111,6 +122,9 @@ countIn row = row / 4 % 4
 
 abbrev pub operatorIn : ℕ → ℕ
 operatorIn row = row / 16
+
+abbrev pub looksBackIn : ℕ → Bool
+looksBackIn row = leb 128 row
 
 -- the rows of the codes 10 to 2F
 unfoldable pub rows : List ℕ

@@ -1,4 +1,5 @@
-// The checker: whether a tree stands at a place, and where it ends. A tree has to pass a test of what it names.
+// The checker: whether a tree stands at a place, and where it ends. A tree has to pass a test of what it names and where
+// it looks back.
 // "Prefix bytes, nested at most 16 deep": the depth left falls from each tree to its operands.
 ghost use mathlib.Core.Path.{_≡_};
 ghost use Prim.Native.Nat.{_+_, _≤_, _<_};
@@ -10,7 +11,9 @@ ghost use Rattle.law.specs.Table.{rows};
 ghost use Rattle.law.specs.Check.{checkedOf, nextOf, endOf, passesE, passesC, Test, Asks, leafIn, lawSize, LawIn, Inner, exprEnd, conEnd};
 use crate::long::tree_in;
 use crate::may::allowed_in;
+use crate::may::back_passes;
 use crate::may::entry_passes;
+use crate::may::inside;
 use crate::may::leaf_passes;
 use crate::table::CONSTRAINT;
 use crate::table::EXPRESSION;
@@ -22,6 +25,7 @@ use crate::table::ONE_EXPRESSION;
 use crate::table::PAIR;
 use crate::table::ROWS;
 use crate::table::follows;
+use crate::table::looks_back;
 use crate::table::opens;
 use crate::table::table;
 use bmap::Context;
@@ -152,6 +156,12 @@ fn constraint_in(
     }
     if operands == NOTHING {
         return at + 1;
+    }
+    if looks_back(row) {
+        if back_passes(may) {
+            return constraint_in(s, n, at + 1, depth - 1, inside(may), table);
+        }
+        return REFUSED;
     }
     let middle = constraint_in(s, n, at + 1, depth - 1, may, table);
     if operands == ONE_CONSTRAINT {

@@ -9,8 +9,8 @@ ghost use Rattle.bmap.specs.Plain.{both};
 ghost use Rattle.bmap.specs.Limits.{mostDepth, mostSteps};
 ghost use Rattle.bmap.specs.Number.{value, with1, with2, operate, change, compare, join, flag};
 ghost use Rattle.bmap.specs.Code.{twoBytes};
-ghost use Rattle.law.specs.Table.{rows};
-ghost use Rattle.law.specs.Evaluate.{rowSize, historySize, Lent, gives, evaluated, judged, meant, onward, cellAt, marked, inStep, leafOf, NoLeaf, atPosition, valueAt, truthAt};
+ghost use Rattle.law.specs.Table.{rows, lookBackAt};
+ghost use Rattle.law.specs.Evaluate.{rowSize, historySize, Lent, gives, evaluated, judged, meant, onward, cellAt, marked, inStep, leafOf, NoLeaf, atPosition, valueAt, truthAt, soFarAt};
 ghost use Rattle.law.specs.Packed.{valueIn, truthIn, evaluatedIn, judgedIn};
 use crate::packed::MALFORMED;
 use crate::packed::end_of;
@@ -27,7 +27,9 @@ use crate::table::PAIR;
 use crate::table::ROWS;
 use crate::table::comparison;
 use crate::table::follows;
+use crate::table::joins_by;
 use crate::table::junction;
+use crate::table::looks_back;
 use crate::table::opens;
 use crate::table::operation;
 use crate::table::operator;
@@ -302,6 +304,9 @@ fn truth_in(
     if operands == NOTHING {
         return with_truth(Truth::Is(true), at + 1);
     }
+    if looks_back(row) {
+        return so_far(s, at + 1, depth - 1, history, j, table, operator(row));
+    }
     let a = truth_in(s, at + 1, depth - 1, history, j, table);
     if operands == ONE_CONSTRAINT {
         return negated_of(a);
@@ -315,6 +320,29 @@ fn truth_in(
         a,
         truth_in(s, next, depth - 1, history, j, table),
     )
+}
+
+// 2B and 2C, by their number in the table: the constraint at every position from 0 to the present one. Each is read, and they are
+// joined from the earliest on, as "and" and "or" join two sides.
+fn so_far(
+    s: &[u8; HELD],
+    at: usize,
+    depth: usize,
+    history: &[i16; HISTORY],
+    j: usize,
+    table: &[u8; ROWS],
+    n: u8,
+) -> u64
+    requires { ⌜ Lent (now s) (now history) j × (now table ≡ rows) ⌝ }
+    ensures { λ r. ⌜ judgedIn r ≡ soFarAt (lookBackAt n) depth (now (s .entry)) at (now (history .entry)) j ⌝ }
+{
+    let mut all = truth_in(s, at, depth, history, 0, table);
+    let mut i = 0;
+    while i < j {
+        i += 1;
+        all = joined_of(joins_by(n), all, truth_in(s, at, depth, history, i, table));
+    }
+    all
 }
 
 // The lengths that the types say are told to a proof where an array is lent as a slice. Nothing is done.

@@ -6,7 +6,9 @@ ghost use Rattle.bmap.specs.Code.{codeOf};
 ghost use Rattle.law.specs.Table.{rows, opened};
 ghost use Rattle.law.specs.Check.{nextOf, Test, Asks, rowFor, pairPasses, treeEnd};
 use crate::checks::REFUSED;
+use crate::may::back_passes;
 use crate::may::entry_passes;
+use crate::may::inside;
 use crate::may::leaf_passes;
 use crate::table::CONSTRAINT;
 use crate::table::NOTHING;
@@ -16,6 +18,7 @@ use crate::table::Pair;
 use crate::table::ROWS;
 use crate::table::count;
 use crate::table::follows;
+use crate::table::looks_back;
 use crate::table::opens;
 use crate::table::pair_after;
 use crate::table::sort;
@@ -73,6 +76,12 @@ pub(crate) fn tree_in(
         };
         if pair_passes(may, wanted, row, a, b) {
             return at + 3;
+        }
+        return REFUSED;
+    }
+    if looks_back(row) {
+        if back_passes(may) {
+            return tree_in(s, at + 1, depth - 1, inside(may), CONSTRAINT, table);
         }
         return REFUSED;
     }

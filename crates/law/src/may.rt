@@ -1,9 +1,9 @@
-// What a tree may name, in one word, which a call takes in a register: so many fluents, and of them those of a mask; so many
-// entries; and the largest lag.
+// What a tree may, in one word, which a call takes in a register: how many fluents it may name, and of them those of a mask; how
+// many entries; up to which lag; and whether it may look back.
 ghost use mathlib.Core.Path.{_≡_};
 ghost use Prim.Native.Nat.{_≤_, _<_};
 ghost use Rattle.bmap.specs.Tree.{occurs};
-ghost use Rattle.law.specs.Check.{Test, allowed, in-mask, passesE, passesC, Asks, wordOf, limitOf, fluentsIn, entriesIn, lagIn, maskIn, fluentMay, entryMay, leafIn};
+ghost use Rattle.law.specs.Check.{Test, allowed, in-mask, passesE, passesC, Asks, wordOf, limitOf, fluentsIn, entriesIn, lagIn, backIn, maskIn, fluentMay, entryMay, backMay, backOnce, insideIn, leafIn};
 use crate::mask::has_bit;
 use crate::table::operator;
 use bmap::Context;
@@ -17,22 +17,31 @@ const ANY_LAG: u64 = 255;
 // Every bit of a mask.
 const ALL: u32 = 4_294_967_295;
 
-// How many values a limit and a lag have, and where each part of the word begins, after the number of fluents.
+// Whether a tree may look back: it may, and what it looks back at may not again; or that may too. 0 where it may not.
+const ONCE: u64 = 1;
+
+const AGAIN: u64 = 2;
+
+// The room of a limit, of a lag and of looking back, and where each part of the word begins, after the number of fluents.
 const LIMITS: u64 = 512;
 
 const LAGS: u64 = 256;
+
+const BACKS: u64 = 4;
 
 const ENTRIES_AT: u64 = LIMITS;
 
 const LAG_AT: u64 = LIMITS * ENTRIES_AT;
 
+const BACK_AT: u64 = LAGS * LAG_AT;
+
 const MASK_AT: u64 = 4_294_967_296;
 
-fn word(fluents: u64, entries: u64, lag: u64, mask: u32) -> u64
-    requires { ⌜ (fluents ≤ 256) × ((entries ≤ 256) × (lag < 256)) ⌝ }
-    ensures { λ r. ⌜ r ≡ wordOf fluents entries lag mask ⌝ }
+fn word(fluents: u64, entries: u64, lag: u64, back: u64, mask: u32) -> u64
+    requires { ⌜ (fluents ≤ 256) × ((entries ≤ 256) × ((lag < 256) × (back < 4))) ⌝ }
+    ensures { λ r. ⌜ r ≡ wordOf fluents entries lag back mask ⌝ }
 {
-    fluents + ENTRIES_AT * entries + LAG_AT * lag + MASK_AT * mask as u64
+    fluents + ENTRIES_AT * entries + LAG_AT * lag + BACK_AT * back + MASK_AT * mask as u64
 }
 
 fn fluents_of(may: u64) -> u64
@@ -53,6 +62,12 @@ fn lag_of(may: u64) -> u64
     may / LAG_AT % LAGS
 }
 
+fn back_of(may: u64) -> u64
+    ensures { λ r. ⌜ r ≡ backIn may ⌝ }
+{
+    may / BACK_AT % BACKS
+}
+
 fn mask_of(may: u64) -> u64
     ensures { λ r. ⌜ r ≡ maskIn may ⌝ }
 {
@@ -66,22 +81,29 @@ fn limit(x: usize) -> u64
     if x < 256 { x as u64 } else { ANY }
 }
 
-// What a law may: "Code 29 is refused in A7 and A9".
+fn once_if(may: bool) -> u64
+    ensures { λ r. ⌜ r ≡ backOnce may ⌝ }
+{
+    if may { ONCE } else { 0 }
+}
+
+// What a law may: "Code 29 is refused in A7 and A9", and of 2B and 2C "Neither may stand inside the other or itself".
 pub(crate) fn allowed_in(x: Context) -> u64
     ensures { λ r. ⌜ Asks r (allowed x) ⌝ }
 {
     let fluents = limit(x.fluents);
+    let back = once_if(x.back);
     if x.occurrences {
-        return word(fluents, limit(x.entries), bmap::LAG as u64, ALL);
+        return word(fluents, limit(x.entries), bmap::LAG as u64, back, ALL);
     }
-    word(fluents, 0, bmap::LAG as u64, ALL)
+    word(fluents, 0, bmap::LAG as u64, back, ALL)
 }
 
-// Any entry and any lag, and the fluents of a mask.
+// Any entry, any lag and looking back anywhere, and the fluents of a mask.
 pub(crate) fn only_of(mask: u32) -> u64
     ensures { λ r. ⌜ Asks r (in-mask mask) ⌝ }
 {
-    word(Counts::FLUENTS as u64, ANY, ANY_LAG, mask)
+    word(Counts::FLUENTS as u64, ANY, ANY_LAG, AGAIN, mask)
 }
 
 fn fluent_may(may: u64, f: u8, lag: u8) -> bool
@@ -119,4 +141,21 @@ pub(crate) fn entry_passes(may: u64, e: u8, lag: u8) -> bool
     ensures { λ r. ⌜ ((t : Test) → Asks may t → r ≡ passesC t (occurs e lag)) ⌝ }
 {
     entry_may(may, e, lag)
+}
+
+pub(crate) fn back_passes(may: u64) -> bool
+    ensures { λ r. ⌜ r ≡ backMay may ⌝ }
+{
+    back_of(may) != 0
+}
+
+// The word for what is looked back at: a law may not look back again there, the search for fluents may.
+pub(crate) fn inside(may: u64) -> u64
+    ensures { λ r. ⌜ r ≡ insideIn may ⌝ }
+{
+    let back = back_of(may);
+    if back == AGAIN {
+        return may;
+    }
+    may - BACK_AT * back
 }

@@ -6,7 +6,7 @@ ghost use mathlib.Core.Path.{_≡_};
 ghost use Prim.Native.Nat.{_+_, _≤_, _<_};
 ghost use lib.ListN.{drop};
 ghost use Rattle.bmap.specs.Code.{codeOf};
-ghost use Rattle.law.specs.Table.{opened, pairOf, rowOf, rows, followsIn, sortIn, countIn, operatorIn, operationAt, singleAt, comparisonAt, junctionAt};
+ghost use Rattle.law.specs.Table.{opened, pairOf, rowOf, rows, followsIn, sortIn, countIn, operatorIn, looksBackIn, operationAt, singleAt, comparisonAt, junctionAt, lookBackAt};
 use bmap::Comparison;
 use bmap::Junction;
 use bmap::Operation;
@@ -47,6 +47,9 @@ const CONSTRAINTS: u8 = CONSTRAINT + TWO;
 // A step from an operator's number to the next.
 const NEXT: u8 = 16;
 
+// From number 8 on a code looks back, so that one test of its row finds it.
+const BACK: u8 = 8 * NEXT;
+
 pub(crate) const FIRST: u8 = 0x10;
 
 pub(crate) const ROWS: usize = 32;
@@ -81,8 +84,8 @@ pub(crate) const TABLE: [u8; ROWS] = [
     ONE_CONSTRAINT, // 28 not
     PAIR, // 29 entry, lag
     NOTHING, // 2A true
-    0, // 2B no code
-    0, // 2C no code
+    ONE_CONSTRAINT + BACK, // 2B at every position so far
+    ONE_CONSTRAINT + BACK + NEXT, // 2C at one or more of them
     0, // 2D no code
     0, // 2E no code
     0, // 2F no code
@@ -110,7 +113,7 @@ pub(crate) fn opens(table: &[u8; ROWS], code: u8) -> Node
 {
     match code {
         0x10..=0x19 => Node::Expression(row_of(table, code)),
-        0x20..=0x2A => Node::Constraint(row_of(table, code)),
+        0x20..=0x2C => Node::Constraint(row_of(table, code)),
         _ => Node::Refused,
     }
 }
@@ -182,6 +185,20 @@ pub(crate) fn junction(n: u8) -> Junction
         0 => Junction::And,
         _ => Junction::Or,
     }
+}
+
+// 2B and 2C.
+pub(crate) fn looks_back(row: u8) -> bool
+    ensures { λ r. ⌜ r ≡ looksBackIn row ⌝ }
+{
+    BACK <= row
+}
+
+// By what they join the positions that they look at.
+pub(crate) fn joins_by(n: u8) -> Junction
+    ensures { λ r. ⌜ r ≡ lookBackAt n ⌝ }
+{
+    junction(n % 8)
 }
 
 // The two bytes after the code at a place.

@@ -8,3 +8,5 @@ pub mod UnreadLaws
 pub mod LongTexts
 -- K3: quotient and remainder.
 pub mod DivisionLaws
+-- K4: laws that look back.
+pub mod LookBackLaws

@@ -10,7 +10,7 @@ use Rattle.index.specs.Index.{lawNumber, noLaw}
 use Rattle.judge.specs.Answer.{passOf, kindOf}
 use Rattle.judge.specs.Told.{Lawful, Within, Seen}
 use Rattle.judge.proofs.LoopLaws.{stops, on, each-on, each-stop, each-none}
-use Rattle.judge.proofs.CheckLaws.{run-starts, run-ends, run-law, run-says, holds-other}
+use Rattle.judge.proofs.CheckLaws.{run-starts, run-ends, run-law, run-says, others-pass}
 use Rattle.judge.proofs.checks.check_laws.Statement.{statement}
 use Rattle.judge.proofs.checks.check_laws.Tie as tie
 
@@ -24,7 +24,7 @@ abbrev μ-loop : tie.MeasureT-loop
 loop-holds : tie.Need-loop-holds Inv-loop μ-loop
 loop-holds c = λ d h s n kind lawful within seen. let a = c .args in let f = holds s (kindOf (a .fault)) h (a .j) in
     run-starts (λ k r. eachFrom k f r) d (a .held .now) n (a .kind) (a .run .from) (a .run .to) lawful within
-    (λ k l r w q. each-on f k l r (holds-other d _ s (kindOf (a .fault)) h (a .j) k l w (λ e. q (e ∙ sym kind))))
+    (others-pass d (a .held .now) s (kindOf (a .fault)) h (a .j) kind)
 
 mul-check-law : tie.Need-mul-check-law Inv-loop μ-loop
 mul-check-law c = search needs
@@ -59,7 +59,7 @@ loop-again c = λ d h s n kind lawful within seen. let a = c .before .before .be
 returns-2 : tie.Need-returns-2 Inv-loop μ-loop
 returns-2 c = λ d h s n kind lawful within seen. let a = c .before .before .args in let f = holds s (kindOf (a .fault)) h (a .j) in
     sym (c .before .loop .inv d h s n kind lawful within seen ∙ run-ends (λ k r. eachFrom k f r) d (a .held .now) n (a .kind) (a .run .from) (a .run .to) lawful within
-    (λ k l r w q. each-on f k l r (holds-other d _ s (kindOf (a .fault)) h (a .j) k l w (λ e. q (e ∙ sym kind)))) (c .before .loop .l) (c .loop-test .left) (each-none f))
+    (others-pass d (a .held .now) s (kindOf (a .fault)) h (a .j) kind) (c .before .loop .l) (c .loop-test .left) (each-none f))
 
 pub check-laws-spec : {M : Type 1} → statement M
 check-laws-spec =

@@ -68,13 +68,13 @@ returns-2 c = let two = c .before .before .before in let start′ = start (one t
 enum-told-2 : tie.Need-enum-told-2
 enum-told-2 c = search needs
 
-check-laws-requires : tie.Need-check-laws-requires
-check-laws-requires c κs = start (one (c .before .before .before)) .pre .laws .concurrency
+check-in-step-requires : tie.Need-check-in-step-requires
+check-in-step-requires c κs = start (one (c .before .before .before)) .pre .laws .concurrency
 
 returns-3 : tie.Need-returns-3
 returns-3 c = let two = c .before .before .before .before in let start′ = start (one two) in λ d n w count lowest highest sheet names p acts acted.
     allowed-laws d (past start′ d w sheet) (start′ .args .step .j) names (all-placed (one two) d names acts) (sym (may-occur two d n w count lowest highest sheet names p acts acted) ∙ ap passOf (c .before .before .enum-told2 .given .1))
-    (c .check-laws .ensures d (past start′ d w sheet) concurrency n refl (p .lawful) (p .ordered .concurrency) (seen start′ d w sheet (p .ranged .count) acted))
+    (c .check-in-step .ensures d (past start′ d w sheet) concurrency n refl (p .lawful) (p .ordered .concurrency) (seen start′ d w sheet (p .ranged .count) acted))
 
 pub check-acts-spec : {M : Type 1} → statement M
 check-acts-spec =
@@ -87,5 +87,5 @@ check-acts-spec =
     enum-known-fault
     returns-2
     enum-told-2
-    check-laws-requires
+    check-in-step-requires
     returns-3)

@@ -99,17 +99,17 @@ returns-2 c = let five = c .before .before .before in let begun = start (effects
 enum-told-2 : tie.Need-enum-told-2
 enum-told-2 c = search needs
 
-check-laws-requires : tie.Need-check-laws-requires
-check-laws-requires c κs = start (effects (c .before .before .before)) .pre .laws .fixed
+check-in-step-requires : tie.Need-check-in-step-requires
+check-in-step-requires c κs = start (effects (c .before .before .before)) .pre .laws .fixed
 
 returns-3 : tie.Need-returns-3
 returns-3 c = let five = c .before .before .before .before in let begun = start (effects five) in let s = begun .args in (
   record { kept = five .put-state .ensures .0; wide = effects five .lay-effects .ensures .0 },
   λ d owners n count sheet names p occurring acted laid. let l = laid-over d owners n count sheet names five (p, (occurring, (acted, laid))) in let put = five .put-state .ensures .1 d (l .settings) (old begun) (p .ranged) (l .laid) in record {
     leaves = landed-fine d sheet (states begun) (s .step .j) names (l .settings) (old begun) (l .are) (states-at (s .w) (s .step .j + 1) (s .step .j) (s .history .now) (omega arith))
-        (five .put-state .result) (c .check-laws .result) (stateAt (s .w) (after five) (s .step .j + 1)) (statesOf (s .w) (s .step .j + 1 + 1) (after five)) put (c .before .before .enum-told2 .given .1)
+        (five .put-state .result) (c .check-in-step .result) (stateAt (s .w) (after five) (s .step .j + 1)) (statesOf (s .w) (s .step .j + 1 + 1) (after five)) put (c .before .before .enum-told2 .given .1)
         (states-more (s .w) (s .step .j) (s .history .now) (after five) (five .put-state .ensures .0 .before) (begun .pre .stores .fluents))
-        (c .check-laws .ensures d (history d sheet (statesOf (s .w) (s .step .j + 1 + 1) (after five))) static n refl (p .lawful) (p .ordered .fixed) (seen-states d sheet (s .w) (after five) (s .step .j + 1) (omega (arith, begun .pre .stores .step)) (p .ranged .count)));
+        (c .check-in-step .ensures d (history d sheet (statesOf (s .w) (s .step .j + 1 + 1) (after five))) static n refl (p .lawful) (p .ordered .fixed) (seen-states d sheet (s .w) (after five) (s .step .j + 1) (omega (arith, begun .pre .stores .step)) (p .ranged .count)));
     levels = λ e. laid-again d (l .settings) (old begun) (s .lowest .now) (s .highest .now) (s .w) (p .ranged) (five .put-state .result) (stateAt (s .w) (after five) (s .step .j + 1)) (new (effects five)) put (c .before .before .enum-told2 .given .1) (l .laid);
   },
 )
@@ -127,5 +127,5 @@ land-spec =
     enum-known-fault-2
     returns-2
     enum-told-2
-    check-laws-requires
+    check-in-step-requires
     returns-3)

@@ -1,6 +1,7 @@
 -- The one proof of the cycle {constraint_in, expression_in, inner_in}: each calls the others with one level less, but for an
 -- expression that holds others. Assumes nothing.
-use mathlib.Core.Path.{_≡_, sym, _∙_}
+use mathlib.Core.Path.{_≡_, sym, _∙_, subst}
+use mathlib.Core.Bool.{true}
 use mathlib.Core.List.{List}
 use Prim.Native.Nat.{ℕ, _+_, _*_, _≤_, _<_}
 use native.Mathlib.Omega.{arith}
@@ -10,11 +11,12 @@ use borrow.Fn.PlainCycle.{Measures, is, falls, and}
 use lib.ListN.{length, take, getD}
 use Rattle.bmap.specs.Code.{codeOf}
 use Rattle.law.specs.declared.table.Node.the-variants.{Expression, Constraint}
-use Rattle.law.specs.Check.{passesE, passesC}
-use Rattle.law.specs.Table.{opened, followsIn}
+use Rattle.law.specs.Check.{passesE, passesC, backAt, Asks}
+use Rattle.law.specs.Table.{opened, followsIn, looksBackIn}
 use Rattle.law.proofs.Trees.{deep-e, deep-c, end-e, end-c, no-expression, no-constraint}
 use Rattle.law.proofs.CheckLaws.{nowhere, there, no-tree, inside, outside, code-at, check-leaf, check-reified, check-one, check-two, check-first}
-use Rattle.law.proofs.CheckLaws.{check-compared, check-first-e, check-occurrence, check-truth, check-negation, check-junction, check-first-c}
+use Rattle.law.proofs.CheckLaws.{check-compared, check-first-e, check-occurrence, check-truth, check-negation, check-look-back, check-barred, check-junction, check-first-c}
+use Rattle.law.proofs.MayLaws.{asks-inside}
 use Rattle.law.proofs.checks.constraint_in.Reads as constraint-in
 use Rattle.law.proofs.checks.constraint_in.Kinds as constraint-in-kinds
 use Rattle.law.proofs.checks.+constraint_in+expression_in+inner_in.Lts-constraint_in as constraint-in-lts
@@ -26,7 +28,10 @@ use Rattle.law.proofs.checks.inner_in.Kinds as inner-in-kinds
 use Rattle.law.proofs.checks.+constraint_in+expression_in+inner_in.Lts-inner_in as inner-in-lts
 use Rattle.law.proofs.checks.entry_at.Reads as entry-at-reads
 use Rattle.law.proofs.checks.leaf_at.Reads as leaf-at-reads
+use Rattle.law.proofs.may.back_passes.Reads as back-passes-reads
+use Rattle.law.proofs.may.inside.Reads as inside-reads
 use Rattle.law.proofs.table.follows.Reads as follows-reads
+use Rattle.law.proofs.table.looks_back.Reads as looks-back-reads
 use Rattle.law.proofs.table.opens.Reads as opens-reads
 use Rattle.law.proofs.checks.+constraint_in+expression_in+inner_in.{statement}
 use Rattle.law.proofs.checks.+constraint_in+expression_in+inner_in.Tie.{close}
@@ -61,7 +66,7 @@ module _ (t : ℕ) where
   inner-in-below = and 2 inner-in-kinds.ps (falls 2 inner-in-kinds.ps _<_ μ-inner-in t) inner-in.Pre
 
   abbrev by-constraint-in : constraint-in-lts.Claims
-  by-constraint-in = (opens-reads.Asked, opens-reads.Learnt, follows-reads.Asked, follows-reads.Learnt, expression-in-below, expression-in.Post, entry-at-reads.Asked, entry-at-reads.Learnt, constraint-in-below, constraint-in.Post)
+  by-constraint-in = (opens-reads.Asked, opens-reads.Learnt, follows-reads.Asked, follows-reads.Learnt, expression-in-below, expression-in.Post, entry-at-reads.Asked, entry-at-reads.Learnt, looks-back-reads.Asked, looks-back-reads.Learnt, back-passes-reads.Asked, back-passes-reads.Learnt, inside-reads.Asked, inside-reads.Learnt, constraint-in-below, constraint-in.Post)
 
   abbrev by-expression-in : expression-in-lts.Claims
   by-expression-in = (opens-reads.Asked, opens-reads.Learnt, follows-reads.Asked, follows-reads.Learnt, leaf-at-reads.Asked, leaf-at-reads.Learnt, inner-in-below, inner-in.Post)
@@ -203,44 +208,80 @@ module _ (t : ℕ) where
       let i = start-c k in
       check-truth g (law-c i) (i .args .at) (i .args .depth) (some-c k) (inside-c k) (opens-c k) (sym (told-c k) ∙ c .if6 .taken)
 
+  -- where it is known whether the code looks back
+  abbrev Whether : Type 0
+  Whether = constraint-in-lts.After-looks-back by-constraint-in constraint-in-at constraint-in.Post
+
+  abbrev row-at : Whether → Row-c
+  row-at v = v .before .before .before .before
+
+  -- where it does
+  abbrev Back : Type 0
+  Back = constraint-in-lts.After-back-passes by-constraint-in constraint-in-at constraint-in.Post
+
+  looks-back : (b : Back) → looksBackIn (row-c (row-at (b .before .before))) ≡ true
+  looks-back b = sym (b .before .before .looks-back .ensures) ∙ b .before .if7 .taken
+
   constraint-in-returns-8 : constraint-in-lts.Need-returns-8 by-constraint-in constraint-in-at constraint-in.Post
   constraint-in-returns-8 c = λ g asks.
-      let k = c .before .before .before .before .before in
+      let b = c .before .before .before in
+      let k = row-at (b .before .before) in
       let i = start-c k in
-      c .before .constraint-in .ensures g asks ∙ check-negation g (law-c i) (i .args .at) (i .args .depth) (some-c k) (inside-c k) (opens-c k) (sym (told-c k) ∙ c .if7 .taken)
-
-  -- where two constraints follow
-  abbrev Two-c : Type 0
-  Two-c = constraint-in-lts.Else7 by-constraint-in constraint-in-at constraint-in.Post
-
-  abbrev row-of : Two-c → Row-c
-  row-of c = c .before .before .before .before .before
-
-  no-expressions : (c : Two-c) → followsIn (row-c (row-of c)) ≡ 10 → ⊥
-  no-expressions c e = c .before .before .before .before .if3 .left (told-c (row-of c) ∙ e)
-
-  no-pair : (c : Two-c) → followsIn (row-c (row-of c)) ≡ 9 → ⊥
-  no-pair c e = c .before .before .before .if5 .left (told-c (row-of c) ∙ e)
-
-  not-nothing : (c : Two-c) → followsIn (row-c (row-of c)) ≡ 0 → ⊥
-  not-nothing c e = c .before .before .if6 .left (told-c (row-of c) ∙ e)
-
-  not-one : (c : Two-c) → followsIn (row-c (row-of c)) ≡ 7 → ⊥
-  not-one c e = c .if7 .left (told-c (row-of c) ∙ e)
+      c .constraint-in .ensures (backAt g) (subst (λ (m : ℕ). Asks m (backAt g)) (sym (c .before .inside .ensures)) (asks-inside g asks)) ∙ check-look-back g (law-c i) (i .args .at) (i .args .depth) (some-c k) (inside-c k) (opens-c k) (looks-back b) (sym (asks .back) ∙ (sym (b .back-passes .ensures) ∙ c .before .before .if8 .taken))
 
   constraint-in-returns-9 : constraint-in-lts.Need-returns-9 by-constraint-in constraint-in-at constraint-in.Post
   constraint-in-returns-9 c = λ g asks.
-      let w = c .before in
-      let k = row-of w in
+      let b = c .before in
+      let k = row-at (b .before .before) in
       let i = start-c k in
-      check-first-c g (law-c i) (i .args .at) (i .args .depth) (some-c k) (inside-c k) (opens-c k) (no-expressions w) (no-pair w) (not-nothing w) (not-one w) (nowhere (c .if8 .taken) ∙ w .before .constraint-in .ensures g asks)
+      check-barred g (law-c i) (i .args .at) (i .args .depth) (some-c k) (inside-c k) (opens-c k) (looks-back b) (sym (asks .back) ∙ (sym (b .back-passes .ensures) ∙ c .if8 .left))
+
+  -- where the first constraint that follows is known
+  abbrev First-c : Type 0
+  First-c = constraint-in-lts.After-constraint-in2 by-constraint-in constraint-in-at constraint-in.Post
+
+  abbrev whether : First-c → Whether
+  whether v = v .before .before
 
   constraint-in-returns-10 : constraint-in-lts.Need-returns-10 by-constraint-in constraint-in-at constraint-in.Post
   constraint-in-returns-10 c = λ g asks.
+      let v = c .before in
+      let k = row-at (whether v) in
+      let i = start-c k in
+      v .constraint-in2 .ensures g asks ∙ check-negation g (law-c i) (i .args .at) (i .args .depth) (some-c k) (inside-c k) (opens-c k) (sym (told-c k) ∙ c .if9 .taken) (sym (whether v .looks-back .ensures) ∙ v .before .if7 .left)
+
+  -- where two constraints follow
+  abbrev Two-c : Type 0
+  Two-c = constraint-in-lts.Else9 by-constraint-in constraint-in-at constraint-in.Post
+
+  abbrev row-of : Two-c → Row-c
+  row-of c = row-at (whether (c .before))
+
+  no-expressions : (c : Two-c) → followsIn (row-c (row-of c)) ≡ 10 → ⊥
+  no-expressions c e = whether (c .before) .before .before .before .if3 .left (told-c (row-of c) ∙ e)
+
+  no-pair : (c : Two-c) → followsIn (row-c (row-of c)) ≡ 9 → ⊥
+  no-pair c e = whether (c .before) .before .before .if5 .left (told-c (row-of c) ∙ e)
+
+  not-nothing : (c : Two-c) → followsIn (row-c (row-of c)) ≡ 0 → ⊥
+  not-nothing c e = whether (c .before) .before .if6 .left (told-c (row-of c) ∙ e)
+
+  not-one : (c : Two-c) → followsIn (row-c (row-of c)) ≡ 7 → ⊥
+  not-one c e = c .if9 .left (told-c (row-of c) ∙ e)
+
+  constraint-in-returns-11 : constraint-in-lts.Need-returns-11 by-constraint-in constraint-in-at constraint-in.Post
+  constraint-in-returns-11 c = λ g asks.
+      let w = c .before in
+      let k = row-of w in
+      let i = start-c k in
+      check-first-c g (law-c i) (i .args .at) (i .args .depth) (some-c k) (inside-c k) (opens-c k) (no-expressions w) (no-pair w) (not-nothing w) (not-one w) (nowhere (c .if10 .taken) ∙ w .before .constraint-in2 .ensures g asks)
+
+  constraint-in-returns-12 : constraint-in-lts.Need-returns-12 by-constraint-in constraint-in-at constraint-in.Post
+  constraint-in-returns-12 c = λ g asks.
       let w = c .before .before in
       let k = row-of w in
       let i = start-c k in
-      c .constraint-in2 .ensures g asks ∙ check-junction g (law-c i) (i .args .at) (i .args .depth) (some-c k) (inside-c k) (opens-c k) (no-expressions w) (no-pair w) (not-nothing w) (not-one w) (there _ (c .before .if8 .left) ∙ w .before .constraint-in .ensures g asks)
+      c .constraint-in3 .ensures g asks ∙ check-junction g (law-c i) (i .args .at) (i .args .depth) (some-c k) (inside-c k) (opens-c k) (no-expressions w) (no-pair w) (not-nothing w) (not-one w) (there _ (c .before .if10 .left) ∙ w .before .constraint-in2 .ensures g asks)
 
   expression-in-returns-4 : expression-in-lts.Need-returns-4 by-expression-in expression-in-at expression-in.Post
   expression-in-returns-4 c = λ g asks.
@@ -326,14 +367,22 @@ pub +constraint-in+expression-in+inner-in-spec : {M : Type 1} → statement M
     (constraint-in-returns-6 t)
     (λ c. search needs)
     (constraint-in-returns-7 t)
+    (λ c κs. search needs)
+    (λ c κs. search needs)
     (λ c. search needs)
     (λ c. search needs)
-    (λ c κs. (omega arith, start-c t (c .before .before .before) .pre .1))
+    (λ c κs. search needs)
+    (λ c κs. (omega arith, start-c t (row-at t (c .before .before .before .before)) .pre .1))
     (constraint-in-returns-8 t)
     (constraint-in-returns-9 t)
     (λ c. search needs)
+    (λ c. search needs)
+    (λ c κs. (omega arith, start-c t (row-at t (c .before)) .pre .1))
+    (constraint-in-returns-10 t)
+    (constraint-in-returns-11 t)
+    (λ c. search needs)
     (λ c κs. (omega arith, start-c t (row-of t (c .before)) .pre .1))
-    (constraint-in-returns-10 t))
+    (constraint-in-returns-12 t))
     (λ t. expression-in-lts.spec (by-expression-in t) (expression-in-at t) expression-in.Post
     (expression-in-returns t)
     (expression-in-returns-2 t)

@@ -1,5 +1,6 @@
 -- One proof of a function that calls itself with one level less. Assumes nothing.
-use mathlib.Core.Path.{_≡_, sym, _∙_}
+use mathlib.Core.Path.{_≡_, sym, _∙_, subst}
+use mathlib.Core.Bool.{true, false}
 use Prim.Native.Nat.{ℕ, _<_}
 use native.Mathlib.Omega.{arith}
 use borrow.Author.Needs.{needs}
@@ -7,18 +8,22 @@ use borrow.Fn.Kinds.{In}
 use borrow.Fn.PlainCycle.{Measures, is, falls, and}
 use lib.ListN.{length, getD}
 use Rattle.bmap.specs.Code.{codeOf}
-use Rattle.law.specs.Check.{rowFor}
-use Rattle.law.specs.Table.{opened, followsIn, countIn}
+use Rattle.law.specs.Check.{rowFor, backAt, Asks}
+use Rattle.law.specs.Table.{opened, followsIn, countIn, looksBackIn}
 use Rattle.law.proofs.Trees.{pair-in}
 use Rattle.law.proofs.CheckLaws.{nowhere, there}
-use Rattle.law.proofs.LongLaws.{long-deep, long-end, long-none, long-truth, long-short, long-passes, long-fails, long-one, long-two, long-first}
+use Rattle.law.proofs.MayLaws.{asks-inside}
+use Rattle.law.proofs.LongLaws.{long-deep, long-end, long-none, long-truth, long-short, long-passes, long-fails, long-back, long-barred, long-one, long-two, long-first}
 use Rattle.law.proofs.long.tree_in.Reads as tree-in
 use Rattle.law.proofs.long.tree_in.Kinds as tree-in-kinds
 use Rattle.law.proofs.long.+tree_in.Lts-tree_in as tree-in-lts
 use Rattle.law.proofs.long.pair_passes.Reads as pair-passes-reads
 use Rattle.law.proofs.long.row_for.Reads as row-for-reads
+use Rattle.law.proofs.may.back_passes.Reads as back-passes-reads
+use Rattle.law.proofs.may.inside.Reads as inside-reads
 use Rattle.law.proofs.table.count.Reads as count-reads
 use Rattle.law.proofs.table.follows.Reads as follows-reads
+use Rattle.law.proofs.table.looks_back.Reads as looks-back-reads
 use Rattle.law.proofs.table.pair_after.Reads as pair-after-reads
 use Rattle.law.proofs.table.sort.Reads as sort-reads
 use Rattle.law.proofs.long.+tree_in.{statement}
@@ -35,7 +40,7 @@ module _ (t : ℕ) where
   tree-in-below = and 2 tree-in-kinds.ps (falls 2 tree-in-kinds.ps _<_ μ-tree-in t) tree-in.Pre
 
   abbrev by-tree-in : tree-in-lts.Claims
-  by-tree-in = (row-for-reads.Asked, row-for-reads.Learnt, follows-reads.Asked, follows-reads.Learnt, pair-after-reads.Asked, pair-after-reads.Learnt, pair-passes-reads.Asked, pair-passes-reads.Learnt, sort-reads.Asked, sort-reads.Learnt, tree-in-below, tree-in.Post, count-reads.Asked, count-reads.Learnt)
+  by-tree-in = (row-for-reads.Asked, row-for-reads.Learnt, follows-reads.Asked, follows-reads.Learnt, pair-after-reads.Asked, pair-after-reads.Learnt, pair-passes-reads.Asked, pair-passes-reads.Learnt, looks-back-reads.Asked, looks-back-reads.Learnt, back-passes-reads.Asked, back-passes-reads.Learnt, inside-reads.Asked, inside-reads.Learnt, tree-in-below, tree-in.Post, sort-reads.Asked, sort-reads.Learnt, count-reads.Asked, count-reads.Learnt)
 
   -- where the row of the code is known
   abbrev Row : Type 0
@@ -112,45 +117,80 @@ module _ (t : ℕ) where
       let a = start k .args in
       long-fails (a .wanted) g (a .s .now) (a .at) (a .depth) (some k) (inside k) (found k) (a-row w) (a-leaf w) (sym (c .before .before .before .a .given .1) ∙ c .before .before .before .before .before .pair-after .ensures) (sym (c .before .pair-passes .ensures g asks) ∙ c .if6 .left)
 
+  -- where it is known whether the code looks back
+  abbrev Whether : Type 0
+  Whether = tree-in-lts.After-looks-back by-tree-in tree-in-at tree-in.Post
+
+  abbrev row-at : Whether → Row
+  row-at c = c .before .before .before .before .before .before
+
+  is-row : (c : Whether) → row (row-at c) ≡ 255 → ⊥
+  is-row c = c .before .before .before .before .before .if3 .left
+
+  not-nothing : (c : Whether) → followsIn (row (row-at c)) ≡ 0 → ⊥
+  not-nothing c e = c .before .before .before .if4 .left (c .before .before .before .before .follows .ensures ∙ e)
+
+  no-pair : (c : Whether) → followsIn (row (row-at c)) ≡ 9 → ⊥
+  no-pair c e = c .before .if5 .left (c .before .before .follows2 .ensures ∙ e)
+
+  -- where it does
+  abbrev Back : Type 0
+  Back = tree-in-lts.After-back-passes by-tree-in tree-in-at tree-in.Post
+
+  looks-back : (b : Back) → looksBackIn (row (row-at (b .before .before))) ≡ true
+  looks-back b = sym (b .before .before .looks-back .ensures) ∙ b .before .if7 .taken
+
+  tree-in-returns-8 : tree-in-lts.Need-returns-8 by-tree-in tree-in-at tree-in.Post
+  tree-in-returns-8 c = λ g asks.
+      let b = c .before .before .before in
+      let w = b .before .before in
+      let k = row-at w in
+      let a = start k .args in
+      c .tree-in .ensures (backAt g) (subst (λ (m : ℕ). Asks m (backAt g)) (sym (c .before .inside .ensures)) (asks-inside g asks)) ∙ long-back (a .wanted) g (a .s .now) (a .at) (a .depth) (some k) (inside k) (found k) (is-row w) (looks-back b) (sym (asks .back) ∙ (sym (b .back-passes .ensures) ∙ c .before .before .if8 .taken))
+
+  tree-in-returns-9 : tree-in-lts.Need-returns-9 by-tree-in tree-in-at tree-in.Post
+  tree-in-returns-9 c = λ g asks.
+      let b = c .before in
+      let w = b .before .before in
+      let k = row-at w in
+      let a = start k .args in
+      long-barred (a .wanted) g (a .s .now) (a .at) (a .depth) (some k) (inside k) (found k) (is-row w) (looks-back b) (sym (asks .back) ∙ (sym (b .back-passes .ensures) ∙ c .if8 .left))
+
   -- where the first operand is asked for
   abbrev First : Type 0
   First = tree-in-lts.After-sort by-tree-in tree-in-at tree-in.Post
 
-  abbrev row-at : First → Row
-  row-at c = c .before .before .before .before .before .before
+  abbrev whether : First → Whether
+  whether c = c .before .before
 
-  is-row : (c : First) → row (row-at c) ≡ 255 → ⊥
-  is-row c = c .before .before .before .before .before .if3 .left
-
-  not-nothing : (c : First) → followsIn (row (row-at c)) ≡ 0 → ⊥
-  not-nothing c e = c .before .before .before .if4 .left (c .before .before .before .before .follows .ensures ∙ e)
-
-  no-pair : (c : First) → followsIn (row (row-at c)) ≡ 9 → ⊥
-  no-pair c e = c .before .if5 .left (c .before .before .follows2 .ensures ∙ e)
-
-  tree-in-returns-8 : tree-in-lts.Need-returns-8 by-tree-in tree-in-at tree-in.Post
-  tree-in-returns-8 c = λ g asks.
-      let w = c .before .before .before in
-      let k = row-at w in
-      let a = start k .args in
-      let n : countIn (row k) ≡ 1 = sym (c .before .count .ensures) ∙ c .if7 .taken in
-      c .before .before .tree-in .ensures g asks ∙ long-one (a .wanted) g (a .s .now) (a .at) (a .depth) (some k) (inside k) (found k) (is-row w) (w .sort .ensures) n
-
-  tree-in-returns-9 : tree-in-lts.Need-returns-9 by-tree-in tree-in-at tree-in.Post
-  tree-in-returns-9 c = λ g asks.
-      let w = c .before .before .before .before in
-      let k = row-at w in
-      let a = start k .args in
-      let n : countIn (row k) ≡ 1 → ⊥ = λ e. c .before .if7 .left (c .before .before .count .ensures ∙ e) in
-      long-first (a .wanted) g (a .s .now) (a .at) (a .depth) (some k) (inside k) (found k) (is-row w) (w .sort .ensures) (not-nothing w) (no-pair w) n (nowhere (c .if8 .taken) ∙ c .before .before .before .tree-in .ensures g asks)
+  not-back : (c : First) → looksBackIn (row (row-at (whether c))) ≡ false
+  not-back c = sym (whether c .looks-back .ensures) ∙ c .before .if7 .left
 
   tree-in-returns-10 : tree-in-lts.Need-returns-10 by-tree-in tree-in-at tree-in.Post
   tree-in-returns-10 c = λ g asks.
-      let w = c .before .before .before .before .before in
-      let k = row-at w in
+      let w = c .before .before .before in
+      let k = row-at (whether w) in
       let a = start k .args in
-      let n : countIn (row k) ≡ 1 → ⊥ = λ e. c .before .before .if7 .left (c .before .before .before .count .ensures ∙ e) in
-      c .tree-in2 .ensures g asks ∙ long-two (a .wanted) g (a .s .now) (a .at) (a .depth) (some k) (inside k) (found k) (is-row w) (w .sort .ensures) (not-nothing w) (no-pair w) n (there _ (c .before .if8 .left) ∙ c .before .before .before .before .tree-in .ensures g asks)
+      let n : countIn (row k) ≡ 1 = sym (c .before .count .ensures) ∙ c .if9 .taken in
+      c .before .before .tree-in2 .ensures g asks ∙ long-one (a .wanted) g (a .s .now) (a .at) (a .depth) (some k) (inside k) (found k) (is-row (whether w)) (w .sort .ensures) (not-back w) n
+
+  tree-in-returns-11 : tree-in-lts.Need-returns-11 by-tree-in tree-in-at tree-in.Post
+  tree-in-returns-11 c = λ g asks.
+      let w = c .before .before .before .before in
+      let v = whether w in
+      let k = row-at v in
+      let a = start k .args in
+      let n : countIn (row k) ≡ 1 → ⊥ = λ e. c .before .if9 .left (c .before .before .count .ensures ∙ e) in
+      long-first (a .wanted) g (a .s .now) (a .at) (a .depth) (some k) (inside k) (found k) (is-row v) (w .sort .ensures) (not-nothing v) (no-pair v) n (nowhere (c .if10 .taken) ∙ c .before .before .before .tree-in2 .ensures g asks)
+
+  tree-in-returns-12 : tree-in-lts.Need-returns-12 by-tree-in tree-in-at tree-in.Post
+  tree-in-returns-12 c = λ g asks.
+      let w = c .before .before .before .before .before in
+      let v = whether w in
+      let k = row-at v in
+      let a = start k .args in
+      let n : countIn (row k) ≡ 1 → ⊥ = λ e. c .before .before .if9 .left (c .before .before .before .count .ensures ∙ e) in
+      c .tree-in3 .ensures g asks ∙ long-two (a .wanted) g (a .s .now) (a .at) (a .depth) (some k) (inside k) (found k) (is-row v) (w .sort .ensures) (not-nothing v) (no-pair v) n (there _ (c .before .if10 .left) ∙ c .before .before .before .before .tree-in2 .ensures g asks)
 
 pub +tree-in-spec : {M : Type 1} → statement M
 +tree-in-spec =
@@ -174,12 +214,20 @@ pub +tree-in-spec : {M : Type 1} → statement M
     (tree-in-returns-6 t)
     (tree-in-returns-7 t)
     (λ c κs. search needs)
-    (λ c. search needs)
-    (λ c. search needs)
-    (λ c κs. (omega arith, start t (row-at t c) .pre .1))
     (λ c κs. search needs)
+    (λ c. search needs)
+    (λ c. search needs)
+    (λ c κs. search needs)
+    (λ c κs. (omega arith, start t (row-at t (c .before .before .before .before)) .pre .1))
     (tree-in-returns-8 t)
     (tree-in-returns-9 t)
+    (λ c κs. search needs)
     (λ c. search needs)
-    (λ c κs. (omega arith, start t (row-at t (c .before .before .before .before)) .pre .1))
-    (tree-in-returns-10 t))
+    (λ c. search needs)
+    (λ c κs. (omega arith, start t (row-at t (whether t c)) .pre .1))
+    (λ c κs. search needs)
+    (tree-in-returns-10 t)
+    (tree-in-returns-11 t)
+    (λ c. search needs)
+    (λ c κs. (omega arith, start t (row-at t (whether t (c .before .before .before .before))) .pre .1))
+    (tree-in-returns-12 t))

@@ -118,7 +118,8 @@ enum waroth_refusal_number {
 };
 
 /* What a judgement says: accepted, refused, or what is at fault. None of them is 0. A law without a value is 7 or 9, by the
- * first trouble found: operands are worked out left to right, each before its operation. */
+ * first trouble found: operands are worked out left to right, each before its operation, and under codes 2B and 2C position
+ * after position from 0 on. */
 enum waroth_kind_number {
     WAROTH_MISPLACED = 1,    /* an agent names an action but belongs to no occurring entry with that name; number: agent */
     WAROTH_BARRED = 2,       /* an entry occurs, and none of its executability laws is true; number: entry */

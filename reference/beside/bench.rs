@@ -276,6 +276,14 @@ fn main() {
     ] {
         verdicts(input);
     }
+    // Laws under 2B and 2C, which are read at all positions so far.
+    for input in [
+        inputs::tug(),
+        inputs::all_look_back(),
+        inputs::long_look_back(),
+    ] {
+        verdicts(&input);
+    }
     for input in [&inputs::long_text(), &filled, &mixed] {
         domain_texts(input);
     }

@@ -266,6 +266,63 @@ pub fn divided() -> Input {
     }
 }
 
+/// One of the codes that look back, in turns.
+fn looking_back(number: usize, held: &[u8]) -> Vec<u8> {
+    node(0x2B + (number % 2) as u8, &[held])
+}
+
+/// A tug that may not go if the weir gate has been opened, and goes in each step; its pool was never low, and has been high.
+pub fn tug() -> Input {
+    let mut draft = Draft::new(2, &[[200, 320, 300]], &[(1, 1), (2, 2)]);
+    draft.insert(mask_frame(0xA3, 0, 3));
+    let opened = [0x29, 1, 0];
+    let condition = node(0x28, &[&node(0x2C, &[&opened])]);
+    draft.insert(law(0xA5, &[&[0], &condition]));
+    draft.insert(law(0xA5, &[&[1, 0x2A]]));
+    for (number, least) in [220, 290].into_iter().enumerate() {
+        let held = looking_back(number, &at_least(&fluent(0), least));
+        draft.insert(law(0xA7, &[&held]));
+    }
+    Input {
+        name: "a tug and a gate, 64 steps",
+        draft,
+        sheet: [1, 0].repeat(STEPS),
+    }
+}
+
+/// As many laws as is allowed; all but the one A5 law are a comparison at all positions so far, and are read in each step.
+pub fn all_look_back() -> Input {
+    let mut draft = Draft::new(16, &[[-1000, 1000, 0]; 32], &[(1, 1)]).free();
+    for number in draft.laws()..128 {
+        let held = at_least(&fluent(number % 32), -1000);
+        draft.insert(law(0xA8, &[&looking_back(number, &held)]));
+    }
+    Input {
+        name: "127 laws that look back, 64 steps",
+        draft,
+        sheet: vec![0; 16 * STEPS],
+    }
+}
+
+/// A few laws that look back and fill their lines or nearly do, no two alike.
+pub fn long_look_back() -> Input {
+    let mut r = Random::seeded(17);
+    let fluents: Vec<_> = (0..32).map(|number| [0, 1000, 3 * number + 1]).collect();
+    let mut draft = Draft::new(16, &fluents, &[(1, 1)]).free();
+    while draft.laws() < 17 {
+        let held = mixed_truth(&mut r, MAX_DEPTH - 3, MAX_PAYLOAD - 3);
+        if held.len() >= 90 {
+            let whole = looking_back(draft.laws(), &held);
+            draft.insert(law(0xA8, &[&node(0x27, &[&whole, &[0x2A]])]));
+        }
+    }
+    Input {
+        name: "16 long laws that look back, 64 steps",
+        draft,
+        sheet: vec![0; 16 * STEPS],
+    }
+}
+
 /// Who names what: 16 agents who all act, and 64 entries with 14 of them in each crew. All crews are complete, so that
 /// whoever compares agent by agent has to compare all; laws are short and few.
 pub fn large_crews() -> Input {

@@ -6,8 +6,9 @@ mod inputs;
 
 use inputs::{repeated, Input};
 use waroth_reference::generate::draft::{sheet_text, text_of, Draft};
+use waroth_reference::generate::laws::always;
 use waroth_reference::generate::random::Random;
-use waroth_reference::generate::shapes::deep;
+use waroth_reference::generate::shapes::{deep, deep_constraint, law_with};
 use waroth_reference::generate::supplements::{full, longest_of_both};
 use waroth_reference::program::MAX_INPUT;
 
@@ -38,10 +39,15 @@ fn tried(domain: &[u8], supplement: &[u8], sheet: &[u8]) -> bool {
     unsafe { stack_tried(domain, supplement, sheet) != 0 }
 }
 
-/// A domain whose one law besides is nested as deep as may be. No law that is read before it is at fault.
+/// A domain whose one law besides is nested as deep as may be, under 2B in every second. No law that is read before it is at fault.
 fn deepest(r: &mut Random) -> Draft {
     let mut draft = Draft::new(1, &[[0, 100, 1]], &[(1, 1)]);
-    let law = deep(r, &draft, 16);
+    let law = if r.one_in(2) {
+        deep(r, &draft, 16)
+    } else {
+        let held = deep_constraint(r, 15);
+        law_with(r, &draft, false, &always(&held))
+    };
     draft.insert(law);
     draft.free()
 }

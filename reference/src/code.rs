@@ -3,7 +3,8 @@
 //! The compiled form is postfix, one [`Op`] for each operator. Constants and the
 //! present values of fluents are found without reckoning: they are leaves, and
 //! operations take them with them. Truth is 1 and falsehood 0, so a reified
-//! constraint (code 19) leaves no trace.
+//! constraint (code 19) leaves no trace. Codes 2B and 2C alone stand before their
+//! operand, since it is evaluated more than once.
 
 use crate::domain::Domain;
 use crate::number;
@@ -49,6 +50,9 @@ pub(crate) enum Code {
     Remainder,
     /// The absolute value of the last.
     Absolute,
+    /// The truths of the operations that follow, the left number of them, at all
+    /// positions from 0 to this one, joined.
+    Positions,
 }
 
 /// Where a comparison is true, a bit each, and whether truths are joined by "or".
@@ -193,6 +197,8 @@ impl<'a> Compiler<'a> {
             0x26 => self.join(0),
             0x27 => self.join(OR),
             0x28 => self.of_one(Code::CompareLast, EQUAL),
+            0x2B => self.positions(0),
+            0x2C => self.positions(OR),
             0x29 => {
                 let (entry, lag) = (self.byte(), self.byte());
                 self.past(Code::Occurs, entry, lag);
@@ -216,6 +222,14 @@ impl<'a> Compiler<'a> {
     fn of_two(&mut self, code: Code) {
         self.reckoned();
         self.of_one(code, 0);
+    }
+
+    /// How many operations the operand has is known behind it.
+    fn positions(&mut self, manner: Manner) {
+        let at = self.used;
+        self.put(Code::Positions, manner, Leaf::ZERO, Leaf::ZERO);
+        self.reckoned();
+        self.code[at].numbers[0] = (self.used - at - 1) as i16;
     }
 
     fn comparison(&mut self, manners: [Manner; 2]) {

@@ -273,6 +273,7 @@ impl Domain {
                 STATIC | GOAL => 0,
                 _ => entries,
             },
+            looking_back: false,
         };
         let (mut entry, mut fluent, mut rest) = (0, 0, payload);
         if has_entry(kind) {

@@ -2,20 +2,31 @@
 //!
 //! Anything built on a part without value has none, so evaluation ends at the
 //! first such part. A compiled law has its operands from left to right, each
-//! before its operation, so the trouble met there is the first.
+//! before its operation, and positions are looked at from 0 on, so the trouble met
+//! there is the first.
 
 use crate::code::{Code, Op, OR};
 use crate::law::MAX_DEPTH;
 use crate::number::{self, Reckoned};
 use crate::sheet::MAX_STEPS;
 
+/// The values of a state, and zeros.
+type State = [i32; 64];
+
+/// A position and its state, which constraints are read at.
+#[derive(Clone, Copy)]
+struct Position<'a> {
+    number: usize,
+    state: &'a State,
+}
+
 /// The states reached, what occurred in the steps, and a present state.
 pub struct History<'a> {
     /// The states reached, fluent by fluent.
     levels: &'a mut [i16],
     width: usize,
-    /// The present state, which may not be among those reached yet, and zeros.
-    now: [i32; 64],
+    /// The present state, which may not be among those reached yet.
+    now: State,
     /// Its number; the present step is one more.
     position: usize,
     /// Mask of the entries that occur in each step; nothing occurs in step 0.
@@ -70,10 +81,19 @@ impl<'a> History<'a> {
 
     /// The value of a compiled law; truth is 1, falsehood 0.
     pub fn evaluate(&self, code: &[Op]) -> Reckoned {
+        let present = Position {
+            number: self.position,
+            state: &self.now,
+        };
+        self.evaluate_at(present, code)
+    }
+
+    fn evaluate_at(&self, here: Position, code: &[Op]) -> Reckoned {
         let mut waiting = Waiting::default();
         let mut last = 0;
-        for op in code {
-            let leaf = |side| self.leaf(op, side);
+        let mut ops = code.iter();
+        while let Some(op) = ops.next() {
+            let leaf = |side| here.leaf(op, side);
             last = match op.code {
                 Code::Leaf => {
                     waiting.push(last);
@@ -81,11 +101,11 @@ impl<'a> History<'a> {
                 }
                 Code::Lagged => {
                     waiting.push(last);
-                    self.lagged(op.numbers.map(|number| number as usize))
+                    self.lagged(here, op.numbers.map(|number| number as usize))
                 }
                 Code::Occurs => {
                     waiting.push(last);
-                    self.occurs(op.numbers.map(|number| number as usize))
+                    self.occurs(here, op.numbers.map(|number| number as usize))
                 }
                 Code::Compare => {
                     waiting.push(last);
@@ -112,31 +132,59 @@ impl<'a> History<'a> {
                 Code::Quotient => number::quotient(waiting.pop(), last)?,
                 Code::Remainder => number::remainder(waiting.pop(), last)?,
                 Code::Absolute => last.abs(),
+                Code::Positions => {
+                    waiting.push(last);
+                    let (operand, behind) = ops.as_slice().split_at(op.numbers[0] as usize);
+                    ops = behind.iter();
+                    self.up_to(here, op, operand)?
+                }
             };
         }
         Ok(last)
     }
 
-    #[inline]
-    fn leaf(&self, op: &Op, side: usize) -> i64 {
-        let place = usize::from(op.places[side]) % self.now.len();
-        i64::from(self.now[place]) + i64::from(op.numbers[side])
+    /// The truths of an operand at all positions from 0 to this one, joined. No truth
+    /// ends it, since a later position may be without value; the first trouble does.
+    #[inline(never)]
+    fn up_to(&self, here: Position, op: &Op, operand: &[Op]) -> Reckoned {
+        let mut truth = i64::from(op.manner & OR == 0);
+        let mut state = [0; 64];
+        let reached = &self.levels[..here.number * self.width];
+        for (number, levels) in reached.chunks(self.width).enumerate() {
+            for (value, &level) in state.iter_mut().zip(levels) {
+                *value = level.into();
+            }
+            let there = Position {
+                number,
+                state: &state,
+            };
+            truth = joined(op, truth, self.evaluate_at(there, operand)?);
+        }
+        Ok(joined(op, truth, self.evaluate_at(here, operand)?))
     }
 
     /// Before state 0 stands state 0.
     #[inline]
-    fn lagged(&self, [fluent, lag]: [usize; 2]) -> i64 {
-        match self.position {
-            0 => self.now[fluent].into(),
-            present => self.levels[present.saturating_sub(lag) * self.width + fluent].into(),
+    fn lagged(&self, here: Position, [fluent, lag]: [usize; 2]) -> i64 {
+        match here.number {
+            0 => here.state[fluent].into(),
+            number => self.levels[number.saturating_sub(lag) * self.width + fluent].into(),
         }
     }
 
     /// Before step 1 nothing occurs.
     #[inline]
-    fn occurs(&self, [entry, lag]: [usize; 2]) -> i64 {
-        let step = (self.position + 1).saturating_sub(lag);
+    fn occurs(&self, here: Position, [entry, lag]: [usize; 2]) -> i64 {
+        let step = (here.number + 1).saturating_sub(lag);
         (self.occurring[step] >> entry & 1) as i64
+    }
+}
+
+impl Position<'_> {
+    #[inline]
+    fn leaf(self, op: &Op, side: usize) -> i64 {
+        let place = usize::from(op.places[side]) % self.state.len();
+        i64::from(self.state[place]) + i64::from(op.numbers[side])
     }
 }
 

@@ -11,6 +11,8 @@ pub struct Checker {
     pub fluents: u8,
     /// Number of entries; 0 where code 29 is not allowed.
     pub entries: u8,
+    /// Whether the part stands under 2B or 2C, where neither of them may stand.
+    pub looking_back: bool,
 }
 
 impl Checker {
@@ -55,6 +57,13 @@ impl Checker {
                 }
                 [0x29, entry, lag, rest @ ..] if *entry < self.entries && *lag <= MAX_LAG => rest,
                 [0x2A, rest @ ..] => rest,
+                [0x2B..=0x2C, operand @ ..] if !self.looking_back => {
+                    let below = Checker {
+                        looking_back: true,
+                        ..self
+                    };
+                    below.truth(operand, levels)?
+                }
                 _ => return None,
             };
             if behind == 0 {

@@ -68,6 +68,10 @@ enum Constraint {
     Not(Box<Constraint>),
     Occurs(usize, usize),
     True,
+    /// Held at every position from 0 to the present one.
+    Always(Box<Constraint>),
+    /// Held at one or more of them.
+    Sometime(Box<Constraint>),
 }
 
 /// What a law says besides its constraint.
@@ -184,7 +188,9 @@ impl Bytes<'_> {
             0x27 => return Constraint::Or(self.boxed(), self.boxed()),
             0x28 => return Constraint::Not(self.boxed()),
             0x29 => return Constraint::Occurs(self.index(), self.index()),
-            _ => return Constraint::True,
+            0x2A => return Constraint::True,
+            0x2B => return Constraint::Always(self.boxed()),
+            _ => return Constraint::Sometime(self.boxed()),
         };
         Constraint::Compared(compared, self.expression(), self.expression())
     }
@@ -411,7 +417,25 @@ impl Domain {
                 Ok(names.is_some_and(occurs))
             }
             Constraint::True => Ok(true),
+            Constraint::Always(held) => {
+                let truths = self.truths(held, history, position)?;
+                Ok(!truths.contains(&false))
+            }
+            Constraint::Sometime(held) => {
+                let truths = self.truths(held, history, position)?;
+                Ok(truths.contains(&true))
+            }
         }
+    }
+
+    /// "Every position is read": what a constraint comes to at each from 0 to the
+    /// present one. "one without a value leaves the whole without value", and of
+    /// several "the earliest position's is given".
+    fn truths(&self, held: &Constraint, history: &History, present: usize) -> Found<Vec<bool>> {
+        let read: Vec<_> = (0..=present)
+            .map(|position| self.truth(held, history, position))
+            .collect();
+        read.into_iter().collect()
     }
 }
 

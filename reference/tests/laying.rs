@@ -371,7 +371,7 @@ fn every_cause_of_15() {
         &frame(0xAF, &[5, 0xA9, 0x2A]),
         &frame(0xAF, &[4, 0xA8, 0x2A]),
         &frame(0xAF, &[0, 0xA5, 1, 0x2A]),
-        &frame(0xAF, &[4, 0xA9, 0x2B]),
+        &frame(0xAF, &[4, 0xA9, 0x2D]),
         // Of another domain, whose law 1 is an A6.
         &replacement(1, Draft::of_each_kind().law(1)),
     ];

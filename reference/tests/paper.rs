@@ -77,7 +77,11 @@ fn starred_sheets() {
 /// Value of an expression over one fluent with these states, at the last of them.
 fn value(bytes: &[u8], states: &[i16]) -> Reckoned {
     let (fluents, entries) = (1, 0);
-    let checker = Checker { fluents, entries };
+    let checker = Checker {
+        fluents,
+        entries,
+        looking_back: false,
+    };
     assert_eq!(checker.expression(bytes), Some(&[][..]));
     let mut code = vec![Op::NONE; bytes.len()];
     let mut compiler = Compiler::of(bytes, &mut code, 0);

@@ -3,7 +3,9 @@
 use waroth_reference::generate::draft::{law, Draft};
 use waroth_reference::generate::laws::{constant, node};
 use waroth_reference::generate::random::Random;
-use waroth_reference::generate::{divisions, sheets, troubles, verdicts, Expect};
+use waroth_reference::generate::{
+    divisions, looking_back, nesting, sheets, troubles, verdicts, Expect,
+};
 use waroth_reference::judge::{judge, Judged, Verdict, LEVELS};
 use waroth_reference::plain;
 
@@ -50,6 +52,8 @@ fn wanted_verdicts() {
     let mut r = Random::seeded(22);
     let trials = verdicts::trials().into_iter().chain(troubles::further());
     let trials = trials.chain(divisions::further());
+    let trials = trials.chain(looking_back::further());
+    let trials = trials.chain(nesting::further());
     for (label, expect, make) in trials {
         for _ in 0..10 {
             let (draft, sheet) = make(&mut r);

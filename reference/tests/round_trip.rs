@@ -67,7 +67,7 @@ fn the_generator_repeats_itself() {
 fn the_generator_meets_everything() {
     let mut generator = Generator::seeded(4);
     let mut coverage = Coverage::of(generator.aims());
-    for _ in 0..10_000 {
+    for _ in 0..12_000 {
         let made = generator.next().expect("without end");
         let aim = made.aim.map(|aim| (aim, generator.aims()[aim].expect));
         coverage.count(&run_reference(&made.case), aim);

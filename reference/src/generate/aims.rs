@@ -8,7 +8,9 @@ use super::divisions;
 use super::draft::{sheet_text, text_of, Draft};
 use super::faults::{Lines, LINE_FAULTS};
 use super::laying::{self, LAYING, WRONG};
+use super::looking_back;
 use super::low_water::LOW_WATER;
+use super::nesting::{self, Shaped};
 use super::random::Random;
 use super::report::{self, has_mark, input_of, reporting};
 use super::sheets::{self, SESSION_FAULTS};
@@ -449,22 +451,50 @@ impl Aims {
         let other = 1 + (turn + turn / 6) % 3;
         for (call, at) in [(0, 2 * turn), (other, 2 * turn + 1)] {
             let (label, spot) = in_spot(at);
-            let lines = move |r: &mut Random| part.in_domain(r, spot);
-            let text = move |r: &mut Random| text_of(&lines(r));
-            match call {
-                0 => self.read_domain(&label, number, text),
-                1 => self.program(&label, number, text),
-                2 => self.low_water_over(&label, number, text),
-                _ => self.store(&label, number, lines),
-            }
+            self.lines_in(call, &label, number, move |r| part.in_domain(r, spot));
             let (label, spot) = in_spot(at + 2);
-            let make = move |r: &mut Random| part.in_supplement(r, spot);
-            match call {
-                0 => self.read_supplement(&label, number, make),
-                1 => self.over_supplement(&label, number, make),
-                2 => self.lay(&label, number, make),
-                _ => self.low_water(&label, number, make),
-            }
+            self.supplement_in(call, &label, number, move |r| part.in_supplement(r, spot));
+        }
+    }
+
+    /// A domain before the reader or before one of the other calls, by number.
+    fn lines_in(
+        &mut self,
+        call: usize,
+        label: &str,
+        number: u8,
+        lines: impl Fn(&mut Random) -> Lines + Copy + 'static,
+    ) {
+        let text = move |r: &mut Random| text_of(&lines(r));
+        match call {
+            0 => self.read_domain(label, number, text),
+            1 => self.program(label, number, text),
+            2 => self.low_water_over(label, number, text),
+            _ => self.store(label, number, lines),
+        }
+    }
+
+    /// The same of a supplement.
+    fn supplement_in(&mut self, call: usize, label: &str, number: u8, make: impl MakesSupplement) {
+        match call {
+            0 => self.read_supplement(label, number, make),
+            1 => self.over_supplement(label, number, make),
+            2 => self.lay(label, number, make),
+            _ => self.low_water(label, number, make),
+        }
+    }
+
+    /// A law that looks back, in a domain and in a supplement, each before one call;
+    /// calls are taken in turn. What is too deep is put in one of the two.
+    fn shaped(&mut self, turn: usize, label: &str, number: u8, law: Shaped) {
+        // Every sixth law is in the same place, and should not have the same call.
+        let call = turn + turn / 6;
+        let second = (turn + turn / 24) % 2 == 1;
+        if !law.too_deep() || !second {
+            self.lines_in(call % 4, label, number, move |r| law.in_domain(r));
+        }
+        if !law.too_deep() || second {
+            self.supplement_in((call + 1) % 4, label, number, move |r| law.in_supplement(r));
         }
     }
 
@@ -618,6 +648,9 @@ pub fn aims() -> Vec<Aim> {
     for (turn, (label, number, part)) in codes::parts().into_iter().enumerate() {
         aims.part(turn, &label, number, part);
     }
+    for (turn, (label, number, law)) in nesting::laws().into_iter().enumerate() {
+        aims.shaped(turn, &label, number, law);
+    }
     for &(label, spoil) in CHARACTER_FAULTS {
         aims.add(
             format!("read_supplement: {label}"),
@@ -659,7 +692,12 @@ pub fn aims() -> Vec<Aim> {
     verdicts::trials()
         .into_iter()
         .for_each(|trial| aims.trial(trial));
-    for trials in [troubles::further(), divisions::further()] {
+    for trials in [
+        troubles::further(),
+        divisions::further(),
+        looking_back::further(),
+        nesting::further(),
+    ] {
         for (turn, trial) in trials.iter().enumerate() {
             aims.trial_in_turn(turn, trial);
         }

@@ -42,10 +42,11 @@ const CODES: &[(RangeInclusive<u8>, Sort, Operands)] = &[
     (0x28..=0x28, Constraint, (Constraints, 1)),
     (0x29..=0x29, Constraint, (Bytes, 2)),
     (0x2A..=0x2A, Constraint, (Constraints, 0)),
+    (0x2B..=0x2C, Constraint, (Constraints, 1)),
 ];
 
 /// Bytes beside them.
-const NO_CODES: &[RangeInclusive<u8>] = &[0x0F..=0x0F, 0x1A..=0x1F, 0x2B..=0x2F];
+const NO_CODES: &[RangeInclusive<u8>] = &[0x0F..=0x0F, 0x1A..=0x1F, 0x2D..=0x2F];
 
 /// Operands that a code beside them might have.
 const OPERANDS: &[(&str, Operands)] = &[
@@ -246,20 +247,34 @@ impl Part {
         }
     }
 
-    /// A random domain with such a law.
     pub fn in_domain(self, r: &mut Random, spot: Spot) -> Lines {
-        plus(r, |r, draft| {
-            let entry = r.below(draft.entries.len()) as u8;
+        in_domain(r, |r, draft, entry| self.law(r, draft, spot, entry))
+    }
+
+    pub fn in_supplement(self, r: &mut Random, spot: Spot) -> (Draft, Lines) {
+        in_supplement(r, spot.kind, |r, draft, entry| {
             self.law(r, draft, spot, entry)
         })
     }
+}
 
-    /// A random domain, and a supplement with such a law.
-    pub fn in_supplement(self, r: &mut Random, spot: Spot) -> (Draft, Lines) {
-        let &(_, place) = r.pick(PLACES);
-        with_line(r, place, spot.kind, |r, draft, number| {
-            let entry = draft.law(number)[2];
-            replacement(number, &self.law(r, draft, spot, entry))
-        })
-    }
+/// A random domain with such a law, which may be of an entry.
+pub fn in_domain(r: &mut Random, make: impl Fn(&mut Random, &Draft, u8) -> Vec<u8>) -> Lines {
+    plus(r, |r, draft| {
+        let entry = r.below(draft.entries.len()) as u8;
+        make(r, draft, entry)
+    })
+}
+
+/// A random domain, and a supplement with such a law, which is of this kind.
+pub fn in_supplement(
+    r: &mut Random,
+    kind: u8,
+    make: impl Fn(&mut Random, &Draft, u8) -> Vec<u8>,
+) -> (Draft, Lines) {
+    let &(_, place) = r.pick(PLACES);
+    with_line(r, place, kind, |r, draft, number| {
+        let entry = draft.law(number)[2];
+        replacement(number, &make(r, draft, entry))
+    })
 }

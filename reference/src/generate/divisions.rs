@@ -5,12 +5,11 @@
 
 use super::aims::Expect::{self, Accepted, Broken, Goal};
 use super::draft::{law, mask_frame, Draft};
-use super::laws::{constant, node};
-use super::random::Random;
-use super::troubles::{
-    add, and, difference, highest, in_each_place, lowest, negation, or, product, quotient, reified,
-    remainder, sum, Cause,
+use super::laws::{
+    and, constant, difference, negation, node, or, product, quotient, reified, remainder, sum,
 };
+use super::random::Random;
+use super::troubles::{add, highest, in_each_place, lowest, Cause};
 use super::verdicts::{effect, read, Made, Trial};
 use crate::judge::{OUT_OF_NUMBERS, ZERO_DIVISOR};
 use crate::number::BOUND;

@@ -174,6 +174,7 @@ impl Draft {
         Ground {
             fluents: &self.fluents,
             entries,
+            looking_back: false,
         }
     }
 

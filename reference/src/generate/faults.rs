@@ -93,7 +93,7 @@ fn other_code(r: &mut Random, right: std::ops::RangeInclusive<u8>) -> Vec<u8> {
         let code = if r.one_in(2) {
             r.byte()
         } else {
-            r.from_to(0x0F, 0x2B) as u8
+            r.from_to(0x0F, 0x2D) as u8
         };
         if !right.contains(&code) {
             let mut bytes = vec![code];
@@ -252,7 +252,7 @@ pub const LINE_FAULTS: &[LineFault] = &[
     }),
     ("no code of a constraint", PAYLOAD, |r| {
         plus(r, |r, draft| {
-            let part = other_code(r, 0x20..=0x2A);
+            let part = other_code(r, 0x20..=0x2C);
             law_with(r, draft, false, &part)
         })
     }),

@@ -9,6 +9,8 @@ pub struct Ground<'a> {
     pub fluents: &'a [[i16; 3]],
     /// Number of entries; code 29 is used only if there are some.
     pub entries: usize,
+    /// Whether the law is under 2B or 2C already, and may have neither.
+    pub looking_back: bool,
 }
 
 pub fn constant(value: i16) -> Vec<u8> {
@@ -31,6 +33,63 @@ pub fn wrapped(code: u8, times: usize, part: &[u8]) -> Vec<u8> {
     bytes.extend_from_slice(part);
     bytes
 }
+
+pub fn sum(left: &[u8], right: &[u8]) -> Vec<u8> {
+    node(0x12, &[left, right])
+}
+
+pub fn difference(left: &[u8], right: &[u8]) -> Vec<u8> {
+    node(0x13, &[left, right])
+}
+
+pub fn product(left: &[u8], right: &[u8]) -> Vec<u8> {
+    node(0x14, &[left, right])
+}
+
+pub fn quotient(left: &[u8], right: &[u8]) -> Vec<u8> {
+    node(0x15, &[left, right])
+}
+
+pub fn remainder(left: &[u8], right: &[u8]) -> Vec<u8> {
+    node(0x16, &[left, right])
+}
+
+pub fn negation(part: &[u8]) -> Vec<u8> {
+    node(0x17, &[part])
+}
+
+pub fn reified(constraint: &[u8]) -> Vec<u8> {
+    node(0x19, &[constraint])
+}
+
+pub fn and(left: &[u8], right: &[u8]) -> Vec<u8> {
+    node(0x26, &[left, right])
+}
+
+pub fn or(left: &[u8], right: &[u8]) -> Vec<u8> {
+    node(0x27, &[left, right])
+}
+
+pub fn not(constraint: &[u8]) -> Vec<u8> {
+    node(0x28, &[constraint])
+}
+
+/// Held at every position from 0 to the present one.
+pub fn always(held: &[u8]) -> Vec<u8> {
+    node(ALWAYS, &[held])
+}
+
+/// Held at one or more of them.
+pub fn sometime(held: &[u8]) -> Vec<u8> {
+    node(SOMETIME, &[held])
+}
+
+/// The codes that look back.
+pub const ALWAYS: u8 = 0x2B;
+pub const SOMETIME: u8 = 0x2C;
+
+pub const TRUE: &[u8] = &[0x2A];
+pub const FALSE: &[u8] = &[0x28, 0x2A];
 
 /// A number at an end of the range, near it, or beyond it.
 fn large(r: &mut Random) -> Vec<u8> {
@@ -68,6 +127,14 @@ impl Ground<'_> {
         })
     }
 
+    /// The same for what stands under 2B or 2C.
+    fn of_positions(&self) -> Self {
+        Ground {
+            looking_back: true,
+            ..*self
+        }
+    }
+
     /// An expression at most so many levels deep, its own included.
     pub fn expression(&self, r: &mut Random, levels: usize) -> Vec<u8> {
         if levels < 3 || r.one_in(3) {
@@ -90,7 +157,7 @@ impl Ground<'_> {
 
     /// A constraint at most so many levels deep, its own included.
     pub fn constraint(&self, r: &mut Random, levels: usize) -> Vec<u8> {
-        match r.below(10) {
+        match r.below(12) {
             0..=4 if levels > 1 => {
                 let code = r.from_to(0x20, 0x25) as u8;
                 let left = self.expression(r, levels - 1);
@@ -103,6 +170,11 @@ impl Ground<'_> {
             }
             7 if levels > 1 => node(0x28, &[&self.constraint(r, levels - 1)]),
             8 | 9 if self.entries > 0 => vec![0x29, r.below(self.entries) as u8, lag(r)],
+            10 | 11 if levels > 1 && !self.looking_back => {
+                let code = r.from_to(0x2B, 0x2C) as u8;
+                let held = self.of_positions().constraint(r, levels - 1);
+                node(code, &[&held])
+            }
             _ => vec![0x2A],
         }
     }
@@ -112,12 +184,20 @@ impl Ground<'_> {
         let fluent = r.below(self.fluents.len());
         let read = vec![0x11, fluent as u8, lag(r)];
         let [lowest, highest, _] = self.fluents[fluent];
-        match r.below(8) {
+        match r.below(10) {
             0..=2 => vec![0x2A],
             3 => node(0x25, &[&read, &constant(lowest)]),
             4 => node(0x23, &[&read, &constant(highest)]),
             5 => node(0x27, &[&[0x2A], &self.constraint(r, 3)]),
             6 => wrapped(0x28, 2, &node(0x21, &[&read, &constant(r.value())])),
+            7 => {
+                let code = r.from_to(0x2B, 0x2C) as u8;
+                node(code, &[&node(0x25, &[&read, &constant(lowest)])])
+            }
+            8 => {
+                let held = self.of_positions().constraint(r, 3);
+                node(0x2C, &[&node(0x27, &[&[0x2A], &held])])
+            }
             _ => {
                 let deep = wrapped(0x28, 2 * r.from_to(1, 6), &[0x2A]);
                 node(0x26, &[&deep, &[0x2A]])

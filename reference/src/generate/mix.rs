@@ -95,7 +95,7 @@ fn domain_text(r: &mut Random) -> Vec<u8> {
 
 fn any_store(r: &mut Random) -> Vec<u8> {
     let draft = Draft::random(r);
-    let likely = [0, 1, 2, 3, 0x10, 0x11, 0x29, 0x2A, 0xA5, 0xA9];
+    let likely = [0, 1, 2, 3, 0x10, 0x11, 0x29, 0x2A, 0x2B, 0x2C, 0xA5, 0xA9];
     let bytes = match r.below(10) {
         0..=5 => draft.bytes(),
         6 | 7 => damaged(r, draft.bytes(), &likely),
@@ -295,7 +295,9 @@ fn report(r: &mut Random, aims: &[Aim]) -> Case {
 /// A supplement's bytes, good or bad, for a domain.
 fn any_supplement(r: &mut Random, draft: &Draft) -> Vec<u8> {
     let lines = supplements::supplement(r, draft);
-    let likely = [0, 1, 2, 3, 0x10, 0x11, 0x29, 0x2A, 0xA5, 0xA9, 0xAF];
+    let likely = [
+        0, 1, 2, 3, 0x10, 0x11, 0x29, 0x2A, 0x2B, 0x2C, 0xA5, 0xA9, 0xAF,
+    ];
     let bytes = match r.below(10) {
         0..=6 => lines.concat(),
         7 if !lines.is_empty() => shuffled(r, lines).concat(),

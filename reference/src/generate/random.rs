@@ -63,7 +63,7 @@ impl Random {
         (0..count)
             .map(|_| match self.below(8) {
                 0 => self.from_to(0xA1, 0xA9) as u8,
-                1 => self.from_to(0x10, 0x2A) as u8,
+                1 => self.from_to(0x10, 0x2C) as u8,
                 2..=4 => self.below(8) as u8,
                 5 => 0,
                 _ => self.byte(),

@@ -102,7 +102,7 @@ fn joined(r: &mut Random, draft: &Draft, comparisons: usize) -> Vec<u8> {
 
 /// A constraint of exactly so many bytes: comparisons, and "not" around them as
 /// often as is needed.
-fn sized_constraint(r: &mut Random, draft: &Draft, size: usize) -> Vec<u8> {
+pub(super) fn sized_constraint(r: &mut Random, draft: &Draft, size: usize) -> Vec<u8> {
     let part = joined(r, draft, (size + 1) / 8);
     wrapped(0x28, size - part.len(), &part)
 }

@@ -357,7 +357,7 @@ pub const LINE_FAULTS: &[LineFault] = &[
         given(n, 0xA6, &[draft.law(n)[2]])
     }),
     ("no code of a constraint", PAYLOAD, 0, |r, draft, n| {
-        let code = *r.pick(&[0x00, 0x10, 0x19, 0x1F, 0x2B, 0x80, 0xFF]);
+        let code = *r.pick(&[0x00, 0x10, 0x19, 0x1F, 0x2D, 0x80, 0xFF]);
         around(draft, n, &[code, 0x10, 0, 0, 0x10, 0, 0])
     }),
     ("a byte after the law", PAYLOAD, 0, |r, draft, n| {

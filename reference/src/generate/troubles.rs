@@ -4,7 +4,10 @@
 
 use super::aims::Expect::{self, Accepted, Broken, Goal};
 use super::draft::{law, mask_frame, Draft};
-use super::laws::{constant, node, wrapped};
+use super::laws::{
+    and, constant, difference, negation, node, or, product, quotient, reified, remainder, sum,
+    wrapped, FALSE, TRUE,
+};
 use super::random::Random;
 use super::verdicts::{counting, effect, read, single, Made, Trial};
 use crate::judge::{OUT_OF_NUMBERS, ZERO_DIVISOR};
@@ -18,45 +21,6 @@ pub(super) fn highest() -> Vec<u8> {
 pub(super) fn lowest() -> Vec<u8> {
     node(0x14, &[&constant(-31_250), &constant(32_000)])
 }
-
-pub(super) fn sum(left: &[u8], right: &[u8]) -> Vec<u8> {
-    node(0x12, &[left, right])
-}
-
-pub(super) fn difference(left: &[u8], right: &[u8]) -> Vec<u8> {
-    node(0x13, &[left, right])
-}
-
-pub(super) fn product(left: &[u8], right: &[u8]) -> Vec<u8> {
-    node(0x14, &[left, right])
-}
-
-pub(super) fn quotient(left: &[u8], right: &[u8]) -> Vec<u8> {
-    node(0x15, &[left, right])
-}
-
-pub(super) fn remainder(left: &[u8], right: &[u8]) -> Vec<u8> {
-    node(0x16, &[left, right])
-}
-
-pub(super) fn negation(part: &[u8]) -> Vec<u8> {
-    node(0x17, &[part])
-}
-
-pub(super) fn reified(constraint: &[u8]) -> Vec<u8> {
-    node(0x19, &[constraint])
-}
-
-pub(super) fn and(left: &[u8], right: &[u8]) -> Vec<u8> {
-    node(0x26, &[left, right])
-}
-
-pub(super) fn or(left: &[u8], right: &[u8]) -> Vec<u8> {
-    node(0x27, &[left, right])
-}
-
-const TRUE: &[u8] = &[0x2A];
-const FALSE: &[u8] = &[0x28, 0x2A];
 
 /// Minus one while the seed is 0, zero once it is 1.
 fn divisor(seed: &[u8]) -> Vec<u8> {
@@ -223,7 +187,7 @@ const WAYS: [[u8; 2]; 2] = [
 ];
 
 /// A constraint about an expression.
-fn about(part: &[u8]) -> Vec<u8> {
+pub(super) fn about(part: &[u8]) -> Vec<u8> {
     node(0x20, &[part, &constant(0)])
 }
 

@@ -4,6 +4,7 @@ use super::aims::Expect::{self, Accepted, Broken, Goal};
 use super::divisions;
 use super::draft::{frame, law, mask_frame, Draft};
 use super::laws::{constant, node};
+use super::looking_back;
 use super::random::Random;
 use super::troubles;
 use std::rc::Rc;
@@ -216,5 +217,6 @@ pub fn trials() -> Vec<Trial> {
     }
     trials.extend(troubles::trials());
     trials.extend(divisions::trials());
+    trials.extend(looking_back::trials());
     trials
 }

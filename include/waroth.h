@@ -63,12 +63,12 @@ enum { WAROTH_REPORT_INPUT = WAROTH_INPUT + WAROTH_SHEETS * (5 + WAROTH_INPUT) +
 
 /* The most stack of a call, in bytes: what was measured, with room to spare. Measured by reference/beside/stack.c:
  *
- *   waroth_read_domain   6,624   waroth_read_supplement  9,280   waroth_judge        35,824   waroth_open    5,648
- *   waroth_write_domain  5,696   waroth_law              8,432   waroth_judge_under  35,840   waroth_enter  20,976
- *   waroth_counts        5,632   waroth_lay             10,544   waroth_answer       78,272   waroth_strike 25,632
- *   waroth_frame             8   waroth_read_sheet         312   waroth_low_water    92,544   waroth_amend  20,992
- *                                waroth_write_sheet         69   waroth_report      239,536   waroth_undo   17,360
- *                                                                waroth_verdict      44,224   waroth_redo   20,992 */
+ *   waroth_read_domain   6,544   waroth_read_supplement  9,200   waroth_judge        36,168   waroth_open    5,568
+ *   waroth_write_domain  5,616   waroth_law              8,368   waroth_judge_under  36,184   waroth_enter  16,352
+ *   waroth_counts        5,552   waroth_lay             10,448   waroth_answer       78,616   waroth_strike 16,352
+ *   waroth_frame             8   waroth_read_sheet         312   waroth_low_water    92,888   waroth_amend  16,352
+ *                                waroth_write_sheet         69   waroth_report      239,880   waroth_undo   17,360
+ *                                                                waroth_verdict      44,568   waroth_redo   20,992 */
 enum {
     WAROTH_STACK_TEXTS = 8192,        /* domains and sheets */
     WAROTH_STACK_SUPPLEMENTS = 16384, /* waroth_read_supplement, waroth_law, waroth_lay */

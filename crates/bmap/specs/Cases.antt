@@ -1,7 +1,8 @@
 -- The cases of document 01: those marked with a star in one list, with K3's three figures in the place of the one that it changes, the
--- others in a second; beside them what they leave open, and the sentences of document 02. Four statements here, since one may compute
--- only so much, and a fifth, of the long texts, in `theorems`.
+-- others in a second; beside them what they leave open, and the sentences of document 02. Five statements here, since one may compute
+-- only so much, and a sixth, of the long texts, in `theorems`.
 use Prim.Native.Nat.{ℕ, _+_}
+use Prim.Native.String.{String}
 use mathlib.Core.Path.{_≡_, refl}
 use mathlib.Core.Bool.{Bool, true, false}
 use mathlib.Core.List.{List, [], _∷_, _++_, map}
@@ -10,20 +11,20 @@ use lib.Dec.{eqb}
 use lib.ListN.{length, take, replicate}
 use Rattle.bmap.specs.Plain.{any, all, those, flat, numbers, text}
 use Rattle.bmap.specs.Limits.{beginsSize, reportInput}
-use Rattle.bmap.specs.Number.{Valued, value, no-value, bounded, operate, signedWord}
+use Rattle.bmap.specs.Number.{Valued, value, no-value, bounded, operate, apart, signedWord}
 use Rattle.bmap.specs.Tree.{Expr, Con, constant, fluent, two, one, reified, compared, joined, negated, occurs, always, lookBack, namedE, namedC, allowedE, allowedC}
 use Rattle.bmap.specs.Meaning.{History, upTo, evalE, evalC}
 use Rattle.bmap.specs.Code.{Code, expression, constraint, no-code, codeOf, parseE, parseC}
 use Rattle.bmap.specs.Line.{linesOf, startsWith, digit, bytes, framed, decode, digitFor, hex, lineFor}
 use Rattle.bmap.specs.Domain.{Names, occursIn, knownTo, readable}
-use Rattle.bmap.specs.Payload.{maskFits, agentsFit, fluentFits, knowledgeFits, entryFits, executableIn, effectIn, mustIn, lawIn, itemIn}
+use Rattle.bmap.specs.Payload.{maskFits, agentsFit, limitFits, fluentFits, knowledgeFits, entryFits, executableIn, effectIn, mustIn, lawIn, itemIn}
 use Rattle.bmap.specs.Refusal.{Answer, Reading, read, refusedAt, got, refused, orElse, then}
 use Rattle.bmap.specs.Accept.{inOrder, room, fresh, checked, accept, complete, takenFrom}
 use Rattle.bmap.specs.Sheet.{stepOf, stepsFrom, stepsIn, readSheet, rows, sheetOf}
 use Rattle.bmap.specs.Buffer.{Filled, Written}
 use Rattle.bmap.specs.Store.{readDomain, standsAt, frameAt, framesFrom, domainIn, Started, start, Next, nextFrame, writeDomain}
 use Rattle.bmap.specs.Verdict.{Judgement, judgeSheet}
-use Rattle.bmap.specs.Judge.{Judged, accepted, broken, eachFrom, history, holds, carries, placed, permits, permitted, mayOccur, sets, settled, levelAfter, stateAfter, inRange, landed, step, carried, ran, judge}
+use Rattle.bmap.specs.Judge.{Judged, accepted, broken, eachFrom, history, holds, carries, placed, permits, permitted, mayOccur, sets, settled, levelAfter, stateAfter, fits, landed, step, carried, ran, judge}
 use Rattle.bmap.specs.Session.{enter, strike, amend, edited, replayed, standingSheet, edit, undo, redo, verdict, Call, editing, undoing, redoing, Reply, done, turn, after, replies, loggedAll, layout, Changed, openSession}
 use Rattle.bmap.specs.Supplement.{replacementOf, inForceFrom, replaced, replacementIn, supplementFrom, readSupplement, supplementIn, judgeUnder, inDomain, inSupplement, Part, lawParts, replacementPart, lawInForce}
 use Rattle.bmap.specs.Laying.{byNumber, ordered, laid, bytesOf, bothLaid, laySupplements, orderSupplement}
@@ -1033,22 +1034,204 @@ lookBacks =
     ∷ record { Of = Written; left = writeDomain (161 ∷ 1 ∷ 1 ∷ 162 ∷ 6 ∷ 0 ∷ 0 ∷ 0 ∷ 9 ∷ 0 ∷ 1 ∷ 164 ∷ 3 ∷ 1 ∷ 0 ∷ 1 ∷ 165 ∷ 6 ∷ 0 ∷ 38 ∷ 43 ∷ 42 ∷ 44 ∷ 42 ∷ []) (replicate 60 7); right = record { answer = got 52; buffer = text "A10101\nA206000000090001\nA403010001\nA50600262B2A2C2A\n" ++ replicate 8 7 } }
     ∷ []
 
+-- K6: one pool of 200 to 320 that starts at 300 and may change by 14 in one step, with two entries of one agent that may always occur
+abbrev bank : List ℕ
+bank = text "A10101\nA20800C80140012C000E\nA403010001\nA403020001\nA502002A\nA502012A\n"
+
+-- one fluent, and one action, which sets it to a value
+abbrev goesTo : String → String → String → Case
+goesTo line level shown = prints (text "A10101\n" ++ text line ++ text "\nA403010001\nA502002A\nA606002A0010" ++ text level ++ text "\nB10101\n") (text shown)
+
+-- two fluents, and one action, which sets them both
+abbrev bothGoTo : String → String → String → String → String → Case
+bothGoTo line line2 level level2 shown =
+    prints (text "A10101\n" ++ text line ++ text "\n" ++ text line2 ++ text "\nA403010001\nA502002A\nA606002A0010" ++ text level ++ text "\nA606002A0110" ++ text level2 ++ text "\nB10101\n") (text shown)
+
+abbrev refusesFluent : String → Case
+refusesFluent line = prints (text "A10101\n" ++ text line ++ text "\n") (text "REFUSED 4 2\n")
+
+-- a fluent with a limit and one without, the first falling by 15
+abbrev bankStore : List ℕ
+bankStore = 161 ∷ 1 ∷ 1 ∷ 162 ∷ 8 ∷ 0 ∷ 200 ∷ 1 ∷ 64 ∷ 1 ∷ 44 ∷ 0 ∷ 14 ∷ 162 ∷ 6 ∷ 0 ∷ 0 ∷ 0 ∷ 9 ∷ 0 ∷ 1 ∷ 164 ∷ 3 ∷ 1 ∷ 0 ∷ 1 ∷ 165 ∷ 2 ∷ 0 ∷ 42 ∷ 166 ∷ 10 ∷ 0 ∷ 42 ∷ 0 ∷ 19 ∷ 17 ∷ 0 ∷ 0 ∷ 16 ∷ 0 ∷ 15 ∷ 166 ∷ 6 ∷ 0 ∷ 42 ∷ 1 ∷ 16 ∷ 0 ∷ 2 ∷ []
+
+abbrev bankText : List ℕ
+bankText = text "A10101\nA20800C80140012C000E\nA206000000090001\nA403010001\nA502002A\nA60A002A001311000010000F\nA606002A01100002\n"
+
+abbrev pub changes : List Case
+changes =
+    -- "the largest change allowed in one step": a fall of 14 and a rise of 14 are allowed, 15 are "larger than the limit", "in either direction"
+    prints (bank ++ text "A60A002A001311000010000E\nB10101\n") (text "S 0 300\nS 1 286\nACCEPTED\n")
+    ∷ prints (bank ++ text "A60A002A001311000010000F\nB10101\n") (text "S 0 300\nBROKEN 10 1 0\n")
+    ∷ prints (bank ++ text "A60A002A001211000010000E\nB10101\n") (text "S 0 300\nS 1 314\nACCEPTED\n")
+    ∷ prints (bank ++ text "A60A002A001211000010000F\nB10101\n") (text "S 0 300\nBROKEN 10 1 0\n")
+    -- "in one step": from the value before the step, and not from the start; the states before the step are written
+    ∷ prints (bank ++ text "A60A002A001311000010000E\nB10101\nB10101\nB10101\n") (text "S 0 300\nS 1 286\nS 2 272\nS 3 258\nACCEPTED\n")
+    ∷ prints (bank ++ text "A60A002A001311000010000E\nA60A012A001211000010001C\nB10101\nB10102\n") (text "S 0 300\nS 1 286\nBROKEN 10 2 0\n")
+    ∷ prints (bank ++ text "A60A002A001311000010000E\nA606012A0010012C\nB10101\nB10102\nB10101\nB10101\nB10102\n") (text "S 0 300\nS 1 286\nS 2 300\nS 3 286\nS 4 272\nBROKEN 10 5 0\n")
+    -- a fluent that no law sets does not change; nor does one that is set to its own value
+    ∷ prints (bank ++ text "B10100\nB10101\n") (text "S 0 300\nS 1 300\nS 2 300\nACCEPTED\n")
+    ∷ prints (text "A10101\nA20800C80140012C0001\nA403010001\nA403020001\nA502002A\nA502012A\nA606002A0010012C\nB10101\nB10100\n") (text "S 0 300\nS 1 300\nS 2 300\nACCEPTED\n")
+    -- state 0 is the end of no step: whatever the limit, it may be anywhere in the range
+    ∷ prints (text "A10101\nA20880007FFF7FFF0001\nA403010001\nA403020001\nA502002A\nA502012A\n") (text "S 0 32767\nACCEPTED\n")
+    -- "1 to 32,767": both, at the limit and one past it
+    ∷ goesTo "A20880007FFF00000001" "FFFF" "S 0 0\nS 1 -1\nACCEPTED\n"
+    ∷ goesTo "A20880007FFF00000001" "FFFE" "S 0 0\nBROKEN 10 1 0\n"
+    ∷ goesTo "A20880007FFF00000001" "0001" "S 0 0\nS 1 1\nACCEPTED\n"
+    ∷ goesTo "A20880007FFF00000001" "0002" "S 0 0\nBROKEN 10 1 0\n"
+    ∷ goesTo "A20880007FFF00007FFF" "7FFF" "S 0 0\nS 1 32767\nACCEPTED\n"
+    ∷ goesTo "A20880007FFFFFFF7FFF" "7FFF" "S 0 -1\nBROKEN 10 1 0\n"
+    ∷ goesTo "A20880007FFF00007FFF" "8001" "S 0 0\nS 1 -32767\nACCEPTED\n"
+    ∷ goesTo "A20880007FFF00007FFF" "8000" "S 0 0\nBROKEN 10 1 0\n"
+    -- "Two-byte numbers are high byte first": limits of 256 and of 511
+    ∷ goesTo "A208000003E801F40100" "00F4" "S 0 500\nS 1 244\nACCEPTED\n"
+    ∷ goesTo "A208000003E801F40100" "00F3" "S 0 500\nBROKEN 10 1 0\n"
+    ∷ goesTo "A208000007D001F401FF" "03F3" "S 0 500\nS 1 1011\nACCEPTED\n"
+    ∷ goesTo "A208000007D001F401FF" "03F4" "S 0 500\nBROKEN 10 1 0\n"
+    -- 4 "for a limit outside 1 to 32,767"
+    ∷ refusesFluent "A20800C80140012C0000"
+    ∷ refusesFluent "A20800C80140012C8000"
+    ∷ refusesFluent "A20800C80140012C8001"
+    ∷ refusesFluent "A20800C80140012CFFFF"
+    -- 6 or 8 bytes: 7 are 4, and so is every other count
+    ∷ refusesFluent "A200"
+    ∷ refusesFluent "A20500C8014001"
+    ∷ refusesFluent "A20700C80140012C00"
+    ∷ refusesFluent "A20900C80140012C000E00"
+    ∷ refusesFluent "A20A00C80140012C000E0000"
+    ∷ refusesFluent "A21000C80140012C000E000E000E000E000E"
+    ∷ record { Of = List ℕ; left = those (λ n. fluentFits (take n (0 ∷ 0 ∷ 0 ∷ 9 ∷ 0 ∷ 1 ∷ 0 ∷ 14 ∷ replicate 112 0))) (numbers 0 121); right = 6 ∷ 8 ∷ [] }
+    -- of 8 bytes too "lowest ≤ start ≤ highest"
+    ∷ refusesFluent "A20800C8014000C7000E"
+    ∷ refusesFluent "A20800C801400141000E"
+    ∷ prints (text "A10101\nA208012C012C012C000E\nA403010001\nA502002A\n") (text "S 0 300\nACCEPTED\n")
+    -- "line by line 1, 2, 3, 5, 4": a 33rd, and one after an A3, before their limit
+    ∷ prints (text "A10101\n" ++ flat (replicate 32 (text "A2080000000900010001\n")) ++ text "A2080000000900010000\n") (text "REFUSED 5 34\n")
+    ∷ prints (text "A10101\nA2080000000900010001\nA303000001\nA2080000000900010000\n") (text "REFUSED 3 4\n")
+    -- "frames of 6 bytes stay valid and mean no such limit": the widest change that there is
+    ∷ goesTo "A20680007FFF8000" "7FFF" "S 0 -32768\nS 1 32767\nACCEPTED\n"
+    ∷ goesTo "A20680007FFF7FFF" "8000" "S 0 32767\nS 1 -32768\nACCEPTED\n"
+    -- where there is a limit it is a change of 65,535, larger than any: not of 1, as 16 bits would have it
+    ∷ goesTo "A20880007FFF80000001" "7FFF" "S 0 -32768\nBROKEN 10 1 0\n"
+    ∷ goesTo "A20880007FFF80000002" "7FFF" "S 0 -32768\nBROKEN 10 1 0\n"
+    ∷ goesTo "A20880007FFF80007FFF" "7FFF" "S 0 -32768\nBROKEN 10 1 0\n"
+    ∷ goesTo "A20880007FFF7FFF0001" "8000" "S 0 32767\nBROKEN 10 1 0\n"
+    ∷ goesTo "A20880007FFF7FFF0002" "8000" "S 0 32767\nBROKEN 10 1 0\n"
+    ∷ goesTo "A20880007FFF7FFF7FFF" "8000" "S 0 32767\nBROKEN 10 1 0\n"
+    ∷ record { Of = List ℕ; left = apart (negsuc 32_767) (pos 32_767) ∷ apart (pos 32_767) (negsuc 32_767) ∷ apart (negsuc 4) (pos 0) ∷ apart (pos 3) (pos 3) ∷ []; right = 65_535 ∷ 65_535 ∷ 5 ∷ 0 ∷ [] }
+    -- 32,768, which 16 bits would make a fall; and 32,767, the limit
+    ∷ goesTo "A20880007FFFC0007FFF" "4000" "S 0 -16384\nBROKEN 10 1 0\n"
+    ∷ goesTo "A20880007FFFC0017FFF" "4000" "S 0 -16383\nS 1 16384\nACCEPTED\n"
+    -- below 0, and across it
+    ∷ goesTo "A208FF0000FFFFF6000A" "0000" "S 0 -10\nS 1 0\nACCEPTED\n"
+    ∷ goesTo "A208FF0000FFFFF6000A" "0001" "S 0 -10\nBROKEN 10 1 0\n"
+    ∷ goesTo "A208FF0000FFFFF6000A" "FFEC" "S 0 -10\nS 1 -20\nACCEPTED\n"
+    ∷ goesTo "A208FF0000FFFFF6000A" "FFEB" "S 0 -10\nBROKEN 10 1 0\n"
+    -- "After the range check of a fluent": out of its range and too fast, below and above; values beyond 16 bits; at its lowest, too fast alone
+    ∷ prints (bank ++ text "A606002A001000C7\nB10101\n") (text "S 0 300\nBROKEN 5 1 0\n")
+    ∷ prints (bank ++ text "A606002A00100141\nB10101\n") (text "S 0 300\nBROKEN 5 1 0\n")
+    ∷ prints (bank ++ text "A60A002A0014100400107FFF\nB10101\n") (text "S 0 300\nBROKEN 5 1 0\n")
+    ∷ prints (bank ++ text "A60E002A00121410010010010010012C\nB10101\n") (text "S 0 300\nBROKEN 5 1 0\n")
+    ∷ prints (bank ++ text "A606002A001000C8\nB10101\n") (text "S 0 300\nBROKEN 10 1 0\n")
+    -- out of its range, though slowly
+    ∷ goesTo "A20800C801400136000E" "0144" "S 0 310\nBROKEN 5 1 0\n"
+    ∷ goesTo "A20800C8014000CD000E" "00C3" "S 0 205\nBROKEN 5 1 0\n"
+    -- "and before the next fluent": too fast before the next one's range; two fluents of 0 to 100 that start at 50
+    ∷ bothGoTo "A2080000006400320005" "A206000000640032" "0038" "0065" "S 0 50 50\nBROKEN 10 1 0\n"
+    ∷ bothGoTo "A2080000006400320005" "A2080000006400320005" "0038" "0065" "S 0 50 50\nBROKEN 10 1 0\n"
+    ∷ bothGoTo "A2080000006400320005" "A2080000006400320005" "0037" "0065" "S 0 50 50\nBROKEN 5 1 1\n"
+    ∷ bothGoTo "A2080000006400320005" "A2080000006400320005" "0037" "002C" "S 0 50 50\nBROKEN 10 1 1\n"
+    ∷ bothGoTo "A2080000006400320005" "A2080000006400320005" "0037" "002D" "S 0 50 50\nS 1 55 45\nACCEPTED\n"
+    ∷ bothGoTo "A2080000006400320005" "A2080000006400320005" "002C" "0038" "S 0 50 50\nBROKEN 10 1 0\n"
+    ∷ bothGoTo "A2080000006400320005" "A2080000006400320005" "0065" "0038" "S 0 50 50\nBROKEN 5 1 0\n"
+    ∷ bothGoTo "A206000000640032" "A2080000006400320005" "0064" "0038" "S 0 50 50\nBROKEN 10 1 1\n"
+    ∷ bothGoTo "A206000000640032" "A2080000006400320005" "0064" "0037" "S 0 50 50\nS 1 100 55\nACCEPTED\n"
+    ∷ bothGoTo "A2080000006400320005" "A206000000640032" "0037" "0064" "S 0 50 50\nS 1 55 100\nACCEPTED\n"
+    ∷ prints (text "A10101\nA2080000006400320005\nA2080000006400320006\nA403010001\nA502002A\nA606002A01100038\nB10101\n") (text "S 0 50 50\nS 1 50 56\nACCEPTED\n")
+    ∷ prints (text "A10101\nA2080000006400320006\nA2080000006400320005\nA403010001\nA502002A\nA606002A01100038\nB10101\n") (text "S 0 50 50\nBROKEN 10 1 1\n")
+    ∷ prints (text "A10101\nA2080000006400320005\nA206000000640032\nA403010001\nA502002A\nA606002A01100065\nB10101\n") (text "S 0 50 50\nBROKEN 5 1 1\n")
+    -- each against its own level before the step; a third fluent; by number, whatever the order of the laws
+    ∷ bothGoTo "A2080000006400320005" "A2080000006400140005" "0037" "0019" "S 0 50 20\nS 1 55 25\nACCEPTED\n"
+    ∷ bothGoTo "A2080000006400320005" "A2080000006400140005" "0037" "0032" "S 0 50 20\nBROKEN 10 1 1\n"
+    ∷ prints (text "A10101\n" ++ flat (replicate 3 (text "A2080000006400320005\n")) ++ text "A403010001\nA502002A\nA606002A01100038\nA606002A02100065\nB10101\n") (text "S 0 50 50 50\nBROKEN 10 1 1\n")
+    ∷ prints (text "A10101\nA2080000006400320005\nA2080000006400320005\nA403010001\nA502002A\nA606002A01100065\nA606002A00100038\nB10101\n") (text "S 0 50 50\nBROKEN 10 1 0\n")
+    -- fluents of both lengths in turn, the last of 32 too fast, and not
+    ∷ prints (text "A10101\n" ++ flat (replicate 15 (text "A2080000000900010002\nA206000000090001\n")) ++ text "A206000000090001\nA2080000000900010002\nA403010001\nA502002A\nA606002A1E100009\nA606002A1F100004\nB10101\n") (text "S 0 1 1 1 1 1 1 1 1 1 1 1 1 1 1 1 1 1 1 1 1 1 1 1 1 1 1 1 1 1 1 1 1\nBROKEN 10 1 31\n")
+    ∷ prints (text "A10101\n" ++ flat (replicate 15 (text "A2080000000900010002\nA206000000090001\n")) ++ text "A206000000090001\nA2080000000900010002\nA403010001\nA502002A\nA606002A1E100009\nA606002A1F100003\nB10101\n") (text "S 0 1 1 1 1 1 1 1 1 1 1 1 1 1 1 1 1 1 1 1 1 1 1 1 1 1 1 1 1 1 1 1 1\nS 1 1 1 1 1 1 1 1 1 1 1 1 1 1 1 1 1 1 1 1 1 1 1 1 1 1 1 1 1 1 1 9 3\nACCEPTED\n")
+    -- two laws that set the same level: one change
+    ∷ prints (bank ++ text "A60A002A001311000010000E\nA606002A0010011E\nB10101\n") (text "S 0 300\nS 1 286\nACCEPTED\n")
+    ∷ prints (bank ++ text "A60A002A001311000010000F\nA606002A0010011D\nB10101\n") (text "S 0 300\nBROKEN 10 1 0\n")
+    -- check 4 before it: a differing value; 1 by 0; a number beyond the range
+    ∷ prints (bank ++ text "A606002A001000FA\nA606002A001000FB\nB10101\n") (text "S 0 300\nBROKEN 4 1 3\n")
+    ∷ prints (text "A10101\nA2080000006400320005\nA206000000640032\nA403010001\nA502002A\nA606002A00100038\nA60A002A0115100001100000\nB10101\n") (text "S 0 50 50\nBROKEN 7 1 2\n")
+    ∷ prints (text "A10101\nA2080000006400320005\nA206000000640032\nA403010001\nA502002A\nA606002A00100038\nA60E002A0114107FFF14107FFF107FFF\nB10101\n") (text "S 0 50 50\nBROKEN 9 1 2\n")
+    -- checks 1 to 3 before it
+    ∷ prints (text "A10102\nA20800C80140012C000E\nA403010001\nA502002A\nA606002A001000FA\nB1020109\n") (text "S 0 300\nBROKEN 1 1 1\n")
+    ∷ prints (text "A10101\nA20800C80140012C000E\nA403010001\nA50300282A\nA606002A001000FA\nB10101\n") (text "S 0 300\nBROKEN 2 1 0\n")
+    ∷ prints (bank ++ text "A606002A001000FA\nA802282A\nB10101\n") (text "S 0 300\nBROKEN 3 1 3\n")
+    -- and before check 6: a static law that is false, or without value, on the new state; and before the goals; a change that is allowed leaves check 6 to be asked
+    ∷ prints (bank ++ text "A606002A001000FA\nA7072011000010012C\nB10101\n") (text "S 0 300\nBROKEN 10 1 0\n")
+    ∷ prints (bank ++ text "A606002A001000FA\nA70F2015100001131100001000FA100000\nB10101\n") (text "S 0 300\nBROKEN 10 1 0\n")
+    ∷ prints (bank ++ text "A606002A001000FA\nA902282A\nB10101\n") (text "S 0 300\nBROKEN 10 1 0\n")
+    ∷ prints (bank ++ text "A60A002A001311000010000E\nA70725110000100120\nB10101\n") (text "S 0 300\nBROKEN 6 1 3\n")
+    -- a static law on state 0, step 0, before any step
+    ∷ prints (bank ++ text "A606002A001000FA\nA702282A\nB10101\n") (text "BROKEN 6 0 3\n")
+    -- domain P, where its pool may change by 14, or by 13
+    ∷ prints (text "A10102\nA20800C80140012C000E\nA303000003\nA403010001\nA403020002\nA50800241100001000DC\nA50801241100001000DC\nA60A002A001311000010000E\nA60A012A0013110000100006\nA90725110000100118\nB1020100\nB1020002\n") (text "S 0 300\nS 1 286\nS 2 280\nACCEPTED\n")
+    ∷ prints (text "A10102\nA20800C80140012C000D\nA303000003\nA403010001\nA403020002\nA50800241100001000DC\nA50801241100001000DC\nA60A002A001311000010000E\nA60A012A0013110000100006\nA90725110000100118\nB1020002\nB1020100\n") (text "S 0 300\nS 1 294\nBROKEN 10 2 0\n")
+    -- under a supplement: the law in force is too fast, or no longer
+    ∷ lowPrints (bank ++ text "A606002A0010012B\nAF0802A6002A001000FA\nB10101\n") (text "S 0 300\nBROKEN 10 1 0\n")
+    ∷ lowPrints (bank ++ text "A606002A001000FA\nAF0802A6002A0010012B\nB10101\n") (text "S 0 300\nS 1 299\nACCEPTED\n")
+    -- a supplement replaces laws alone: an A2 is none
+    ∷ lowPrints (bank ++ text "A606002A0010012B\nAF0A00A200C80140012C7FFF\nB10101\n") (text "REFUSED 20 8\n")
+    -- in a report it is a broken sheet
+    ∷ reports (bank ++ text "A60A002A001311000010000E\nA60A012A001311000010000F\nB000\nB10101\nB000\nB10101\nB10102\n") (text "SHEETS 1 1\nF 0 286 300 586 2\n")
+    -- the last of 64 steps: 63 of 1, and one of 2
+    ∷ prints (text "A10101\nA2080000006400000001\nA403010001\nA403020001\nA502002A\nA502012A\nA60A002A0012110000100001\nA60A012A0012110000100002\n" ++ flat (replicate 63 (text "B10101\n")) ++ text "B10102\n") (text "S 0 0\nS 1 1\nS 2 2\nS 3 3\nS 4 4\nS 5 5\nS 6 6\nS 7 7\nS 8 8\nS 9 9\nS 10 10\nS 11 11\nS 12 12\nS 13 13\nS 14 14\nS 15 15\nS 16 16\nS 17 17\nS 18 18\nS 19 19\nS 20 20\nS 21 21\nS 22 22\nS 23 23\nS 24 24\nS 25 25\nS 26 26\nS 27 27\nS 28 28\nS 29 29\nS 30 30\nS 31 31\nS 32 32\nS 33 33\nS 34 34\nS 35 35\nS 36 36\nS 37 37\nS 38 38\nS 39 39\nS 40 40\nS 41 41\nS 42 42\nS 43 43\nS 44 44\nS 45 45\nS 46 46\nS 47 47\nS 48 48\nS 49 49\nS 50 50\nS 51 51\nS 52 52\nS 53 53\nS 54 54\nS 55 55\nS 56 56\nS 57 57\nS 58 58\nS 59 59\nS 60 60\nS 61 61\nS 62 62\nS 63 63\nBROKEN 10 64 0\n")
+    -- accepted lines of either length: stored as they are, written again as they were, handed out frame by frame
+    ∷ record { Of = Filled; left = readDomain bankText (replicate 36_000 7); right = record { answer = read 50; buffer = bankStore ++ replicate 35_950 0 } }
+    ∷ record { Of = Written; left = writeDomain bankStore (replicate 109 7); right = record { answer = got 107; buffer = bankText ++ (7 ∷ 7 ∷ []) } }
+    ∷ record { Of = Next; left = nextFrame (record { store = bankStore; at = 3 }); right = record { part = 162 ∷ 8 ∷ 0 ∷ 200 ∷ 1 ∷ 64 ∷ 1 ∷ 44 ∷ 0 ∷ 14 ∷ []; at = 13 } }
+    ∷ record { Of = Next; left = nextFrame (record { store = bankStore; at = 13 }); right = record { part = 162 ∷ 6 ∷ 0 ∷ 0 ∷ 0 ∷ 9 ∷ 0 ∷ 1 ∷ []; at = 21 } }
+    -- a store with a limit of 0 or of 32,768, or with an A2 of 7 bytes, is no accepted one
+    ∷ record { Of = Written; left = writeDomain (161 ∷ 1 ∷ 1 ∷ 162 ∷ 8 ∷ 0 ∷ 200 ∷ 1 ∷ 64 ∷ 1 ∷ 44 ∷ 0 ∷ 0 ∷ 164 ∷ 3 ∷ 1 ∷ 0 ∷ 1 ∷ 165 ∷ 2 ∷ 0 ∷ 42 ∷ []) []; right = record { answer = refused 15; buffer = [] } }
+    ∷ record { Of = Written; left = writeDomain (161 ∷ 1 ∷ 1 ∷ 162 ∷ 8 ∷ 0 ∷ 200 ∷ 1 ∷ 64 ∷ 1 ∷ 44 ∷ 128 ∷ 0 ∷ 164 ∷ 3 ∷ 1 ∷ 0 ∷ 1 ∷ 165 ∷ 2 ∷ 0 ∷ 42 ∷ []) []; right = record { answer = refused 15; buffer = [] } }
+    ∷ record { Of = Written; left = writeDomain (161 ∷ 1 ∷ 1 ∷ 162 ∷ 7 ∷ 0 ∷ 200 ∷ 1 ∷ 64 ∷ 1 ∷ 44 ∷ 0 ∷ 164 ∷ 3 ∷ 1 ∷ 0 ∷ 1 ∷ 165 ∷ 2 ∷ 0 ∷ 42 ∷ []) []; right = record { answer = refused 15; buffer = [] } }
+    -- kind 10 writes the states before the step, and nothing after them
+    ∷ record { Of = Judgement; left = judgeSheet bankStore (1 ∷ []) (replicate 2_080 (pos 7)); right = record { answer = got (broken 10 1 0); levels = pos 300 ∷ pos 1 ∷ replicate 2_078 (pos 7) } }
+    ∷ record { Of = Judgement; left = judgeSheet bankStore (0 ∷ 1 ∷ 0 ∷ []) (replicate 2_080 (pos 7)); right = record { answer = got (broken 10 2 0); levels = pos 300 ∷ pos 1 ∷ pos 300 ∷ pos 1 ∷ replicate 2_076 (pos 7) } }
+    -- the verdict of a session
+    ∷ record { Of = Judgement; left = verdict (after (editing (enter (0 ∷ [])) ∷ editing (enter (1 ∷ [])) ∷ []) (record { agents = 1; standing = []; undone = [] })) bankStore (replicate 2_080 (pos 7)); right = record { answer = got (broken 10 2 0); levels = pos 300 ∷ pos 1 ∷ pos 300 ∷ pos 1 ∷ replicate 2_076 (pos 7) } }
+    -- what stands in force is found behind an A2 of 8 bytes; under a supplement that makes the fall slower, and under an empty one
+    ∷ record { Of = Answer Part; left = lawInForce bankStore [] 1; right = got (record { stands = inDomain 32; bytes = 0 ∷ 42 ∷ 0 ∷ 19 ∷ 17 ∷ 0 ∷ 0 ∷ 16 ∷ 0 ∷ 15 ∷ [] }) }
+    ∷ record { Of = Judgement; left = judgeUnder bankStore (175 ∷ 12 ∷ 1 ∷ 166 ∷ 0 ∷ 42 ∷ 0 ∷ 19 ∷ 17 ∷ 0 ∷ 0 ∷ 16 ∷ 0 ∷ 14 ∷ []) (1 ∷ []) (replicate 2_080 (pos 7)); right = record { answer = got accepted; levels = pos 300 ∷ pos 1 ∷ pos 286 ∷ pos 2 ∷ replicate 2_076 (pos 7) } }
+    ∷ record { Of = Judgement; left = judgeUnder bankStore [] (1 ∷ []) (replicate 2_080 (pos 7)); right = record { answer = got (broken 10 1 0); levels = pos 300 ∷ pos 1 ∷ replicate 2_078 (pos 7) } }
+    -- the other calls that take a domain take it
+    ∷ record { Of = Started; left = start bankStore; right = record { answer = got tt; place = record { store = bankStore; at = 0 } } }
+    ∷ record { Of = Changed; left = openSession bankStore; right = record { answer = got tt; session = unedited 1 } }
+    ∷ record { Of = Filled; left = readSupplement bankStore (text "AF0C01A6002A001311000010000E\n") lent; right = record { answer = read 14; buffer = (175 ∷ 12 ∷ 1 ∷ 166 ∷ 0 ∷ 42 ∷ 0 ∷ 19 ∷ 17 ∷ 0 ∷ 0 ∷ 16 ∷ 0 ∷ 14 ∷ []) ++ replicate 15_986 0 } }
+    ∷ record { Of = Written; left = laySupplements bankStore [] (175 ∷ 12 ∷ 1 ∷ 166 ∷ 0 ∷ 42 ∷ 0 ∷ 19 ∷ 17 ∷ 0 ∷ 0 ∷ 16 ∷ 0 ∷ 14 ∷ []) lent; right = record { answer = got 14; buffer = (175 ∷ 12 ∷ 1 ∷ 166 ∷ 0 ∷ 42 ∷ 0 ∷ 19 ∷ 17 ∷ 0 ∷ 0 ∷ 16 ∷ 0 ∷ 14 ∷ []) ++ replicate 15_986 0 } }
+    ∷ []
+
 abbrev pub AllHold : List Case → Type 0
 AllHold [] = Unit {0}
 AllHold (c ∷ l) = (c .left ≡ c .right) × AllHold l
 
 pub shown : AllHold starred × AllHold others × AllHold edges × AllHold sessions × AllHold calls × AllHold supplements × AllHold layings
-unfolding p judgedUnder text any all flat numbers bounded signedWord namedE namedC allowedE allowedC evalE evalC codeOf parseE parseC linesOf digit bytes framed decode occursIn knownTo readable maskFits agentsFit fluentFits knowledgeFits entryFits executableIn effectIn mustIn lawIn itemIn inOrder room fresh checked accept complete takenFrom stepOf stepsFrom eachFrom history holds carries placed permits permitted mayOccur sets settled levelAfter stateAfter inRange landed step carried ran judge digitsOf spaced stateLines split output edited replayed standingSheet edit undo redo turn after replies loggedAll layout openSession readDomain standsAt frameAt framesFrom domainIn start nextFrame writeDomain stepsIn readSheet rows judgeSheet sheetOf verdict digitFor hex lineFor replacementOf inForceFrom replaced replacementIn supplementFrom readSupplement supplementIn judgeUnder lawParts replacementPart lawInForce lowWater byNumber ordered laid laySupplements orderSupplement startsWith
+unfolding p judgedUnder text any all flat numbers bounded signedWord namedE namedC allowedE allowedC evalE evalC codeOf parseE parseC linesOf digit bytes framed decode occursIn knownTo readable maskFits agentsFit limitFits fluentFits knowledgeFits entryFits executableIn effectIn mustIn lawIn itemIn inOrder room fresh checked accept complete takenFrom stepOf stepsFrom eachFrom history holds carries placed permits permitted mayOccur sets settled levelAfter stateAfter fits landed step carried ran judge digitsOf spaced stateLines split output edited replayed standingSheet edit undo redo turn after replies loggedAll layout openSession readDomain standsAt frameAt framesFrom domainIn start nextFrame writeDomain stepsIn readSheet rows judgeSheet sheetOf verdict digitFor hex lineFor replacementOf inForceFrom replaced replacementIn supplementFrom readSupplement supplementIn judgeUnder lawParts replacementPart lawInForce lowWater byNumber ordered laid laySupplements orderSupplement startsWith
 shown = ((refl, (refl, (refl, (refl, (refl, (refl, (refl, (refl, (refl, (refl, (refl, (refl, (refl, (refl, (refl, (refl, (refl, tt))))))))))))))))), (refl, (refl, (refl, (refl, (refl, (refl, tt)))))), (refl, (refl, (refl, (refl, (refl, (refl, (refl, (refl, (refl, (refl, (refl, (refl, (refl, (refl, (refl, (refl, (refl, (refl, (refl, (refl, (refl, (refl, (refl, (refl, (refl, (refl, (refl, (refl, (refl, (refl, (refl, (refl, (refl, (refl, (refl, (refl, (refl, (refl, (refl, (refl, (refl, (refl, (refl, (refl, (refl, (refl, (refl, (refl, (refl, (refl, (refl, (refl, (refl, (refl, (refl, (refl, (refl, (refl, (refl, tt))))))))))))))))))))))))))))))))))))))))))))))))))))))))))), (refl, (refl, (refl, (refl, (refl, (refl, (refl, (refl, (refl, (refl, tt)))))))))), (refl, (refl, (refl, (refl, (refl, (refl, (refl, (refl, (refl, (refl, (refl, (refl, (refl, tt))))))))))))), (refl, (refl, (refl, (refl, (refl, (refl, (refl, (refl, (refl, (refl, (refl, (refl, (refl, (refl, (refl, (refl, (refl, (refl, (refl, (refl, (refl, (refl, (refl, (refl, (refl, (refl, (refl, (refl, (refl, (refl, (refl, (refl, (refl, (refl, (refl, (refl, (refl, (refl, (refl, (refl, (refl, (refl, (refl, (refl, (refl, (refl, (refl, (refl, (refl, (refl, (refl, (refl, (refl, (refl, (refl, (refl, (refl, (refl, (refl, (refl, (refl, tt))))))))))))))))))))))))))))))))))))))))))))))))))))))))))))), (refl, (refl, (refl, (refl, (refl, (refl, (refl, (refl, (refl, (refl, (refl, (refl, (refl, (refl, (refl, (refl, (refl, (refl, (refl, (refl, (refl, (refl, (refl, (refl, (refl, (refl, (refl, (refl, (refl, (refl, (refl, (refl, (refl, (refl, (refl, tt))))))))))))))))))))))))))))))))))))
 
 pub mornings-shown : AllHold mornings
-unfolding p text all flat any numbers bounded signedWord namedE namedC allowedE allowedC evalE evalC codeOf parseE parseC linesOf digit bytes framed decode occursIn knownTo readable maskFits agentsFit fluentFits knowledgeFits entryFits executableIn effectIn mustIn lawIn itemIn inOrder room fresh checked accept complete takenFrom stepOf stepsFrom eachFrom history holds carries placed permits permitted mayOccur sets settled levelAfter stateAfter inRange landed step carried ran judge digitsOf spaced startsWith split output replacementOf supplementFrom lowWater those textsOf sheetsFrom lowestOf highestOf sumOf report
+unfolding p text all flat any numbers bounded signedWord namedE namedC allowedE allowedC evalE evalC codeOf parseE parseC linesOf digit bytes framed decode occursIn knownTo readable maskFits agentsFit limitFits fluentFits knowledgeFits entryFits executableIn effectIn mustIn lawIn itemIn inOrder room fresh checked accept complete takenFrom stepOf stepsFrom eachFrom history holds carries placed permits permitted mayOccur sets settled levelAfter stateAfter fits landed step carried ran judge digitsOf spaced startsWith split output replacementOf supplementFrom lowWater those textsOf sheetsFrom lowestOf highestOf sumOf report
 mornings-shown = (refl, (refl, (refl, (refl, (refl, (refl, (refl, (refl, (refl, (refl, (refl, (refl, (refl, (refl, (refl, (refl, (refl, (refl, (refl, (refl, (refl, (refl, (refl, (refl, (refl, (refl, (refl, (refl, (refl, (refl, (refl, (refl, (refl, (refl, (refl, (refl, (refl, (refl, (refl, (refl, (refl, tt)))))))))))))))))))))))))))))))))))))))))
 
 pub values-shown : AllHold troubles × AllHold divisions
-unfolding text all flat any numbers bounded signedWord namedE namedC allowedE allowedC evalE evalC codeOf parseE parseC linesOf digit bytes framed decode occursIn knownTo readable maskFits agentsFit fluentFits knowledgeFits entryFits executableIn effectIn mustIn lawIn itemIn inOrder room fresh checked accept complete takenFrom stepOf stepsFrom eachFrom history holds carries placed permits permitted mayOccur sets settled levelAfter stateAfter inRange landed step carried ran judge digitsOf spaced startsWith split output replacementOf supplementFrom lowWater those textsOf sheetsFrom lowestOf highestOf sumOf report stateLines inForceFrom replaced replacementIn standsAt frameAt framesFrom domainIn edited replayed standingSheet verdict
+unfolding text all flat any numbers bounded signedWord namedE namedC allowedE allowedC evalE evalC codeOf parseE parseC linesOf digit bytes framed decode occursIn knownTo readable maskFits agentsFit limitFits fluentFits knowledgeFits entryFits executableIn effectIn mustIn lawIn itemIn inOrder room fresh checked accept complete takenFrom stepOf stepsFrom eachFrom history holds carries placed permits permitted mayOccur sets settled levelAfter stateAfter fits landed step carried ran judge digitsOf spaced startsWith split output replacementOf supplementFrom lowWater those textsOf sheetsFrom lowestOf highestOf sumOf report stateLines inForceFrom replaced replacementIn standsAt frameAt framesFrom domainIn edited replayed standingSheet verdict
 values-shown = ((refl, (refl, (refl, (refl, (refl, (refl, (refl, (refl, (refl, (refl, (refl, (refl, (refl, (refl, (refl, (refl, (refl, (refl, (refl, (refl, (refl, (refl, (refl, (refl, (refl, (refl, (refl, (refl, (refl, (refl, (refl, (refl, (refl, (refl, (refl, (refl, (refl, (refl, (refl, (refl, (refl, (refl, (refl, (refl, (refl, (refl, (refl, (refl, (refl, (refl, (refl, (refl, (refl, (refl, (refl, (refl, (refl, (refl, (refl, (refl, (refl, (refl, (refl, (refl, (refl, (refl, (refl, (refl, (refl, (refl, (refl, (refl, (refl, (refl, (refl, (refl, (refl, tt))))))))))))))))))))))))))))))))))))))))))))))))))))))))))))))))))))))))))))), (refl, (refl, (refl, (refl, (refl, (refl, (refl, (refl, (refl, (refl, (refl, (refl, (refl, (refl, (refl, (refl, (refl, (refl, (refl, (refl, (refl, (refl, (refl, (refl, (refl, (refl, (refl, (refl, (refl, (refl, (refl, (refl, (refl, (refl, (refl, (refl, (refl, (refl, (refl, (refl, (refl, (refl, (refl, (refl, (refl, (refl, (refl, (refl, (refl, (refl, (refl, tt))))))))))))))))))))))))))))))))))))))))))))))))))))
 
 pub look-backs-shown : AllHold lookBacks
-unfolding text all flat any numbers bounded signedWord namedE namedC allowedE allowedC upTo evalE evalC codeOf parseE parseC linesOf digit bytes framed decode occursIn knownTo readable maskFits agentsFit fluentFits knowledgeFits entryFits executableIn effectIn mustIn lawIn itemIn inOrder room fresh checked accept complete takenFrom stepOf stepsFrom eachFrom history holds carries placed permits permitted mayOccur sets settled levelAfter stateAfter inRange landed step carried ran judge digitsOf spaced startsWith split output replacementOf supplementFrom lowWater those textsOf sheetsFrom lowestOf highestOf sumOf report stateLines inForceFrom replaced replacementIn judgedUnder writeDomain standsAt frameAt framesFrom domainIn digitFor hex lineFor
+unfolding text all flat any numbers bounded signedWord namedE namedC allowedE allowedC upTo evalE evalC codeOf parseE parseC linesOf digit bytes framed decode occursIn knownTo readable maskFits agentsFit limitFits fluentFits knowledgeFits entryFits executableIn effectIn mustIn lawIn itemIn inOrder room fresh checked accept complete takenFrom stepOf stepsFrom eachFrom history holds carries placed permits permitted mayOccur sets settled levelAfter stateAfter fits landed step carried ran judge digitsOf spaced startsWith split output replacementOf supplementFrom lowWater those textsOf sheetsFrom lowestOf highestOf sumOf report stateLines inForceFrom replaced replacementIn judgedUnder writeDomain standsAt frameAt framesFrom domainIn digitFor hex lineFor
 look-backs-shown = (refl, (refl, (refl, (refl, (refl, (refl, (refl, (refl, (refl, (refl, (refl, (refl, (refl, (refl, (refl, (refl, (refl, (refl, (refl, (refl, (refl, (refl, (refl, (refl, (refl, (refl, (refl, (refl, (refl, (refl, (refl, (refl, (refl, (refl, (refl, (refl, (refl, (refl, (refl, (refl, (refl, (refl, (refl, (refl, (refl, (refl, (refl, (refl, (refl, (refl, (refl, (refl, (refl, (refl, (refl, (refl, (refl, (refl, (refl, (refl, (refl, (refl, (refl, (refl, (refl, (refl, (refl, (refl, (refl, (refl, (refl, (refl, (refl, (refl, (refl, (refl, (refl, (refl, (refl, (refl, (refl, (refl, (refl, (refl, (refl, (refl, (refl, (refl, (refl, (refl, (refl, (refl, (refl, (refl, (refl, (refl, (refl, (refl, (refl, (refl, (refl, (refl, (refl, (refl, (refl, (refl, (refl, (refl, (refl, (refl, (refl, (refl, (refl, (refl, (refl, tt)))))))))))))))))))))))))))))))))))))))))))))))))))))))))))))))))))))))))))))))))))))))))))))))))))))))))))))))))))
+
+pub changes-shown : AllHold changes
+unfolding p judgedUnder text any all flat numbers bounded signedWord namedE namedC allowedE allowedC evalE evalC codeOf parseE parseC linesOf digit bytes framed decode occursIn knownTo readable maskFits agentsFit limitFits fluentFits knowledgeFits entryFits executableIn effectIn mustIn lawIn itemIn inOrder room fresh checked accept complete takenFrom stepOf stepsFrom eachFrom history holds carries placed permits permitted mayOccur sets settled levelAfter stateAfter fits landed step carried ran judge digitsOf spaced stateLines split output edited replayed standingSheet edit undo redo turn after replies loggedAll layout openSession readDomain standsAt frameAt framesFrom domainIn start nextFrame writeDomain stepsIn readSheet rows judgeSheet sheetOf verdict digitFor hex lineFor replacementOf inForceFrom replaced replacementIn supplementFrom readSupplement supplementIn judgeUnder lawParts replacementPart lawInForce lowWater byNumber ordered laid laySupplements orderSupplement startsWith upTo those textsOf sheetsFrom lowestOf highestOf sumOf report
+changes-shown = (refl, (refl, (refl, (refl, (refl, (refl, (refl, (refl, (refl, (refl, (refl, (refl, (refl, (refl, (refl, (refl, (refl, (refl, (refl, (refl, (refl, (refl, (refl, (refl, (refl, (refl, (refl, (refl, (refl, (refl, (refl, (refl, (refl, (refl, (refl, (refl, (refl, (refl, (refl, (refl, (refl, (refl, (refl, (refl, (refl, (refl, (refl, (refl, (refl, (refl, (refl, (refl, (refl, (refl, (refl, (refl, (refl, (refl, (refl, (refl, (refl, (refl, (refl, (refl, (refl, (refl, (refl, (refl, (refl, (refl, (refl, (refl, (refl, (refl, (refl, (refl, (refl, (refl, (refl, (refl, (refl, (refl, (refl, (refl, (refl, (refl, (refl, (refl, (refl, (refl, (refl, (refl, (refl, (refl, (refl, (refl, (refl, (refl, (refl, (refl, (refl, (refl, (refl, (refl, (refl, (refl, (refl, (refl, (refl, (refl, (refl, (refl, (refl, (refl, (refl, (refl, tt))))))))))))))))))))))))))))))))))))))))))))))))))))))))))))))))))))))))))))))))))))))))))))))))))))))))))))))))))))

@@ -12,6 +12,8 @@ pub record Fluent : Type 0 where
   pub lowest : ℤ
   pub highest : ℤ
   pub start : ℤ
+  -- K6: "the largest change allowed in one step"; 0 where there is "no such limit"
+  pub limit : ℕ
 
 pub record Knows : Type 0 where
   pub fluent : ℕ

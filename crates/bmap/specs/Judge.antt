@@ -3,12 +3,12 @@ use Prim.Native.Nat.{ℕ, suc, _-_}
 use mathlib.Core.Bool.{Bool, true, false}
 use mathlib.Core.List.{List, [], _∷_, _++_, map}
 use mathlib.Core.Option.{Option, none, some}
-use lib.Dec.{eqb}
+use lib.Dec.{eqb, leb}
 use lib.IntN.{ℤ, pos}
 use lib.ListN.{length, getD}
 use lib.Signed.{leZ}
 use Rattle.bmap.specs.Plain.{both, either, implies, if-else, any, all, numbers}
-use Rattle.bmap.specs.Number.{Valued, value, no-value, with1, same}
+use Rattle.bmap.specs.Number.{Valued, value, no-value, with1, same, apart}
 use Rattle.bmap.specs.declared.Reason.{Reason}
 use Rattle.bmap.specs.declared.Reason.the-variants.{ZeroDivisor, OutOfRange}
 use Rattle.bmap.specs.Meaning.{History, evalE, evalC}
@@ -144,16 +144,29 @@ settled d h j names n done (l ∷ laws) =
 unfoldable pub stateAfter : Domain → List Setting → State → State
 stateAfter d settings old = map (λ f. levelAfter settings f (getD old f (pos 0))) (numbers 0 (length (d .fluents)))
 
--- 5: "each fluent by number, new value outside its range: kind 5, fluent"
-unfoldable pub inRange : State → ℕ → Fluent → Pass
-inRange new f x = unless 5 f (both (leZ (x .lowest) (getD new f (pos 0))) (leZ (getD new f (pos 0)) (x .highest)))
+-- 5: not "new value outside its range"
+abbrev pub inRange : Fluent → ℤ → Bool
+inRange x new = both (leZ (x .lowest) new) (leZ new (x .highest))
 
--- checks 4 to 6 of the step from state j: the effects, the new state within its ranges, the static laws on it
+-- K6: not "a change larger than the limit in either direction": the change is that from the value before the step to the new one
+abbrev pub slow : ℕ → ℤ → ℤ → Bool
+slow limit old new = either (eqb limit 0) (leb (apart old new) limit)
+
+-- 5: "each fluent by number, new value outside its range: kind 5, fluent"; K6: "After the range check of a fluent and before the next
+-- fluent, a change larger than the limit in either direction is kind 10, fluent"
+unfoldable pub fits : State → State → ℕ → Fluent → Pass
+fits old new f x =
+    next (unless 5 f (inRange x (getD new f (pos 0)))) (λ _.
+    unless 10 f (slow (x .limit) (getD old f (pos 0)) (getD new f (pos 0))))
+
+-- checks 4 to 6 of the step from state j: the effects, the new state within its ranges and no further from state j than allowed, the
+-- static laws on it
 unfoldable pub landed : Domain → List Names → List State → ℕ → Names → Checked State
 landed d sheet states j names =
     next (settled d (history d sheet states) j names 0 [] (d .laws)) (λ settings.
-    let new : State = stateAfter d settings (getD states j []) in
-    next (each (inRange new) (d .fluents)) (λ _.
+    let old : State = getD states j [] in
+    let new : State = stateAfter d settings old in
+    next (each (fits old new) (d .fluents)) (λ _.
     next (allHold static 6 d (history d sheet (states ++ (new ∷ []))) (suc j)) (λ _.
     fine new)))
 

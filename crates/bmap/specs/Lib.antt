@@ -1,4 +1,4 @@
--- Document 01, and of document 02 requests K1 to K4, K7 and K8, as definitions. Read the modules in this order.
+-- Document 01, and of document 02 requests K1 to K4 and K6 to K8, as definitions. Read the modules in this order.
 pub mod Plain
 pub mod Limits
 pub mod Refusal

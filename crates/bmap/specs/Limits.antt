@@ -39,6 +39,10 @@ mostLag = 63
 abbrev pub mostValue : ℕ
 mostValue = 1_000_000_000
 
+-- K6: "the largest change allowed in one step, 1 to 32,767"
+abbrev pub mostChange : ℕ
+mostChange = 32_767
+
 -- "a sheet of at most 64 steps"
 abbrev pub mostSteps : ℕ
 mostSteps = 64
@@ -93,6 +97,7 @@ limitsOf = record {
   payload = mostPayload;
   depth = mostDepth;
   lag = mostLag;
+  change = mostChange;
   store = storeSize;
   levels = levelsSize;
   input = mostInput;

@@ -78,6 +78,10 @@ change Absolute a = bounded (pos (natAbs a))
 abbrev pub same : ℤ → ℤ → Bool
 same a b = both (leZ a b) (leZ b a)
 
+-- K6: how large a change is "in either direction", as a whole number
+abbrev pub apart : ℤ → ℤ → ℕ
+apart a b = natAbs (b -ℤ a)
+
 -- "20 =, 21 ≠, 22 <, 23 ≤, 24 >, 25 ≥"
 abbrev pub compare : Comparison → ℤ → ℤ → Bool
 compare Equal a b = same a b

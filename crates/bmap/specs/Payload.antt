@@ -7,8 +7,8 @@ use lib.Dec.{eqb, leb, ltb}
 use lib.ListN.{length, getD, drop}
 use lib.IntN.{ℤ}
 use lib.Signed.{leZ}
-use Rattle.bmap.specs.Plain.{both, if-else}
-use Rattle.bmap.specs.Limits.{mostAgents, mostDepth}
+use Rattle.bmap.specs.Plain.{both, either, if-else}
+use Rattle.bmap.specs.Limits.{mostAgents, mostDepth, mostChange}
 use Rattle.bmap.specs.Line.{agentsKind, fluentKind, knowledgeKind, entryKind, executableKind, effectKind, staticKind, concurrencyKind, goalKind}
 use Rattle.bmap.specs.Number.{word, signedWord}
 use Rattle.bmap.specs.Tree.{Expr, Con, allowedE, allowedC}
@@ -34,9 +34,10 @@ wordAt p i = word (byte p i) (byte p (i + 1))
 abbrev pub valueAt : List ℕ → ℕ → ℤ
 valueAt p i = signedWord (byte p i) (byte p (i + 1))
 
--- "fluent: lowest, highest, start value (2 bytes each)"
+-- "fluent: lowest, highest, start value (2 bytes each)"; K6: "8 payload bytes, the last two being the largest change allowed in one
+-- step". "frames of 6 bytes … mean no such limit": bytes that are not there are 0, and so is then the limit
 abbrev pub fluentIn : List ℕ → Fluent
-fluentIn p = record { lowest = valueAt p 0; highest = valueAt p 2; start = valueAt p 4 }
+fluentIn p = record { lowest = valueAt p 0; highest = valueAt p 2; start = valueAt p 4; limit = wordAt p 6 }
 
 -- "fluent, mask (2 bytes, not 0): these agents know it"
 abbrev pub knowledgeIn : List ℕ → Knows
@@ -59,9 +60,14 @@ maskFits n mask = both (ltb 0 mask) (ltb mask (2 ^ n .agents))
 unfoldable pub agentsFit : List ℕ → Bool
 agentsFit p = both (eqb (length p) 1) (both (leb 1 (byte p 0)) (leb (byte p 0) mostAgents))
 
+-- K6: "The fluent frame A2 may have 8 payload bytes, the last two being the largest change allowed in one step, 1 to 32,767; frames of
+-- 6 bytes stay valid"; "Refusals: 4 for a limit outside 1 to 32,767"
+unfoldable pub limitFits : List ℕ → Bool
+limitFits p = either (eqb (length p) 6) (both (eqb (length p) 8) (both (leb 1 (wordAt p 6)) (leb (wordAt p 6) mostChange)))
+
 -- "lowest ≤ start ≤ highest"
 unfoldable pub fluentFits : List ℕ → Bool
-fluentFits p = both (eqb (length p) 6) (both (leZ (fluentIn p .lowest) (fluentIn p .start)) (leZ (fluentIn p .start) (fluentIn p .highest)))
+fluentFits p = both (limitFits p) (both (leZ (fluentIn p .lowest) (fluentIn p .start)) (leZ (fluentIn p .start) (fluentIn p .highest)))
 
 unfoldable pub knowledgeFits : Counts → List ℕ → Bool
 knowledgeFits n p = both (eqb (length p) 3) (both (ltb (byte p 0) (n .fluents)) (maskFits n (wordAt p 1)))

@@ -1,28 +1,28 @@
 -- What is to be shown of the definitions: lines round-trip exactly, no text that is written is longer than the limits allow, 17 is exact, a session's sheet and verdict are those of its standing edits, and what document 02 asks for. Each is proved in the crate that it is about.
-use Prim.Native.Nat.{ℕ, _≤_, _<_, _+_, _*_, _/_}
+use Prim.Native.Nat.{ℕ, suc, _≤_, _<_, _+_, _*_, _/_}
 use mathlib.Core.Path.{_≡_}
 use mathlib.Core.Logic.{_↔_, _⊎_}
 use mathlib.Core.Bool.{Bool, true, false}
 use mathlib.Core.List.{List, [], map}
 use mathlib.Core.Option.{none, some}
 use lib.Dec.{T, leb, ltb}
-use lib.IntN.{ℤ, pos, natAbs, _+ℤ_, _*ℤ_}
+use lib.IntN.{ℤ, pos, natAbs, _+ℤ_, _-ℤ_, _*ℤ_}
 use lib.Signed.{nonNeg, leZ}
 use lib.ListN.{length, getD, take, replicate}
 use Rattle.bmap.specs.Plain.{if-else, all, flat, maybe}
-use Rattle.bmap.specs.Limits.{mostAgents, mostFluents, mostKnowledge, mostEntries, mostLaws, mostPayload, mostSteps, storeSize, sheetSize, levelsSize, supplementSize, reportInput}
+use Rattle.bmap.specs.Limits.{mostAgents, mostFluents, mostKnowledge, mostEntries, mostLaws, mostPayload, mostChange, mostSteps, storeSize, sheetSize, levelsSize, supplementSize, reportInput}
 use Rattle.bmap.specs.Number.{Valued, value, no-value, inBounds, bounded, operate}
 use Rattle.bmap.specs.Tree.{Con, lookBack}
 use Rattle.bmap.specs.Meaning.{History, evalC}
 use Rattle.bmap.specs.Refusal.{got, refused, need, then, read}
 use Rattle.bmap.specs.Line.{linesOf, lineSize}
-use Rattle.bmap.specs.Domain.{Domain, Names, Law}
-use Rattle.bmap.specs.Payload.{kindOf, lawIn}
+use Rattle.bmap.specs.Domain.{Domain, Fluent, Names, State, Law}
+use Rattle.bmap.specs.Payload.{fluentIn, fluentFits, kindOf, lawIn}
 use Rattle.bmap.specs.Accept.{countsOf}
 use Rattle.bmap.specs.Buffer.{padded, over}
 use Rattle.bmap.specs.Store.{framesOf, framesIn, reading, readDomain, textOf, writeDomain, domainIn}
 use Rattle.bmap.specs.Sheet.{stepsIn, readSheet, agentsKnown, sheetOf, stepLine, writeSheet}
-use Rattle.bmap.specs.Judge.{judge}
+use Rattle.bmap.specs.Judge.{Judged, unless, inRange, fits, judge}
 use Rattle.bmap.specs.Verdict.{judgement, judgeSheet}
 use Rattle.bmap.specs.Supplement.{Replacement, replaces, replacementOf, replaced, lawNumbered, supplementFrom, readSupplement, supplementIn, judgeUnder, Part, bytesThere, lawParts, noPart, lawInForce}
 use Rattle.bmap.specs.Laying.{ordered, winning, laid, bytesOf, laySupplements, orderSupplement}
@@ -69,9 +69,9 @@ SheetReturns =
     readSheet agents (take n (writeSheet sheet agents text .buffer)) buffer
     ≡ record { answer = read (length sheet / agents); buffer = padded (length buffer) sheet }
 
--- one A1 of 1 byte, and the most A2 of 6, A3 of 3, A4 of 3 and laws of the most bytes that a payload has
+-- one A1 of 1 byte, and the most A2 of 8 (K6), A3 of 3, A4 of 3 and laws of the most bytes that a payload has
 abbrev pub longestDomain : ℕ
-longestDomain = lineSize 1 + mostFluents * lineSize 6 + mostKnowledge * lineSize 3 + mostEntries * lineSize 3 + mostLaws * lineSize mostPayload
+longestDomain = lineSize 1 + mostFluents * lineSize 8 + mostKnowledge * lineSize 3 + mostEntries * lineSize 3 + mostLaws * lineSize mostPayload
 
 -- no text of an accepted domain is longer, so a buffer of that length is never refused by 10: the writer writes, or refuses by 15
 pub record DomainTextFits : Type 0 where
@@ -183,6 +183,26 @@ pub record LooksBack (c : Con) (h : History) (j : ℕ) : Type 0 where
 
 abbrev pub LookBackRead : Type 0
 LookBackRead = (c : Con) (h : History) (j : ℕ) → LooksBack c h j
+
+-- ---- K6
+
+-- of a sheet judged, the level of fluent f in state k
+abbrev pub levelIn : Judged → ℕ → ℕ → ℤ
+levelIn r k f = getD (getD (r .states) k []) f (pos 0)
+
+-- "frames of 6 bytes stay valid and mean no such limit"; "8 payload bytes, the last two being the largest change allowed in one step,
+-- 1 to 32,767"
+abbrev pub LimitIs : List ℕ → Type 0
+LimitIs p = ((length p ≡ 6) × (fluentIn p .limit ≡ 0)) ⊎ ((length p ≡ 8) × ((1 ≤ fluentIn p .limit) × (fluentIn p .limit ≤ mostChange)))
+
+pub record ChangesKept : Type 0 where
+  -- of every A2 that is taken
+  pub lengths : (p : List ℕ) → fluentFits p ≡ true → LimitIs p
+  -- where fluent f has a limit, it changes by no more from any state that a judgement writes to the next, "in either direction"
+  pub steps : (d : Domain) (sheet : List Names) (k f : ℕ) (x : Fluent) → suc k < length (judge d sheet .states) → f < length (d .fluents) → 1 ≤ getD (d .fluents) f x .limit
+      → natAbs (levelIn (judge d sheet) (suc k) f -ℤ levelIn (judge d sheet) k f) ≤ getD (d .fluents) f x .limit
+  -- where it has none, nothing but its range is asked
+  pub unlimited : (old new : State) (f : ℕ) (x : Fluent) → x .limit ≡ 0 → fits old new f x ≡ unless 5 f (inRange x (getD new f (pos 0)))
 
 -- ---- K7
 

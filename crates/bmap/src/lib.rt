@@ -7,6 +7,7 @@ mod refusal;
 mod session;
 
 pub use kind::Kind;
+pub use limits::CHANGE;
 pub use limits::Context;
 pub use limits::Counts;
 pub use limits::DEPTH;

@@ -44,7 +44,7 @@ impl Sheet {
     pub const BYTES: usize = Sheet::STEPS * Counts::AGENTS;
 }
 
-// A frame's payload, the whole frame with its kind and its count, a law's nesting and its lag, at most.
+// A frame's payload, the whole frame with its kind and its count, a law's nesting and its lag, the limit of a fluent's change in one step, at most.
 pub const PAYLOAD: usize = 120;
 
 pub const FRAME: usize = PAYLOAD + 2;
@@ -52,6 +52,8 @@ pub const FRAME: usize = PAYLOAD + 2;
 pub const DEPTH: usize = 16;
 
 pub const LAG: usize = 63;
+
+pub const CHANGE: u16 = 32_767;
 
 // What is lent to be written, at least; what the program takes, at most.
 pub const STORE: usize = 36_000;
@@ -83,6 +85,7 @@ pub struct Limits {
     pub payload: usize,
     pub depth: usize,
     pub lag: usize,
+    pub change: u16,
     pub store: usize,
     pub levels: usize,
     pub input: usize,
@@ -107,6 +110,7 @@ pub fn every_limit() -> Limits
         payload: PAYLOAD,
         depth: DEPTH,
         lag: LAG,
+        change: CHANGE,
         store: STORE,
         levels: LEVELS,
         input: INPUT,

@@ -14,7 +14,7 @@ use mir.Val.{Fits, SFits, hbits, toZ, ofZ}
 use mir.Facts.{sfits-widen, toZ-ofZ, toZ-pos, fits-natAbs}
 use Rattle.bmap.specs.Plain.{both}
 use Rattle.bmap.proofs.PlainLaws.{both-true}
-use Rattle.bmap.specs.Number.{Valued, value, no-value, with1, with2, bounded, unlessZero, takesSign, roundedDown, remaining, operate, change, same, compare, flag, signedWord, bytesOf, bits}
+use Rattle.bmap.specs.Number.{Valued, value, no-value, with1, with2, bounded, unlessZero, takesSign, roundedDown, remaining, operate, change, same, apart, compare, flag, signedWord, bytesOf, bits}
 use Rattle.bmap.specs.declared.Reason.{Reason}
 use Rattle.bmap.specs.declared.Reason.the-variants.{ZeroDivisor, OutOfRange}
 use Rattle.bmap.specs.declared.Operation.{Operation}
@@ -23,6 +23,7 @@ use Rattle.bmap.specs.declared.Single.{Single}
 use Rattle.bmap.specs.declared.Single.the-variants.{Negation, Absolute}
 use Rattle.bmap.specs.declared.Comparison.{Comparison}
 use Rattle.bmap.specs.declared.Comparison.the-variants.{Equal, Unequal, Less, AtMost, Greater, AtLeast}
+use Rattle.number.proofs.BackLaws.{widens16, widened16}
 use Rattle.number.specs.declared.Value.{Value}
 use Rattle.number.specs.declared.Value.the-variants.{Number, NoValue}
 use Rattle.number.specs.declared.Truth.{Truth}
@@ -365,6 +366,33 @@ module _ {z : ℤ} {n : ℕ} (f : SFits w16 z) (e : n ≡ bits (back w16 z)) whe
   unfolding bytesOf
   low-is = rw (e, toZ-ofZ f)
 
+-- ---- two values of 16 bits, their difference in 32
+
+-- of 16 bits, taken to 32
+abbrev pub wider : ℤ → ℤ
+wider z = back w32 (back w16 z)
+
+module _ {a b : ℤ} (f : SFits w16 a) (g : SFits w16 b) where
+  pub rise-fits : SFits w32 (wider b -ℤ wider a)
+  rise-fits = rw (widened16 a (f .sfits), widened16 b (g .sfits)) (record { sfits = omega (arith, mag-sum b (negℤ a), mag-negℤ a) })
+
+  rise-is : back w32 (wider b -ℤ wider a) ≡ b -ℤ a
+  rise-is = toZ-ofZ rise-fits ∙ rw (widened16 a (f .sfits), widened16 b (g .sfits))
+
+  pub fall-fits : SFits w32 (pos 0 -ℤ back w32 (wider b -ℤ wider a))
+  fall-fits = rw (rise-is, +ℤ-idl) (record { sfits = omega (arith, mag-negℤ (b -ℤ a), mag-sum b (negℤ a), mag-negℤ a) })
+
+  module _ {limit : ℕ} (h : Fits w16 limit) where
+    limit-is : toZ w32 limit ≡ pos limit
+    limit-is = toZ-pos w32 {n = limit} (omega (arith, h .fits))
+
+    pub fallen : ltZ (back w32 (wider b -ℤ wider a)) (pos 0) ≡ true
+        → leZ (back w32 (pos 0 -ℤ back w32 (wider b -ℤ wider a))) (toZ w32 limit) ≡ leb (apart a b) limit
+    fallen t = rw (toZ-ofZ fall-fits, rise-is, +ℤ-idl, limit-is, below-zero (b -ℤ a) (rw rise-is at t))
+
+    pub risen : ltZ (back w32 (wider b -ℤ wider a)) (pos 0) ≡ false → leZ (back w32 (wider b -ℤ wider a)) (toZ w32 limit) ≡ leb (apart a b) limit
+    risen t = rw (rise-is, limit-is) (ap (λ (z : ℤ). leZ z (pos limit)) (above-zero (b -ℤ a) (rw rise-is at t)))
+
 -- ---- what a proof's `search` is handed
 
 pub ruleset operators = (wide-fits, sum-fits, difference-fits, product-fits, quotient-fits, remainder-fits, lowered-fits, raised-fits, negation-fits, sum-is, difference-is, product-is, zero-quotient, quotient-is, quotient-lowered, zero-remainder, remainder-is, remainder-raised, negation-is, absolute-below, absolute-above)
@@ -378,5 +406,7 @@ pub ruleset parts = (one-part, no-part, two-parts, no-left, no-right, value-is, 
 pub ruleset bounds = (within, inside, under, over)
 
 pub ruleset words = (missing-fits, word-above, word-below, plain-sign, plain-fits, plain-bits, flipped-fits, flipped-sign, flipped-size, flipped-most, flipped-bits, high-is, low-is)
+
+pub ruleset changes = (widens16, rise-fits, fall-fits, fallen, risen)
 
 pub ruleset signed = (needs, signs, operators, comparisons, parts, bounds, words)

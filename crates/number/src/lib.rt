@@ -1,11 +1,13 @@
-// The operators of the law language on numbers and truths that may have no value, and the two bytes of a value.
+// The operators of the law language on numbers and truths that may have no value, the two bytes of a value, and how far two values
+// are apart.
 // "Everything built on a part without value has none", and "the first trouble found is the one given": the left part's, else
 // the right one's, else the operator's own. Each function answers for all its arguments, and asks nothing.
 // `law` stands on it for its operators, `domain`, `judge`, `answer` and `river_cases` for values and their bytes.
 ghost use mathlib.Core.Bool.{not};
 ghost use mathlib.Core.Path.{_≡_};
+ghost use lib.Dec.{leb};
 ghost use Rattle.bmap.specs.Number.{value, with1, with2, bounded, takesSign, operate, change, compare, join, flag};
-ghost use Rattle.bmap.specs.Number.{signedWord, bytesOf, bits};
+ghost use Rattle.bmap.specs.Number.{apart, signedWord, bytesOf, bits};
 ghost use Rattle.bmap.specs.declared.Operation.the-variants.{Sum, Difference, Product, Quotient, Remainder};
 ghost use Rattle.bmap.specs.declared.Single.the-variants.{Negation, Absolute};
 ghost use Rattle.bmap.specs.declared.Comparison.the-variants.{Equal, Unequal, Less, AtMost, Greater, AtLeast};
@@ -270,6 +272,18 @@ pub fn reified(t: Truth) -> Value
         }
         Truth::NoTruth(why) => Value::NoValue(why),
     }
+}
+
+// K6: whether a change is not "larger than the limit in either direction": in 32 bits, which hold the change between any two values
+// of 16.
+pub fn at_most_apart(old: i16, new: i16, limit: u16) -> bool
+    ensures { λ r. ⌜ r ≡ leb (apart old new) limit ⌝ }
+{
+    let rise = new as i32 - old as i32;
+    if rise < 0 {
+        return -rise <= limit as i32;
+    }
+    rise <= limit as i32
 }
 
 // "Two-byte numbers are high byte first", "values are two's complement". With the sign bit set the number is

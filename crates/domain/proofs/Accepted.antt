@@ -34,7 +34,7 @@ nth f g (a ∷ l) (y ∷ ys) d zero e h = cc
 nth f g (a ∷ l) (y ∷ ys) d (suc i) e h = nth f g l ys d i (cc) (le-of-suc-le-suc h)
 
 noFluent : Fluent
-noFluent = record { lowest = pos 0; highest = pos 0; start = pos 0 }
+noFluent = record { lowest = pos 0; highest = pos 0; start = pos 0; limit = 0 }
 
 noKnowledge : Knows
 noKnowledge = record { fluent = 0; mask = 0 }
@@ -52,9 +52,10 @@ module _ (s : List ℕ) (d : Domain) (places : List ℕ) (w : Whole s d places) 
       let l = d .fluents in
       numbers-all (fluentAt index) noFluent l
       (λ i h.
-      ap (λ (a : ℤ). record { lowest = a; highest = fluentAt index i .highest; start = fluentAt index i .start }) (row-back (λ (x : Fluent). x .lowest) 32 l noFluent i h)
-      ∙ ap (λ (a : ℤ). record { lowest = getD l i noFluent .lowest; highest = a; start = fluentAt index i .start }) (row-back (λ (x : Fluent). x .highest) 32 l noFluent i h)
-      ∙ ap (λ (a : ℤ). record { lowest = getD l i noFluent .lowest; highest = getD l i noFluent .highest; start = a }) (row-back (λ (x : Fluent). x .start) 32 l noFluent i h))
+      ap (λ (a : ℤ). record { lowest = a; highest = fluentAt index i .highest; start = fluentAt index i .start; limit = fluentAt index i .limit }) (row-back (λ (x : Fluent). x .lowest) 32 l noFluent i h)
+      ∙ ap (λ (a : ℤ). record { lowest = getD l i noFluent .lowest; highest = a; start = fluentAt index i .start; limit = fluentAt index i .limit }) (row-back (λ (x : Fluent). x .highest) 32 l noFluent i h)
+      ∙ ap (λ (a : ℤ). record { lowest = getD l i noFluent .lowest; highest = getD l i noFluent .highest; start = a; limit = fluentAt index i .limit }) (row-back (λ (x : Fluent). x .start) 32 l noFluent i h)
+      ∙ ap (λ (a : ℕ). record { lowest = getD l i noFluent .lowest; highest = getD l i noFluent .highest; start = getD l i noFluent .start; limit = a }) (row-back (λ (x : Fluent). x .limit) 32 l noFluent i h))
 
   knowledge-back : map (knowledgeAt index) (numbers 0 (length (d .knowledge))) ≡ d .knowledge
   unfolding indexWith noKnowledge

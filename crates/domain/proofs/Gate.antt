@@ -6,7 +6,6 @@ use mathlib.Core.Path.{_≡_, refl, sym, ap, _∙_}
 use mathlib.Core.Bool.{Bool, true, false}
 use mathlib.Core.List.{List, [], _∷_, _++_, map}
 use lib.Dec.{eqb, leb, ltb}
-use lib.IntN.{ℤ, pos}
 use lib.ListN.{length, getD, set, replicate, length-set}
 use lib.Seq.{getD-set-same, getD-set-other}
 use borrow.Author.Tests.{eqb-true, eqb-false, leb-true, eq-eqb, ne-eqb, le-leb}
@@ -74,10 +73,10 @@ array-with g size z l more x n true a e c m h = ap (λ b. set b n (g x)) e ∙ p
 array-with g size z l more x n false a e c m h = e ∙ ap (λ k. row size z (map g k)) (sym m)
 
 module _ (p : Partial) (f : Frame) (v : Passed (p .latest) (countsOf (p .domain)) (p .domain .entries) f) where
-  pub fluents-on : (g : Fluent → ℤ) (a : List ℤ) → a ≡ row 32 (pos 0) (map g (p .domain .fluents))
-      → if-else (eqb (f .kind) 0xA2) (set a (length (p .domain .fluents)) (g (fluentIn (f .payload)))) a ≡ row 32 (pos 0) (map g (add (v .item) (p .domain) .fluents))
-  fluents-on g a e =
-      array-with g 32 (pos 0) (p .domain .fluents) (add (v .item) (p .domain) .fluents) (fluentIn (f .payload)) (length (p .domain .fluents)) (eqb (f .kind) 0xA2) a e refl
+  pub fluents-on : {A : Type 0} (g : Fluent → A) (z : A) (a : List A) → a ≡ row 32 z (map g (p .domain .fluents))
+      → if-else (eqb (f .kind) 0xA2) (set a (length (p .domain .fluents)) (g (fluentIn (f .payload)))) a ≡ row 32 z (map g (add (v .item) (p .domain) .fluents))
+  fluents-on g z a e =
+      array-with g 32 z (p .domain .fluents) (add (v .item) (p .domain) .fluents) (fluentIn (f .payload)) (length (p .domain .fluents)) (eqb (f .kind) 0xA2) a e refl
       (fluents-with (countsOf (p .domain)) (f .kind) (f .payload) (v .item) (p .domain) (v .case)) (λ q. room-fluents (countsOf (p .domain)) (f .kind) (v .fits) (eqb-true _ _ q))
 
   pub knowledge-on : (g : Knows → ℕ) (a : List ℕ) → a ≡ row 64 0 (map g (p .domain .knowledge))

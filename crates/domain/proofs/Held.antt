@@ -11,14 +11,14 @@ use lib.ListN.{length, getD, set, take, drop, replicate, length-append}
 use Rattle.bmap.specs.Plain.{if-else, maybe}
 use Rattle.bmap.specs.Line.{Frame, stored}
 use Rattle.bmap.specs.Domain.{Domain, Fluent, Knows}
-use Rattle.bmap.specs.Payload.{byte, wordAt, valueAt}
+use Rattle.bmap.specs.Payload.{byte, wordAt, fluentIn}
 use Rattle.bmap.specs.Accept.{Partial, nothing, countsOf, add, room, finished, checked}
 use Rattle.bmap.specs.Store.{frameAt, zeros}
 use Rattle.bmap.specs.declared.limits.Counts.{Counts}
 use Rattle.line.specs.Frame.{frameSizeAt}
 use Rattle.domain.specs.Check.{entriesOf, refusedIn}
 use Rattle.domain.specs.declared.found.Found.{Found}
-use Rattle.domain.specs.Found.{row, counted, completeOn, indexWith, nothingFound, foundOf, foundIn}
+use Rattle.domain.specs.Found.{row, counted, fluentNoted, FluentNoted, completeOn, indexWith, nothingFound, foundOf, foundIn}
 use Rattle.domain.proofs.Rows.{length-mapped}
 use Rattle.domain.proofs.Passed.{Passed, passed}
 use Rattle.domain.proofs.Stands.{here, Stands, stands-first, stands-next, stands-most, with, placesWith, lawThere, accept-refused, accept-passed}
@@ -26,36 +26,39 @@ use Rattle.domain.proofs.Gate.{Gate, gate-first, gate-check, gate-compl
 use Rattle.domain.proofs.FoundLaws.{foundFrom, found-start, found-refused, found-next}
 
 -- the index, but for what the checks ask
-pub record Rest (d : Domain) (places : List ℕ) (lowest highest start : List ℤ) (known knowers laws : List ℕ) : Type 0 where
+pub record Rest (d : Domain) (places : List ℕ) (lowest highest start : List ℤ) (limit known knowers laws : List ℕ) : Type 0 where
   pub low : lowest ≡ row 32 (pos 0) (map (λ (x : Fluent). x .lowest) (d .fluents))
   pub high : highest ≡ row 32 (pos 0) (map (λ (x : Fluent). x .highest) (d .fluents))
   pub first : start ≡ row 32 (pos 0) (map (λ (x : Fluent). x .start) (d .fluents))
+  pub limits : limit ≡ row 32 0 (map (λ (x : Fluent). x .limit) (d .fluents))
   pub knows : known ≡ row 64 0 (map (λ (x : Knows). x .fluent) (d .knowledge))
   pub masks : knowers ≡ row 64 0 (map (λ (x : Knows). x .mask) (d .knowledge))
   pub stand : laws ≡ row 128 0 places
 
-pub rest-first : Rest (nothing .domain) [] (replicate 32 (pos 0)) (replicate 32 (pos 0)) (replicate 32 (pos 0)) (replicate 64 0) (replicate 64 0) (replicate 128 0)
-rest-first = record { low = refl; high = refl; first = refl; knows = refl; masks = refl; stand = refl }
+pub rest-first : Rest (nothing .domain) [] (replicate 32 (pos 0)) (replicate 32 (pos 0)) (replicate 32 (pos 0)) (replicate 32 0) (replicate 64 0) (replicate 64 0) (replicate 128 0)
+rest-first = record { low = refl; high = refl; first = refl; limits = refl; knows = refl; masks = refl; stand = refl }
 
 -- one frame more
 module _ (p : Partial) (f : Frame) (v : Passed (p .latest) (countsOf (p .domain)) (p .domain .entries) f) {n : Counts} (m : n ≡ countsOf (p .domain)) (at : ℕ)
-    {places : List ℕ} {lowest highest start : List ℤ} {known knowers laws : List ℕ} (h : Rest (p .domain) places lowest highest start known knowers laws) (pl : length places ≡ length (p .domain .laws)) where
-  pub rest-next : {lowest′ highest′ start′ : List ℤ} {known′ knowers′ laws′ : List ℕ}
-      → lowest′ ≡ if-else (eqb (f .kind) 0xA2) (set lowest (n .fluents) (valueAt (f .payload) 0)) lowest
-      → highest′ ≡ if-else (eqb (f .kind) 0xA2) (set highest (n .fluents) (valueAt (f .payload) 2)) highest
-      → start′ ≡ if-else (eqb (f .kind) 0xA2) (set start (n .fluents) (valueAt (f .payload) 4)) start
+    {places : List ℕ} {lowest highest start : List ℤ} {limit known knowers laws : List ℕ} (h : Rest (p .domain) places lowest highest start limit known knowers laws) (pl : length places ≡ length (p .domain .laws)) where
+  noted : {A : Type 0} (g : Fluent → A) (z : A) {a : List A} → a ≡ row 32 z (map g (p .domain .fluents))
+      → fluentNoted n (f .kind) (g (fluentIn (f .payload))) a ≡ row 32 z (map g (add (v .item) (p .domain) .fluents))
+  noted g z {a} e = ap (λ (k : Counts). fluentNoted k (f .kind) (g (fluentIn (f .payload))) a) m ∙ fluents-on p f v g z a e
+
+  pub rest-next : {lowest′ highest′ start′ : List ℤ} {limit′ known′ knowers′ laws′ : List ℕ}
+      → FluentNoted n (f .kind) (f .payload) lowest highest start limit lowest′ highest′ start′ limit′
       → known′ ≡ if-else (eqb (f .kind) 0xA3) (set known (n .knowledge) (byte (f .payload) 0)) known
       → knowers′ ≡ if-else (eqb (f .kind) 0xA3) (set knowers (n .knowledge) (wordAt (f .payload) 1)) knowers
       → laws′ ≡ if-else (leb 0xA5 (f .kind)) (set laws (n .laws) at) laws
-      → Rest (add (v .item) (p .domain)) (placesWith places at f) lowest′ highest′ start′ known′ knowers′ laws′
-  rest-next el eh es ek em ep =
-      let mf : n .fluents ≡ length (p .domain .fluents) = ap (λ (m : Counts). m .fluents) m in
+      → Rest (add (v .item) (p .domain)) (placesWith places at f) lowest′ highest′ start′ limit′ known′ knowers′ laws′
+  rest-next fluent ek em ep =
       let mk : n .knowledge ≡ length (p .domain .knowledge) = ap (λ (m : Counts). m .knowledge) m in
       let ml : n .laws ≡ length (p .domain .laws) = ap (λ (m : Counts). m .laws) m in
       record {
-        low = el ∙ ap (λ (k : ℕ). if-else (eqb (f .kind) 0xA2) (set lowest k (valueAt (f .payload) 0)) lowest) mf ∙ fluents-on p f v (λ (x : Fluent). x .lowest) lowest (h .low);
-        high = eh ∙ ap (λ (k : ℕ). if-else (eqb (f .kind) 0xA2) (set highest k (valueAt (f .payload) 2)) highest) mf ∙ fluents-on p f v (λ (x : Fluent). x .highest) highest (h .high);
-        first = es ∙ ap (λ (k : ℕ). if-else (eqb (f .kind) 0xA2) (set start k (valueAt (f .payload) 4)) start) mf ∙ fluents-on p f v (λ (x : Fluent). x .start) start (h .first);
+        low = fluent .low ∙ noted (λ (x : Fluent). x .lowest) (pos 0) (h .low);
+        high = fluent .high ∙ noted (λ (x : Fluent). x .highest) (pos 0) (h .high);
+        first = fluent .first ∙ noted (λ (x : Fluent). x .start) (pos 0) (h .first);
+        limits = fluent .limits ∙ noted (λ (x : Fluent). x .limit) 0 (h .limits);
         knows = ek ∙ ap (λ (k : ℕ). if-else (eqb (f .kind) 0xA3) (set known k (byte (f .payload) 0)) known) mk ∙ knowledge-on p f v (λ (x : Knows). x .fluent) known (h .knows);
         masks = em ∙ ap (λ (k : ℕ). if-else (eqb (f .kind) 0xA3) (set knowers k (wordAt (f .payload) 1)) knowers) mk ∙ knowledge-on p f v (λ (x : Knows). x .mask) knowers (h .masks);
         stand = ep ∙ ap (λ (k : ℕ). if-else (leb 0xA5 (f .kind)) (set laws k at) laws) ml ∙ laws-on p f v places at laws (h .stand) pl;
@@ -72,19 +75,19 @@ laws-counted p f v places at e =
     go true = length-append places (at ∷ []) ∙ ap (λ (n : ℕ). n + 1) e
     go false = e
 
-pub record Held (s : List ℕ) (latest : ℕ) (n : Counts) (lowest highest start : List ℤ) (known knowers names crews laws ready : List ℕ) (at : ℕ) : Type 0 where
+pub record Held (s : List ℕ) (latest : ℕ) (n : Counts) (lowest highest start : List ℤ) (limit known knowers names crews laws ready : List ℕ) (at : ℕ) : Type 0 where
   pub so-far : Partial
   pub places : List ℕ
   pub looks : ℕ
   pub stands : Stands s so-far places at
   pub gate : Gate so-far latest n names crews ready
-  pub rest : Rest (so-far .domain) places lowest highest start known knowers laws
+  pub rest : Rest (so-far .domain) places lowest highest start limit known knowers laws
   pub inside : at ≤ length s
   pub enough : length s < at + looks
   pub run : foundIn s ≡ foundFrom looks so-far places s at
 
 pub held-first : (s : List ℕ)
-    → Held s 0 (countsOf (nothing .domain)) (replicate 32 (pos 0)) (replicate 32 (pos 0)) (replicate 32 (pos 0)) (replicate 64 0) (replicate 64 0) (replicate 64 0) (replicate 64 0)
+    → Held s 0 (countsOf (nothing .domain)) (replicate 32 (pos 0)) (replicate 32 (pos 0)) (replicate 32 (pos 0)) (replicate 32 0) (replicate 64 0) (replicate 64 0) (replicate 64 0) (replicate 64 0)
     (replicate 128 0) (replicate 64 0) 0
 held-first s = record {
   so-far = nothing;
@@ -140,8 +143,8 @@ pub framed : (s : List ℕ) (at size : ℕ) → some size ≡ frameSizeAt s at �
 unfolding frameSizeAt
 framed s at size e = size-some s at size (frameAt s at) refl e
 
-module _ {s : List ℕ} {latest : ℕ} {n : Counts} {lowest highest start : List ℤ} {known knowers names crews laws ready : List ℕ} {at : ℕ}
-    (h : Held s latest n lowest highest start known knowers names crews laws ready at) where
+module _ {s : List ℕ} {latest : ℕ} {n : Counts} {lowest highest start : List ℤ} {limit known knowers names crews laws ready : List ℕ} {at : ℕ}
+    (h : Held s latest n lowest highest start limit known knowers names crews laws ready at) where
   some-look : (looks : ℕ) × (h .looks ≡ suc looks)
   some-look = go (h .looks) refl
     where
@@ -167,11 +170,11 @@ module _ {s : List ℕ} {latest : ℕ} {n : Counts} {lowest highest start : List
     held-missing z q = sym (ends z ∙ rw (sym (gate-complete (h .gate) (h .stands .few .entries)) ∙ sym q))
 
     pub held-done : true ≡ zeros (drop at s) → true ≡ completeOn n ready
-        → _≡_ {A = Found} (record { ok = true; index = record { counts = n; lowest = lowest; highest = highest; start = start; known = known; knowers = knowers; names = names; crews = crews; laws = laws } }) (foundIn s)
+        → _≡_ {A = Found} (record { ok = true; index = record { counts = n; lowest = lowest; highest = highest; start = start; limit = limit; known = known; knowers = knowers; names = names; crews = crews; laws = laws } }) (foundIn s)
     unfolding indexWith
     held-done z q =
         sym (ends z ∙ rw (sym (gate-complete (h .gate) (h .stands .few .entries)) ∙ sym q)
-        (rw (h .gate .counts, h .rest .low, h .rest .high, h .rest .first, h .rest .knows, h .rest .masks, h .gate .named, h .gate .crewed, h .rest .stand)))
+        (rw (h .gate .counts, h .rest .low, h .rest .high, h .rest .first, h .rest .limits, h .rest .knows, h .rest .masks, h .gate .named, h .gate .crewed, h .rest .stand)))
 
   -- ---- a frame
 
@@ -200,10 +203,8 @@ module _ {s : List ℕ} {latest : ℕ} {n : Counts} {lowest highest start : List
       pub held-entry : f .kind ≡ 0xA5 → byte (f .payload) 0 < 64
       held-entry = gate-entry (h .gate) f pass (h .stands .few .entries)
 
-      pub held-next : {next : ℕ} {n′ : Counts} {lowest′ highest′ start′ : List ℤ} {known′ knowers′ names′ crews′ laws′ ready′ : List ℕ}
-          → lowest′ ≡ if-else (eqb (f .kind) 0xA2) (set lowest (n .fluents) (valueAt (f .payload) 0)) lowest
-          → highest′ ≡ if-else (eqb (f .kind) 0xA2) (set highest (n .fluents) (valueAt (f .payload) 2)) highest
-          → start′ ≡ if-else (eqb (f .kind) 0xA2) (set start (n .fluents) (valueAt (f .payload) 4)) start
+      pub held-next : {next : ℕ} {n′ : Counts} {lowest′ highest′ start′ : List ℤ} {limit′ known′ knowers′ names′ crews′ laws′ ready′ : List ℕ}
+          → FluentNoted n (f .kind) (f .payload) lowest highest start limit lowest′ highest′ start′ limit′
           → known′ ≡ if-else (eqb (f .kind) 0xA3) (set known (n .knowledge) (byte (f .payload) 0)) known
           → knowers′ ≡ if-else (eqb (f .kind) 0xA3) (set knowers (n .knowledge) (wordAt (f .payload) 1)) knowers
           → names′ ≡ if-else (eqb (f .kind) 0xA4) (set names (n .entries) (byte (f .payload) 0)) names
@@ -212,8 +213,8 @@ module _ {s : List ℕ} {latest : ℕ} {n : Counts} {lowest highest start : List
           → ready′ ≡ if-else (eqb (f .kind) 0xA5) (set ready (byte (f .payload) 0) 1) ready
           → n′ ≡ counted n (f .kind) (byte (f .payload) 0)
           → next ≡ at + length (stored f)
-          → Held s (f .kind) n′ lowest′ highest′ start′ known′ knowers′ names′ crews′ laws′ ready′ next
-      held-next {next} {n′} {lowest′} {highest′} {start′} {known′} {knowers′} {names′} {crews′} {laws′} {ready′} el eh es ek em ea ec ep er en ex =
+          → Held s (f .kind) n′ lowest′ highest′ start′ limit′ known′ knowers′ names′ crews′ laws′ ready′ next
+      held-next {next} {n′} {lowest′} {highest′} {start′} {limit′} {known′} {knowers′} {names′} {crews′} {laws′} {ready′} fluent ek em ea ec ep er en ex =
           let p = h .so-far in
           let here-is = here s at f e in
           let pl : length (h .places) ≡ length (p .domain .laws)
@@ -224,7 +225,7 @@ module _ {s : List ℕ} {latest : ℕ} {n : Counts} {lowest highest start : List
             looks = some-look .0;
             stands = subst (Stands s (with p f (pass .item)) (placesWith (h .places) at f)) (sym ex) (stands-next s p (h .places) at (h .stands) f here-is pass);
             gate = gate-next (h .gate) f pass (h .stands .few .entries) en ea ec er;
-            rest = rest-next p f pass (h .gate .counts) at (h .rest) pl el eh es ek em ep;
+            rest = rest-next p f pass (h .gate .counts) at (h .rest) pl fluent ek em ep;
             inside = omega (arith, here-is .within);
             enough = omega (arith, h .enough, some-look .1);
             run =

@@ -13,7 +13,7 @@ use lib.Signed.{leZ, mag}
 use mir.Syntax.{w16}
 use mir.Val.{toZ, ofZ}
 use borrow.Author.Tests.{lt-ltb, le-ltb, le-leb, eq-eqb, ne-eqb}
-use Rattle.bmap.specs.Payload.{byte, wordAt, fluentIn, maskFits, agentsFit, fluentFits, knowledgeFits, entryFits}
+use Rattle.bmap.specs.Payload.{byte, wordAt, fluentIn, maskFits, agentsFit, limitFits, fluentFits, knowledgeFits, entryFits}
 use Rattle.bmap.specs.declared.limits.Counts.{Counts}
 use Rattle.number.proofs.BackLaws.{back16}
 
@@ -64,18 +64,37 @@ module _ (p : List ℕ) where
 pub le-back : (x y : ℤ) → mag x < 32768 → mag y < 32768 → leZ (toZ w16 (ofZ w16 x)) (toZ w16 (ofZ w16 y)) ≡ leZ x y
 le-back x y h k = rw (back16 x h, back16 y k)
 
-pub fluent-length : (p : List ℕ) → (length p ≡ 6 → ⊥) → false ≡ fluentFits p
-unfolding fluentFits
-fluent-length p h = simp (ne-eqb (length p) 6 h)
+module _ (p : List ℕ) where
+  pub limit-none : length p ≡ 6 → true ≡ limitFits p
+  unfolding limitFits
+  limit-none six = rw (eq-eqb (length p) 6 six)
 
-module _ (p : List ℕ) (lo hi st : ℤ) (six : length p ≡ 6) (l : lo ≡ fluentIn p .lowest) (h : hi ≡ fluentIn p .highest) (s : st ≡ fluentIn p .start) where
+  module _ (not-six : length p ≡ 6 → ⊥) where
+    pub limit-length : (length p ≡ 8 → ⊥) → false ≡ limitFits p
+    unfolding limitFits
+    limit-length h = rw (ne-eqb (length p) 6 not-six, ne-eqb (length p) 8 h)
+
+    module _ (eight : length p ≡ 8) where
+      pub limit-zero : wordAt p 6 ≡ 0 → false ≡ limitFits p
+      unfolding limitFits
+      limit-zero e = rw (ne-eqb (length p) 6 not-six, eq-eqb (length p) 8 eight, e)
+
+      pub limit-most : (wordAt p 6 ≡ 0 → ⊥) → leb (wordAt p 6) 32_767 ≡ limitFits p
+      unfolding limitFits
+      limit-most e = rw (ne-eqb (length p) 6 not-six, eq-eqb (length p) 8 eight, le-leb 1 (wordAt p 6) (omega arith))
+
+pub limit-unfit : (p : List ℕ) → false ≡ limitFits p → false ≡ fluentFits p
+unfolding fluentFits
+limit-unfit p h = rw (← h)
+
+module _ (p : List ℕ) (lo hi st : ℤ) (limited : true ≡ limitFits p) (l : lo ≡ fluentIn p .lowest) (h : hi ≡ fluentIn p .highest) (s : st ≡ fluentIn p .start) where
   pub fluent-above : true ≡ leZ lo st → leZ st hi ≡ fluentFits p
   unfolding fluentFits
-  fluent-above e = rw (eq-eqb (length p) 6 six, ← l, ← h, ← s, ← e)
+  fluent-above e = rw (← limited, ← l, ← h, ← s, ← e)
 
   pub fluent-below : false ≡ leZ lo st → false ≡ fluentFits p
   unfolding fluentFits
-  fluent-below e = rw (eq-eqb (length p) 6 six, ← l, ← h, ← s, ← e)
+  fluent-below e = rw (← limited, ← l, ← h, ← s, ← e)
 
 -- ---- A3 and A4
 

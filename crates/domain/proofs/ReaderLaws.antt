@@ -13,7 +13,7 @@ use borrow.Author.Tests.{le-leb, lt-leb}
 use Rattle.bmap.specs.Plain.{if-else}
 use Rattle.bmap.specs.Refusal.{numberOf, got, refused, need, read, refusedAt, atLine, afterwards}
 use Rattle.bmap.specs.Line.{Frame, stored}
-use Rattle.bmap.specs.Payload.{byte, wordAt, valueAt}
+use Rattle.bmap.specs.Payload.{byte, wordAt}
 use Rattle.bmap.specs.Accept.{Partial, nothing, countsOf, room, accept, finished, takenFrom, checked}
 use Rattle.bmap.specs.Buffer.{padded}
 use Rattle.bmap.specs.Store.{framesOf, reading, readDomain}
@@ -21,7 +21,7 @@ use Rattle.bmap.specs.declared.limits.Counts.{Counts}
 use Rattle.line.specs.Read.{lineRead, bytesRead}
 use Rattle.line.proofs.Lists.{part-to-end}
 use Rattle.domain.specs.Check.{entriesOf, refusedIn}
-use Rattle.domain.specs.Found.{counted, completeOn, lawPlaces, indexWith, nothingFound}
+use Rattle.domain.specs.Found.{counted, FluentNoted, completeOn, lawPlaces, indexWith, nothingFound}
 use Rattle.bmap.specs.declared.refusal.Refusal.{Refusal}
 use Rattle.domain.specs.declared.reader.ReadFound.{ReadFound}
 use Rattle.domain.specs.declared.reader.ReadStore.{ReadStore}
@@ -35,12 +35,12 @@ use Rattle.domain.proofs.IntoStore.{lent, renewed, Sizes, Decoded, none
 
 -- ---- the lines so far
 
-pub record Reads (text store rest : List ℕ) (latest : ℕ) (n : Counts) (lowest highest start : List ℤ) (known knowers names crews laws ready : List ℕ) (used lines : ℕ) : Type 0 where
+pub record Reads (text store rest : List ℕ) (latest : ℕ) (n : Counts) (lowest highest start : List ℤ) (limit known knowers names crews laws ready : List ℕ) (used lines : ℕ) : Type 0 where
   pub so-far : Partial
   pub places : List ℕ
   pub few : Few (so-far .domain)
   pub gate : Gate so-far latest n names crews ready
-  pub kept : Rest (so-far .domain) places lowest highest start known knowers laws
+  pub kept : Rest (so-far .domain) places lowest highest start limit known knowers laws
   pub of-laws : length places ≡ length (so-far .domain .laws)
   pub used-most : used ≤ 122 * frames (so-far .domain)
   pub lines-most : lines ≤ frames (so-far .domain)
@@ -50,7 +50,7 @@ pub record Reads (text store rest : List ℕ) (latest : ℕ) (n : Counts) (lowes
   pub stand : placesFrom 0 text ≡ places ++ placesFrom used rest
 
 pub reads-first : (text store : List ℕ) → 36_000 ≤ length store
-    → Reads text store text 0 (countsOf (nothing .domain)) (replicate 32 (pos 0)) (replicate 32 (pos 0)) (replicate 32 (pos 0)) (replicate 64 0) (replicate 64 0) (replicate 64 0) (replicate 64 0)
+    → Reads text store text 0 (countsOf (nothing .domain)) (replicate 32 (pos 0)) (replicate 32 (pos 0)) (replicate 32 (pos 0)) (replicate 32 0) (replicate 64 0) (replicate 64 0) (replicate 64 0) (replicate 64 0)
     (replicate 128 0) (replicate 64 0) 0 0
 reads-first text store h = record {
   so-far = nothing;
@@ -67,8 +67,8 @@ reads-first text store h = record {
   stand = refl;
 }
 
-module _ {text store rest : List ℕ} {latest : ℕ} {n : Counts} {lowest highest start : List ℤ} {known knowers names crews laws ready : List ℕ} {used lines : ℕ}
-    (h : Reads text store rest latest n lowest highest start known knowers names crews laws ready used lines) where
+module _ {text store rest : List ℕ} {latest : ℕ} {n : Counts} {lowest highest start : List ℤ} {limit known knowers names crews laws ready : List ℕ} {used lines : ℕ}
+    (h : Reads text store rest latest n lowest highest start limit known knowers names crews laws ready used lines) where
   pub reads-few : n .entries ≤ 64
   reads-few = let e = ap (λ (m : Counts). m .entries) (h .gate .counts) in omega (arith, e, h .few .entries)
 
@@ -93,7 +93,7 @@ module _ {text store rest : List ℕ} {latest : ℕ} {n : Counts} {lowest highes
       ends-as = last ∙ ap (λ b. atLine lines (need b 7 (got (h .so-far .domain))) read) (sym (gate-complete (h .gate) (h .few .entries)) ∙ sym c)
 
     pub reads-done : (p : List ℕ) → true ≡ completeOn n ready
-        → LinesRead text (record { answer = Read used; found = record { ok = true; index = record { counts = n; lowest = lowest; highest = highest; start = start; known = known; knowers = knowers; names = names; crews = crews; laws = laws } } })
+        → LinesRead text (record { answer = Read used; found = record { ok = true; index = record { counts = n; lowest = lowest; highest = highest; start = start; limit = limit; known = known; knowers = knowers; names = names; crews = crews; laws = laws } } })
         (renewed store used p)
     unfolding usedIn indexWith lawPlaces
     reads-done p c =
@@ -103,7 +103,7 @@ module _ {text store rest : List ℕ} {latest : ℕ} {n : Counts} {lowest highes
           front = all-stand so-read e p;
           found =
               sym (ap (foundReading (placesFrom 0 text)) (ends-as true c) ∙ ap (λ l. foundReading l (read (h .so-far .domain))) all
-              ∙ rw (h .gate .counts, h .kept .low, h .kept .high, h .kept .first, h .kept .knows, h .kept .masks, h .gate .named, h .gate .crewed, h .kept .stand));
+              ∙ rw (h .gate .counts, h .kept .low, h .kept .high, h .kept .first, h .kept .limits, h .kept .knows, h .kept .masks, h .gate .named, h .gate .crewed, h .kept .stand));
         }
 
     pub reads-missing : false ≡ completeOn n ready → reading text ≡ refusedAt 7 lines
@@ -164,10 +164,8 @@ module _ {text store rest : List ℕ} {latest : ℕ} {n : Counts} {lowest highes
           go true = sym (append-assoc (h .places) (used ∷ []) _)
           go false = refl
 
-      pub reads-next : {n′ : Counts} {lowest′ highest′ start′ : List ℤ} {known′ knowers′ names′ crews′ laws′ ready′ : List ℕ} → length (renewed store used p) ≡ length store
-          → lowest′ ≡ if-else (eqb (frame .kind) 0xA2) (set lowest (n .fluents) (valueAt (frame .payload) 0)) lowest
-          → highest′ ≡ if-else (eqb (frame .kind) 0xA2) (set highest (n .fluents) (valueAt (frame .payload) 2)) highest
-          → start′ ≡ if-else (eqb (frame .kind) 0xA2) (set start (n .fluents) (valueAt (frame .payload) 4)) start
+      pub reads-next : {n′ : Counts} {lowest′ highest′ start′ : List ℤ} {limit′ known′ knowers′ names′ crews′ laws′ ready′ : List ℕ} → length (renewed store used p) ≡ length store
+          → FluentNoted n (frame .kind) (frame .payload) lowest highest start limit lowest′ highest′ start′ limit′
           → known′ ≡ if-else (eqb (frame .kind) 0xA3) (set known (n .knowledge) (byte (frame .payload) 0)) known
           → knowers′ ≡ if-else (eqb (frame .kind) 0xA3) (set knowers (n .knowledge) (wordAt (frame .payload) 1)) knowers
           → names′ ≡ if-else (eqb (frame .kind) 0xA4) (set names (n .entries) (byte (frame .payload) 0)) names
@@ -175,13 +173,13 @@ module _ {text store rest : List ℕ} {latest : ℕ} {n : Counts} {lowest highes
           → laws′ ≡ if-else (leb 0xA5 (frame .kind)) (set laws (n .laws) used) laws
           → ready′ ≡ if-else (eqb (frame .kind) 0xA5) (set ready (byte (frame .payload) 0) 1) ready
           → n′ ≡ counted n (frame .kind) (byte (frame .payload) 0)
-          → Reads text (renewed store used p) (take (length rest - k) (drop k rest)) (frame .kind) n′ lowest′ highest′ start′ known′ knowers′ names′ crews′ laws′ ready′ (used + size) (lines + 1)
-      reads-next {n′} {lowest′} {highest′} {start′} {known′} {knowers′} {names′} {crews′} {laws′} {ready′} same el eh es ek em ea ec ep er en = record {
+          → Reads text (renewed store used p) (take (length rest - k) (drop k rest)) (frame .kind) n′ lowest′ highest′ start′ limit′ known′ knowers′ names′ crews′ laws′ ready′ (used + size) (lines + 1)
+      reads-next {n′} {lowest′} {highest′} {start′} {limit′} {known′} {knowers′} {names′} {crews′} {laws′} {ready′} same fluent ek em ea ec ep er en = record {
         so-far = with (h .so-far) frame (pass .item);
         places = placesWith (h .places) used frame;
         few = grown .few (h .few);
         gate = gate-next (h .gate) frame pass (h .few .entries) en ea ec er;
-        kept = rest-next (h .so-far) frame pass (h .gate .counts) used (h .kept) (h .of-laws) el eh es ek em ep;
+        kept = rest-next (h .so-far) frame pass (h .gate .counts) used (h .kept) (h .of-laws) fluent ek em ep;
         of-laws = laws-counted (h .so-far) frame pass (h .places) used (h .of-laws);
         used-most = omega (arith, h .used-most, reads-sizes .most, grown .one-more);
         lines-most = omega (arith, h .lines-most, grown .one-more);

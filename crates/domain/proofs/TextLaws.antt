@@ -2,6 +2,7 @@
 use Prim.Native.Nat.{ℕ, zero, suc, _+_, _*_, _≤_}
 use native.Mathlib.Omega.{arith}
 use mathlib.Core.Path.{_≡_, refl, sym, ap, subst, _∙_}
+use mathlib.Core.Logic.{⊎-elim}
 use mathlib.Core.Bool.{Bool, true, false}
 use mathlib.Core.List.{List, [], _∷_, _++_, map}
 use mathlib.Core.Option.{Option, none, some}
@@ -13,14 +14,14 @@ use Rattle.bmap.specs.Limits.{mostPayload}
 use Rattle.bmap.specs.Refusal.{Answer, got, refused, need, then, read, atLine}
 use Rattle.bmap.specs.Line.{Frame, stored, lineFor, lineSize}
 use Rattle.bmap.specs.Domain.{Domain, Entry}
-use Rattle.bmap.specs.Payload.{Item, agents, fluent, knowledge, entry, byte, agentsFit, fluentFits, knowledgeFits, entryFits, fluentIn, knowledgeIn, entryIn, itemIn}
+use Rattle.bmap.specs.Payload.{Item, agents, fluent, knowledge, entry, byte, agentsFit, limitFits, fluentFits, knowledgeFits, entryFits, fluentIn, knowledgeIn, entryIn, itemIn}
 use Rattle.bmap.specs.Accept.{Partial, nothing, countsOf, checked, add, complete, takenFrom}
 use Rattle.bmap.specs.Buffer.{Written}
 use Rattle.bmap.specs.Store.{frameAt, zeros, framesFrom, domainIn, textOf, writeDomain}
-use Rattle.bmap.specs.Theorems.{longestDomain, DomainTextFits}
+use Rattle.bmap.specs.Theorems.{longestDomain, DomainTextFits, LimitIs}
 use Rattle.bmap.specs.declared.limits.Counts.{Counts}
 use Rattle.bmap.proofs.PlainLaws.{both-true}
-use Rattle.bmap.proofs.PayloadLaws.{only-some}
+use Rattle.bmap.proofs.PayloadLaws.{only-some, limit-in}
 use Rattle.line.proofs.WriteLaws.{length-line}
 use Rattle.domain.specs.Check.{refusedIn}
 use Rattle.domain.proofs.Rows.{length-snoc}
@@ -36,14 +37,18 @@ use Rattle.domain.proofs.RoundTrip.{Fines, no-frames, and-frame, writte
 sized : (size : ℕ) (p : List ℕ) (b : Bool) → both (eqb (length p) size) b ≡ true → length p ≡ size
 sized size p b e = eqb-true (length p) size (both-true (eqb (length p) size) b e .0)
 
+-- at most 8 bytes
+limited : (p : List ℕ) → LimitIs p → length p ≤ 8
+limited p l = ⊎-elim (λ six. omega (arith, six .0)) (λ eight. omega (arith, eight .0)) l
+
 module _ (n : Counts) (k : ℕ) (p : List ℕ) (i : Item) (e : itemIn n k p ≡ some i) where
   agents-size : k ≡ 0xA1 → length p ≡ 1
   unfolding itemIn agentsFit
   agents-size q = sized 1 p _ (only-some (agentsFit p) (some (agents (byte p 0))) (rw q at e) .0)
 
-  fluent-size : k ≡ 0xA2 → length p ≡ 6
+  fluent-size : k ≡ 0xA2 → length p ≤ 8
   unfolding itemIn fluentFits
-  fluent-size q = sized 6 p _ (only-some (fluentFits p) (some (fluent (fluentIn p))) (rw q at e) .0)
+  fluent-size q = limited p (limit-in p (both-true (limitFits p) _ (only-some (fluentFits p) (some (fluent (fluentIn p))) (rw q at e) .0) .0))
 
   knowledge-size : k ≡ 0xA3 → length p ≡ 3
   unfolding itemIn knowledgeFits
@@ -58,7 +63,7 @@ module _ (n : Counts) (k : ℕ) (p : List ℕ) (i : Item) (e : itemIn n k p ≡ 
 -- the most characters that the lines of a domain's frames have
 abbrev linesMost : Domain → ℕ
 linesMost d =
-    one (d .agents) * lineSize 1 + length (d .fluents) * lineSize 6 + length (d .knowledge) * lineSize 3 + length (d .entries) * lineSize 3
+    one (d .agents) * lineSize 1 + length (d .fluents) * lineSize 8 + length (d .knowledge) * lineSize 3 + length (d .entries) * lineSize 3
     + length (d .laws) * lineSize mostPayload
 
 few-lines : (d : Domain) → Few d → linesMost d ≤ longestDomain

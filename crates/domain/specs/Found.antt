@@ -1,15 +1,17 @@
 -- The index of an accepted store, by its domain.
 use Prim.Native.Nat.{ℕ, _+_, _-_}
+use mathlib.Core.Path.{_≡_}
 use mathlib.Core.Bool.{Bool, true, false}
 use mathlib.Core.List.{List, [], _∷_, _++_, map}
 use lib.Dec.{eqb, leb, ltb}
-use lib.IntN.{pos}
-use lib.ListN.{length, getD, replicate}
+use lib.IntN.{ℤ, pos}
+use lib.ListN.{length, getD, set, replicate}
 use Rattle.bmap.specs.Plain.{both, if-else, maybe, all, numbers}
 use Rattle.bmap.specs.Limits.{mostFluents, mostKnowledge, mostEntries, mostLaws}
 use Rattle.bmap.specs.Refusal.{Answer, got, refused}
 use Rattle.bmap.specs.Line.{Frame, stored, agentsKind, fluentKind, knowledgeKind, entryKind, executableKind}
 use Rattle.bmap.specs.Domain.{Domain, Fluent, Knows, Entry}
+use Rattle.bmap.specs.Payload.{wordAt, valueAt}
 use Rattle.bmap.specs.Accept.{nothing, countsOf}
 use Rattle.bmap.specs.Store.{framesIn, domainIn}
 use Rattle.bmap.specs.declared.limits.Counts.{Counts}
@@ -33,6 +35,7 @@ indexWith d places = record {
   lowest = row mostFluents (pos 0) (map (λ (x : Fluent). x .lowest) (d .fluents));
   highest = row mostFluents (pos 0) (map (λ (x : Fluent). x .highest) (d .fluents));
   start = row mostFluents (pos 0) (map (λ (x : Fluent). x .start) (d .fluents));
+  limit = row mostFluents 0 (map (λ (x : Fluent). x .limit) (d .fluents));
   known = row mostKnowledge 0 (map (λ (x : Knows). x .fluent) (d .knowledge));
   knowers = row mostKnowledge 0 (map (λ (x : Knows). x .mask) (d .knowledge));
   names = row mostEntries 0 (map (λ (x : Entry). x .name) (d .entries));
@@ -62,6 +65,17 @@ counted n kind x = record {
   entries = if-else (eqb kind entryKind) (n .entries + 1) (n .entries);
   laws = if-else (leb executableKind kind) (n .laws + 1) (n .laws);
 }
+
+-- one array of the fluents' numbers after a frame: a number more, if the frame is an A2
+abbrev pub fluentNoted : {A : Type 0} → Counts → ℕ → A → List A → List A
+fluentNoted n kind a l = if-else (eqb kind fluentKind) (set l (n .fluents) a) l
+
+-- the arrays of A2, before a frame and after it
+pub record FluentNoted (n : Counts) (kind : ℕ) (p : List ℕ) (lowest highest start : List ℤ) (limit : List ℕ) (lowest′ highest′ start′ : List ℤ) (limit′ : List ℕ) : Type 0 where
+  pub low : lowest′ ≡ fluentNoted n kind (valueAt p 0) lowest
+  pub high : highest′ ≡ fluentNoted n kind (valueAt p 2) highest
+  pub first : start′ ≡ fluentNoted n kind (valueAt p 4) start
+  pub limits : limit′ ≡ fluentNoted n kind (wordAt p 6) limit
 
 -- `complete`, asked of the counts and of a mark for each entry that has an executability law
 unfoldable pub completeOn : Counts → List ℕ → Bool

@@ -43,6 +43,7 @@ pub(crate) fn nothing_found() -> Found
             lowest: [0; Counts::FLUENTS],
             highest: [0; Counts::FLUENTS],
             start: [0; Counts::FLUENTS],
+            limit: [0; Counts::FLUENTS],
             known: [0; Counts::KNOWLEDGE],
             knowers: [0; Counts::KNOWLEDGE],
             names: [0; Counts::ENTRIES],
@@ -86,6 +87,7 @@ pub fn index_of(store: &[u8]) -> Found
     let mut lowest = [0i16; Counts::FLUENTS];
     let mut highest = [0i16; Counts::FLUENTS];
     let mut start = [0i16; Counts::FLUENTS];
+    let mut limit = [0u16; Counts::FLUENTS];
     let mut known = [0u8; Counts::KNOWLEDGE];
     let mut knowers = [0u16; Counts::KNOWLEDGE];
     let mut names = [0u8; Counts::ENTRIES];
@@ -108,6 +110,7 @@ pub fn index_of(store: &[u8]) -> Found
                     lowest,
                     highest,
                     start,
+                    limit,
                     known,
                     knowers,
                     names,
@@ -123,7 +126,15 @@ pub fn index_of(store: &[u8]) -> Found
         let Check::Passed = check_frame(latest, n, &names, &crews, kind, p) else {
             return nothing_found();
         };
-        note_fluent(n, kind, p, &mut lowest, &mut highest, &mut start);
+        note_fluent(
+            n,
+            kind,
+            p,
+            &mut lowest,
+            &mut highest,
+            &mut start,
+            &mut limit,
+        );
         note_knowledge(n, kind, p, &mut known, &mut knowers);
         note_entry(n, kind, p, &mut names, &mut crews);
         note_law(n, kind, at as u16, &mut laws);

@@ -9,12 +9,12 @@ ghost use mathlib.Core.Path.{_≡_};
 ghost use Prim.Native.Nat.{_<_};
 ghost use lib.Dec.{eqb, leb};
 ghost use lib.ListN.{set};
-ghost use Rattle.bmap.specs.Line.{fluentKind, knowledgeKind, entryKind, executableKind};
+ghost use Rattle.bmap.specs.Line.{knowledgeKind, entryKind, executableKind};
 ghost use Rattle.bmap.specs.Limits.{mostEntries};
 ghost use Rattle.bmap.specs.Plain.{if-else};
-ghost use Rattle.bmap.specs.Payload.{byte, wordAt, valueAt};
+ghost use Rattle.bmap.specs.Payload.{byte, wordAt};
 ghost use Rattle.bmap.specs.Accept.{room};
-ghost use Rattle.domain.specs.Found.{counted};
+ghost use Rattle.domain.specs.Found.{counted, FluentNoted};
 
 // One more of a kind; the payload begins with x.
 pub(crate) fn count_frame(n: Counts, kind: u8, x: u8) -> Counts
@@ -44,7 +44,7 @@ pub(crate) fn count_frame(n: Counts, kind: u8, x: u8) -> Counts
     r
 }
 
-// A2: a fluent's range and its start value.
+// A2: a fluent's range, its start value and its limit.
 pub(crate) fn note_fluent(
     n: Counts,
     kind: u8,
@@ -52,15 +52,17 @@ pub(crate) fn note_fluent(
     lowest: &mut [i16; Counts::FLUENTS],
     highest: &mut [i16; Counts::FLUENTS],
     start: &mut [i16; Counts::FLUENTS],
+    limit: &mut [u16; Counts::FLUENTS],
 )
     requires { ⌜ room n kind ≡ true ⌝ }
-    ensures { λ _. ⌜ (now (lowest .exit) ≡ if-else (eqb kind fluentKind) (set (now (lowest .entry)) (n .fluents) (valueAt (now (p .entry)) 0)) (now (lowest .entry))) × (now (highest .exit) ≡ if-else (eqb kind fluentKind) (set (now (highest .entry)) (n .fluents) (valueAt (now (p .entry)) 2)) (now (highest .entry))) × (now (start .exit) ≡ if-else (eqb kind fluentKind) (set (now (start .entry)) (n .fluents) (valueAt (now (p .entry)) 4)) (now (start .entry))) ⌝ }
+    ensures { λ _. ⌜ FluentNoted n kind (now (p .entry)) (now (lowest .entry)) (now (highest .entry)) (now (start .entry)) (now (limit .entry)) (now (lowest .exit)) (now (highest .exit)) (now (start .exit)) (now (limit .exit)) ⌝ }
 {
     if kind == Kind::FLUENT {
         let i = n.fluents;
         lowest[i] = value_at(p, 0);
         highest[i] = value_at(p, 2);
         start[i] = value_at(p, 4);
+        limit[i] = word_at(p, 6);
     }
 }
 

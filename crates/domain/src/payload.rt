@@ -7,7 +7,7 @@ ghost use mathlib.Core.Path.{_≡_};
 ghost use Prim.Native.Nat.{_<_};
 ghost use lib.Signed.{leZ};
 ghost use Rattle.bmap.specs.Limits.{mostPayload};
-ghost use Rattle.bmap.specs.Payload.{byte, wordAt, valueAt, maskFits, agentsFit, fluentFits, knowledgeFits, entryFits, itemIn};
+ghost use Rattle.bmap.specs.Payload.{byte, wordAt, valueAt, maskFits, agentsFit, limitFits, fluentFits, knowledgeFits, entryFits, itemIn};
 ghost use Rattle.domain.specs.Check.{isSome};
 
 // Two bytes, high byte first.
@@ -58,11 +58,28 @@ fn at_most(a: i16, b: i16) -> bool
     a <= b
 }
 
+// K6: 6 bytes have no limit, 8 one of "1 to 32,767".
+fn limit_fits(p: &[u8]) -> bool
+    ensures { λ r. ⌜ r ≡ limitFits (now (p .entry)) ⌝ }
+{
+    if p.len() == 6 {
+        return true;
+    }
+    if p.len() != 8 {
+        return false;
+    }
+    let limit = word_at(p, 6);
+    if limit == 0 {
+        return false;
+    }
+    limit <= bmap::CHANGE
+}
+
 // "lowest ≤ start ≤ highest"
 fn fluent_fits(p: &[u8]) -> bool
     ensures { λ r. ⌜ r ≡ fluentFits (now (p .entry)) ⌝ }
 {
-    if p.len() != 6 {
+    if !limit_fits(p) {
         return false;
     }
     let lowest = value_at(p, 0);

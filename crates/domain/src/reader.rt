@@ -90,6 +90,7 @@ fn read_lines(text: &[u8], store: &mut [u8]) -> ReadFound
     let mut lowest = [0i16; Counts::FLUENTS];
     let mut highest = [0i16; Counts::FLUENTS];
     let mut start = [0i16; Counts::FLUENTS];
+    let mut limit = [0u16; Counts::FLUENTS];
     let mut known = [0u8; Counts::KNOWLEDGE];
     let mut knowers = [0u16; Counts::KNOWLEDGE];
     let mut names = [0u8; Counts::ENTRIES];
@@ -111,6 +112,7 @@ fn read_lines(text: &[u8], store: &mut [u8]) -> ReadFound
                             lowest,
                             highest,
                             start,
+                            limit,
                             known,
                             knowers,
                             names,
@@ -134,7 +136,15 @@ fn read_lines(text: &[u8], store: &mut [u8]) -> ReadFound
                 if let Check::Refused(refusal) = check_frame(latest, n, &names, &crews, kind, p) {
                     return refused(refusal, line);
                 }
-                note_fluent(n, kind, p, &mut lowest, &mut highest, &mut start);
+                note_fluent(
+                    n,
+                    kind,
+                    p,
+                    &mut lowest,
+                    &mut highest,
+                    &mut start,
+                    &mut limit,
+                );
                 note_knowledge(n, kind, p, &mut known, &mut knowers);
                 note_entry(n, kind, p, &mut names, &mut crews);
                 note_law(n, kind, used as u16, &mut laws);

@@ -17,7 +17,7 @@ unfoldable pub frameBytes : List ℕ → ℕ → List ℕ
 frameBytes s at = take (getD s (at + 1) 0 + 2) (drop at s)
 
 abbrev pub fluentAt : Index → ℕ → Fluent
-fluentAt x f = record { lowest = getD (x .lowest) f (pos 0); highest = getD (x .highest) f (pos 0); start = getD (x .start) f (pos 0) }
+fluentAt x f = record { lowest = getD (x .lowest) f (pos 0); highest = getD (x .highest) f (pos 0); start = getD (x .start) f (pos 0); limit = getD (x .limit) f 0 }
 
 abbrev pub knowledgeAt : Index → ℕ → Knows
 knowledgeAt x i = record { fluent = getD (x .known) i 0; mask = getD (x .knowers) i 0 }

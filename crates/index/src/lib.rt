@@ -10,10 +10,11 @@ ghost use Rattle.index.specs.Place.{StandsAt};
 
 pub struct Index {
     pub counts: Counts,
-    // A2: a fluent's range and its start value.
+    // A2: a fluent's range, its start value and the limit of its change in one step, 0 where it has none.
     pub lowest: [i16; Counts::FLUENTS],
     pub highest: [i16; Counts::FLUENTS],
     pub start: [i16; Counts::FLUENTS],
+    pub limit: [u16; Counts::FLUENTS],
     // A3: a fluent, and the mask of the agents who know it.
     pub known: [u8; Counts::KNOWLEDGE],
     pub knowers: [u16; Counts::KNOWLEDGE],

@@ -20,31 +20,51 @@ use Rattle.domain.proofs.found.index_of.Statement.{statement}
 use Rattle.domain.proofs.found.index_of.Tie as tie
 
 abbrev Inv-loop : tie.InvT-loop
-Inv-loop store latest₀ n₀ lowest₀ highest₀ start₀ known₀ knowers₀ names₀ crews₀ laws₀ ready₀ at₀ latest n lowest highest start known knowers names crews laws ready at = Held store latest n lowest highest start known knowers names crews laws ready at
+Inv-loop store latest₀ n₀ lowest₀ highest₀ start₀ limit₀ known₀ knowers₀ names₀ crews₀ laws₀ ready₀ at₀ latest n lowest highest start limit known knowers names crews laws ready at = Held store latest n lowest highest start limit known knowers names crews laws ready at
 
 abbrev μ-loop : tie.MeasureT-loop
-μ-loop store latest₀ n₀ lowest₀ highest₀ start₀ known₀ knowers₀ names₀ crews₀ laws₀ ready₀ at₀ latest n lowest highest start known knowers names crews laws ready at = length store - at
+μ-loop store latest₀ n₀ lowest₀ highest₀ start₀ limit₀ known₀ knowers₀ names₀ crews₀ laws₀ ready₀ at₀ latest n lowest highest start limit known knowers names crews laws ready at = length store - at
 
 -- in the arm of a frame
 good : (c : tie.After-size Inv-loop μ-loop) → Framed (c .before .before .before .before .before .args .store .now) (c .before .before .before .loop .at) (c .size .given .0 .0)
 good c = framed _ _ _ (sym (ap sizeOf (c .size .given .1)) ∙ c .before .before .frame-at .ensures)
 
 -- once its check is passed
+abbrev arm : tie.After-enum-told2 Inv-loop μ-loop → tie.After-size Inv-loop μ-loop
+arm c = c .before .before .before .before .before .before .before .before
+
 abbrev head : tie.After-enum-told2 Inv-loop μ-loop → tie.At-loop Inv-loop μ-loop
-head c = c .before .before .before .before .before .before .before .before .before .before .before
+head c = arm c .before .before .before
 
 abbrev frame : tie.After-enum-told2 Inv-loop μ-loop → Frame
-frame c = cut (head c .before .before .args .store .now) (head c .loop .at) (c .before .before .before .before .before .before .before .before .size .given .0 .0)
+frame c = cut (head c .before .before .args .store .now) (head c .loop .at) (arm c .size .given .0 .0)
 
 passes : (c : tie.After-enum-told2 Inv-loop μ-loop)
     → none ≡ refusedIn (checked (head c .loop .latest) (head c .loop .n) (entriesOf (head c .loop .n .entries) (head c .loop .names) (head c .loop .crews)) (frame c))
 passes c = sym (ap refusalOf (c .enum-told2 .given .1)) ∙ c .before .before .check-frame .ensures
 
 room : (c : tie.After-enum-told2 Inv-loop μ-loop) → accept.room (head c .loop .n) (frame c .kind) ≡ true
-room c = held-room (head c .loop .inv) (frame c) (good (c .before .before .before .before .before .before .before .before) .stands) (passes c)
+room c = held-room (head c .loop .inv) (frame c) (good (arm c) .stands) (passes c)
 
 entry : (c : tie.After-enum-told2 Inv-loop μ-loop) → frame c .kind ≡ 0xA5 → byte (frame c .payload) 0 < 64
-entry c = held-entry (head c .loop .inv) (frame c) (good (c .before .before .before .before .before .before .before .before) .stands) (passes c)
+entry c = held-entry (head c .loop .inv) (frame c) (good (arm c) .stands) (passes c)
+
+-- ---- what is noted of the frame: each place, and where its check was passed
+
+abbrev of-fluent : tie.After-note-fluent Inv-loop μ-loop → tie.After-enum-told2 Inv-loop μ-loop
+of-fluent c = c .before .before .before .before .before
+
+abbrev of-knowledge : tie.After-note-knowledge Inv-loop μ-loop → tie.After-enum-told2 Inv-loop μ-loop
+of-knowledge c = of-fluent (c .before .before .before)
+
+abbrev of-entry : tie.After-note-entry Inv-loop μ-loop → tie.After-enum-told2 Inv-loop μ-loop
+of-entry c = of-knowledge (c .before .before .before)
+
+abbrev of-law : tie.After-note-law Inv-loop μ-loop → tie.After-enum-told2 Inv-loop μ-loop
+of-law c = of-entry (c .before .before)
+
+abbrev of-ready : tie.After-note-ready Inv-loop μ-loop → tie.After-enum-told2 Inv-loop μ-loop
+of-ready c = of-law (c .before .before)
 
 loop-holds : tie.Need-loop-holds Inv-loop μ-loop
 loop-holds c = held-first (c .before .args .store .now)
@@ -133,48 +153,47 @@ returns-4 c =
     c .nothing-found3 .ensures ∙ held-refused (l .loop .inv) (cut (l .before .before .args .store .now) (l .loop .at) (z .size .given .0 .0)) (good z .stands) _ (sym (ap refusalOf (c .before .enum-told3 .given .1)) ∙ k .check-frame .ensures)
 
 note-fluent-requires : tie.Need-note-fluent-requires Inv-loop μ-loop
-note-fluent-requires c κs = room (c .before .before .before)
+note-fluent-requires c κs = room (c .before .before .before .before)
 
 note-knowledge-requires : tie.Need-note-knowledge-requires Inv-loop μ-loop
-note-knowledge-requires c κs = room (c .before .before .before .before .before .before)
+note-knowledge-requires c κs = room (of-fluent (c .before .before))
 
 note-entry-requires : tie.Need-note-entry-requires Inv-loop μ-loop
-note-entry-requires c κs = room (c .before .before .before .before .before .before .before .before .before)
+note-entry-requires c κs = room (of-knowledge (c .before .before))
 
 cast-note-law : tie.Need-cast-note-law Inv-loop μ-loop
-cast-note-law c = omega (arith, held-most (c .before .before .before .before .before .before .before .before .before .before .before .before .before .before .before .before .before .before .before .before .before .loop .inv))
+cast-note-law c = omega (arith, held-most (head (of-entry c) .loop .inv))
 
 note-law-requires : tie.Need-note-law-requires Inv-loop μ-loop
-note-law-requires c κs = room (c .before .before .before .before .before .before .before .before .before .before .before)
+note-law-requires c κs = room (of-entry (c .before))
 
 note-ready-requires : tie.Need-note-ready-requires Inv-loop μ-loop
-note-ready-requires c κs = entry (c .before .before .before .before .before .before .before .before .before .before .before .before .before)
+note-ready-requires c κs = entry (of-law (c .before))
 
 byte-at-requires : tie.Need-byte-at-requires Inv-loop μ-loop
 byte-at-requires c κs = search needs
 
 count-frame-requires : tie.Need-count-frame-requires Inv-loop μ-loop
-count-frame-requires c κs = room (c .before .before .before .before .before .before .before .before .before .before .before .before .before .before .before)
+count-frame-requires c κs = room (of-ready (c .before))
 
 loop-less : tie.Need-loop-less Inv-loop μ-loop
 loop-less c =
-    let z = c .before .before .before .before .before .before .before .before .before .before .before .before .before .before .before .before .before .before .before .before .before .before .before .before in
-    let g = good z in
+    let g = good (arm (of-ready (c .before .before))) in
     omega (arith, g .two, g .within)
 
 loop-again : tie.Need-loop-again Inv-loop μ-loop
 loop-again c =
-    let e = c .before .before .before .before .before .before .before .before .before .before .before .before .before .before .before .before in
-    let z = e .before .before .before .before .before .before .before .before in
+    let nr = c .before .before in
+    let nl = nr .before .before in
+    let ne = nl .before .before in
+    let nk = ne .before .before .before in
+    let nf = nk .before .before .before in
+    let e = of-fluent nf in
+    let z = arm e in
     let g = good z in
     let l = z .before .before .before in
-    let nf = c .before .before .before .before .before .before .before .before .before .before .before .before in
-    let nk = c .before .before .before .before .before .before .before .before .before in
-    let ne = c .before .before .before .before .before .before in
-    let nl = c .before .before .before .before in
-    let nr = c .before .before in
     held-next (l .loop .inv) (cut (l .before .before .args .store .now) (l .loop .at) (z .size .given .0 .0)) (g .stands) (passes e)
-    (nf .note-fluent .ensures .0) (nf .note-fluent .ensures .1) (nf .note-fluent .ensures .2)
+    (nf .note-fluent .ensures)
     (nk .note-knowledge .ensures .0) (nk .note-knowledge .ensures .1)
     (ne .note-entry .ensures .0) (ne .note-entry .ensures .1)
     (nl .note-law .ensures) (nr .note-ready .ensures)

@@ -23,10 +23,10 @@ use Rattle.domain.proofs.reader.read_lines.Statement.{statement}
 use Rattle.domain.proofs.reader.read_lines.Tie as tie
 
 abbrev Inv-loop : tie.InvT-loop
-Inv-loop text store₀ latest₀ n₀ lowest₀ highest₀ start₀ known₀ knowers₀ names₀ crews₀ laws₀ ready₀ rest₀ used₀ line₀ store latest n lowest highest start known knowers names crews laws ready rest used line = (length store ≡ length store₀) × Reads text store rest latest n lowest highest start known knowers names crews laws ready used line
+Inv-loop text store₀ latest₀ n₀ lowest₀ highest₀ start₀ limit₀ known₀ knowers₀ names₀ crews₀ laws₀ ready₀ rest₀ used₀ line₀ store latest n lowest highest start limit known knowers names crews laws ready rest used line = (length store ≡ length store₀) × Reads text store rest latest n lowest highest start limit known knowers names crews laws ready used line
 
 abbrev μ-loop : tie.MeasureT-loop
-μ-loop text store₀ latest₀ n₀ lowest₀ highest₀ start₀ known₀ knowers₀ names₀ crews₀ laws₀ ready₀ rest₀ used₀ line₀ store latest n lowest highest start known knowers names crews laws ready rest used line = length rest
+μ-loop text store₀ latest₀ n₀ lowest₀ highest₀ start₀ limit₀ known₀ knowers₀ names₀ crews₀ laws₀ ready₀ rest₀ used₀ line₀ store latest n lowest highest start limit known knowers names crews laws ready rest used line = length rest
 
 -- the store has its length again once the part comes back
 again : (c : tie.After-read-line Inv-loop μ-loop) → length (renewed (c .before .before .loop .store) (c .before .before .loop .used) (c .read-line .last .1 .0)) ≡ length (c .before .before .before .before .before .args .store .now)
@@ -89,6 +89,23 @@ entry c =
     let z = arm c in
     let r = z .before .before .before .before in
     reads-entry (head c .loop .inv .1) (z .bytes .given .0 .0) (z .bytes .given .0 .1 .0) (r .read-line .last .1 .0) (line-is z) (r .read-line .ensures .1) (passes c)
+
+-- ---- what is noted of the frame: each place, and where its check was passed
+
+abbrev of-fluent : tie.After-note-fluent Inv-loop μ-loop → tie.After-enum-told2 Inv-loop μ-loop
+of-fluent c = c .before .before .before .before .before
+
+abbrev of-knowledge : tie.After-note-knowledge Inv-loop μ-loop → tie.After-enum-told2 Inv-loop μ-loop
+of-knowledge c = of-fluent (c .before .before .before)
+
+abbrev of-entry : tie.After-note-entry Inv-loop μ-loop → tie.After-enum-told2 Inv-loop μ-loop
+of-entry c = of-knowledge (c .before .before .before)
+
+abbrev of-law : tie.After-note-law Inv-loop μ-loop → tie.After-enum-told2 Inv-loop μ-loop
+of-law c = of-entry (c .before .before)
+
+abbrev of-ready : tie.After-note-ready Inv-loop μ-loop → tie.After-enum-told2 Inv-loop μ-loop
+of-ready c = of-law (c .before .before)
 
 loop-holds : tie.Need-loop-holds Inv-loop μ-loop
 loop-holds c = let s = c .before .before in (refl, reads-first (s .args .text .now) (s .args .store .now) (s .pre))
@@ -198,56 +215,56 @@ enum-told-2 : tie.Need-enum-told-2 Inv-loop μ-loop
 enum-told-2 c = search needs
 
 note-fluent-requires : tie.Need-note-fluent-requires Inv-loop μ-loop
-note-fluent-requires c κs = room (c .before .before .before)
+note-fluent-requires c κs = room (c .before .before .before .before)
 
 note-knowledge-requires : tie.Need-note-knowledge-requires Inv-loop μ-loop
-note-knowledge-requires c κs = room (c .before .before .before .before .before .before)
+note-knowledge-requires c κs = room (of-fluent (c .before .before))
 
 note-entry-requires : tie.Need-note-entry-requires Inv-loop μ-loop
-note-entry-requires c κs = room (c .before .before .before .before .before .before .before .before .before)
+note-entry-requires c κs = room (of-knowledge (c .before .before))
 
 cast-note-law : tie.Need-cast-note-law Inv-loop μ-loop
-cast-note-law c = omega (arith, reads-used (head (c .before .before .before .before .before .before .before .before .before .before) .loop .inv .1))
+cast-note-law c = omega (arith, reads-used (head (of-entry c) .loop .inv .1))
 
 note-law-requires : tie.Need-note-law-requires Inv-loop μ-loop
-note-law-requires c κs = room (c .before .before .before .before .before .before .before .before .before .before .before)
+note-law-requires c κs = room (of-entry (c .before))
 
 note-ready-requires : tie.Need-note-ready-requires Inv-loop μ-loop
-note-ready-requires c κs = entry (c .before .before .before .before .before .before .before .before .before .before .before .before .before)
+note-ready-requires c κs = entry (of-law (c .before))
 
 byte-at-requires : tie.Need-byte-at-requires Inv-loop μ-loop
 byte-at-requires c κs = search needs
 
 count-frame-requires : tie.Need-count-frame-requires Inv-loop μ-loop
-count-frame-requires c κs = room (c .before .before .before .before .before .before .before .before .before .before .before .before .before .before .before)
+count-frame-requires c κs = room (of-ready (c .before))
 
 sub-rest : tie.Need-sub-rest Inv-loop μ-loop
-sub-rest c = omega (arith, sizes (arm (c .before .before .before .before .before .before .before .before .before .before .before .before .before .before .before .before)) .characters)
+sub-rest c = omega (arith, sizes (arm (of-ready (c .before .before))) .characters)
 
 part-rest-start : tie.Need-part-rest-start Inv-loop μ-loop
-part-rest-start c = omega (arith, sizes (arm (c .before .before .before .before .before .before .before .before .before .before .before .before .before .before .before .before)) .characters)
+part-rest-start c = omega (arith, sizes (arm (of-ready (c .before .before))) .characters)
 
 part-rest-end : tie.Need-part-rest-end Inv-loop μ-loop
 part-rest-end c = search needs
 
 loop-less : tie.Need-loop-less Inv-loop μ-loop
-loop-less c = less (arm (c .before .before .before .before .before .before .before .before .before .before .before .before .before .before .before .before .before))
+loop-less c = less (arm (of-ready (c .before .before .before)))
 
 loop-again : tie.Need-loop-again Inv-loop μ-loop
 loop-again c =
-    let e = c .before .before .before .before .before .before .before .before .before .before .before .before .before .before .before .before .before in
+    let nr = c .before .before .before in
+    let nl = nr .before .before in
+    let ne = nl .before .before in
+    let nk = ne .before .before .before in
+    let nf = nk .before .before .before in
+    let e = of-fluent nf in
     let z = arm e in
     let r = z .before .before .before .before in
-    let l = head e in
-    let nf = c .before .before .before .before .before .before .before .before .before .before .before .before .before in
-    let nk = c .before .before .before .before .before .before .before .before .before .before in
-    let ne = c .before .before .before .before .before .before .before in
-    let nl = c .before .before .before .before .before in
-    let nr = c .before .before .before in (
+    let l = head e in (
       again r,
       reads-next (l .loop .inv .1) (z .bytes .given .0 .0) (z .bytes .given .0 .1 .0) (r .read-line .last .1 .0) (line-is z) (r .read-line .ensures .1) (passes e)
           (again r ∙ sym (l .loop .inv .0))
-          (nf .note-fluent .ensures .0) (nf .note-fluent .ensures .1) (nf .note-fluent .ensures .2)
+          (nf .note-fluent .ensures)
           (nk .note-knowledge .ensures .0) (nk .note-knowledge .ensures .1)
           (ne .note-entry .ensures .0) (ne .note-entry .ensures .1)
           (nl .note-law .ensures) (nr .note-ready .ensures)

@@ -21,13 +21,12 @@ use Rattle.supplement.specs.declared.under.Under.{Under}
 use Rattle.supplement.specs.Force.{payloadOf}
 use Rattle.supplement.proofs.Accepted.{UnderIs, under-ok, length-in-force}
 use Rattle.judge.specs.Masks.{unionFrom}
-use Rattle.judge.specs.Landing.{Ranged}
+use Rattle.judge.specs.Landing.{rangesOf, noFluent, Ranged}
 use Rattle.judge.specs.Told.{Lawful, Knowing, Held, kindThere, frameOf}
 use Rattle.judge.specs.Prepared.{InLimits, Entered, Accepted, Governs}
 use Rattle.bmap.proofs.NumbersLaws.{map-length, map-at}
 use Rattle.judge.proofs.CheckLaws.{noEntry}
 use Rattle.judge.proofs.HeldLaws.{held-says}
-use Rattle.judge.proofs.LandingLaws.{noFluent}
 use Rattle.judge.proofs.KnowledgeLaws.{knows-is}
 use Rattle.judge.proofs.JudgeLaws.{firsts}
 
@@ -72,12 +71,13 @@ module _ {s supplement : List ℕ} {u : Under} (here : UnderIs s supplement u) w
     law = λ i h. held-says domainHere (payloadOf s (x .laws) supplement (u .over) i) (frameOf held i) (lawNumber domainHere i) (copied .law i h (here .short i h)) (ap (λ (c : Counts). lawIn c (kindThere s (x .laws) i) (payloadOf s (x .laws) supplement (u .over) i)) counts-in-force ∙ here .law i h) (here .short i h);
   }
 
-  pub index-ranged : Ranged domainHere (x .lowest) (x .highest) (n .fluents)
+  pub index-ranged : Ranged domainHere (rangesOf (x .lowest) (x .highest) (x .limit)) (n .fluents)
   unfolding domainOf replaced
   index-ranged = record {
     count = map-length (fluentAt x) 0 (n .fluents);
     low = λ f h. ap (λ (y : Fluent). y .lowest) (map-at (fluentAt x) (n .fluents) f noFluent h);
     high = λ f h. ap (λ (y : Fluent). y .highest) (map-at (fluentAt x) (n .fluents) f noFluent h);
+    limits = λ f h. ap (λ (y : Fluent). y .limit) (map-at (fluentAt x) (n .fluents) f noFluent h);
   }
 
   pub index-entered : Entered domainHere (x .names) (x .crews) (n .entries)

@@ -1,34 +1,37 @@
 -- The new state, level by level, and check 5. Assumes nothing.
-use Prim.Native.Nat.{ℕ, _+_, _≤_, _<_}
+use Prim.Native.Nat.{ℕ, _+_, _*_, _≤_, _<_}
 use mathlib.Core.Path.{_≡_, refl, sym, ap, _∙_}
 use mathlib.Core.List.{List, [], map}
 use mathlib.Core.Bool.{Bool, true, false}
 use native.Mathlib.Numerals.{add-one}
 use native.Mathlib.Omega.{arith}
 use native.Mathlib.Decide.{decLt}
-use lib.Dec.{eqb}
+use lib.Dec.{eqb, leb}
 use lib.IntN.{ℤ, pos, negsuc}
-use lib.ListN.{length, getD, set}
+use lib.ListN.{length, getD, set, take, drop}
 use lib.Seq.{getD-set-same, getD-set-other}
 use lib.Signed.{mag, leZ}
 use mir.Syntax.{w16, w32}
 use mir.Val.{toZ, ofZ}
-use borrow.Author.Tests.{leb-true, eqb-true, eqb-false}
+use borrow.Author.Tests.{leb-true, eqb-true, eqb-false, ne-eqb}
 use Rattle.bmap.specs.Plain.{both, if-else, numbers}
+use Rattle.bmap.specs.Number.{apart}
 use Rattle.bmap.specs.Domain.{Domain, Fluent, State}
-use Rattle.bmap.specs.Judge.{pass, fine, fault, unless, each, inRange, Setting, levelAfter, stateAfter}
-use Rattle.law.specs.Evaluate.{cellAt}
+use Rattle.bmap.specs.Judge.{Pass, pass, fine, fault, next, unless, eachFrom, each, Setting, levelAfter, stateAfter, slow, fits}
+use Rattle.law.specs.Evaluate.{rowSize, cellAt}
 use Rattle.number.proofs.BackLaws.{back32, back16}
 use Rattle.judge.specs.Answer.{kindOf}
 use Rattle.judge.specs.States.{stateAt, leaving}
 use Rattle.judge.specs.Settings.{settingsOf}
-use Rattle.judge.specs.Landing.{fitOf, Ranged, Laid, ranged}
+use Rattle.judge.specs.Landing.{fitOf, noFluent, Ranged, Laid, ranged}
+use Rattle.judge.specs.declared.landing.Ranges.{Ranges}
 use Rattle.judge.specs.declared.landing.Fit.{Fit}
 use Rattle.judge.specs.declared.landing.Fit.the-variants.{Out, In}
 use Rattle.judge.specs.declared.verdict.Check.the-variants.{Passed, Failed}
 use Rattle.judge.specs.declared.verdict.Fault.{Fault}
 use Rattle.bmap.proofs.NumbersLaws.{map-at}
-use Rattle.judge.proofs.StateLaws.{level-of}
+use Rattle.judge.proofs.LoopLaws.{ends, stops, on, each-on, each-stop, each-none}
+use Rattle.judge.proofs.StateLaws.{level-of, row-none, row-more, row-whole}
 
 -- a number between two of 16 bits
 pub between : (lo v hi : ℤ) → mag lo < 32768 → mag hi < 32768 → leZ lo v ≡ true → leZ v hi ≡ true → mag v < 32768
@@ -105,30 +108,73 @@ module _ (lo v hi : ℤ) {r : Fit} (l : mag lo < 32768) (h : mag hi < 32768) (w 
   unfolding fitOf
   unfit-told q = fit-cases-out (both (leZ lo v) (leZ v hi)) v (sym fit-back ∙ q)
 
--- ---- check 5
+-- ---- a change within its limit
 
-abbrev pub noFluent : Fluent
-noFluent = record { lowest = pos 0; highest = pos 0; start = pos 0 }
+module _ (limit : ℕ) (old new : ℤ) where
+  pub no-limit : limit ≡ 0 → true ≡ slow limit old new
+  no-limit e = rw e
+
+  module _ {r : Bool} (p : mag old < 32768) (q : mag new < 32768) where
+    pub a-limit : (limit ≡ 0 → ⊥) → r ≡ leb (apart (toZ w16 (ofZ w16 old)) (toZ w16 (ofZ w16 new))) limit → r ≡ slow limit old new
+    a-limit h e = e ∙ rw (ne-eqb limit 0 h, back16 old p, back16 new q)
+
+    pub slow-back : r ≡ slow limit (toZ w16 (ofZ w16 old)) (toZ w16 (ofZ w16 new)) → r ≡ slow limit old new
+    slow-back e = e ∙ rw (back16 old p, back16 new q)
+
+-- ---- check 5
 
 abbrev pub levelThen : List Setting → State → ℕ → ℤ
 levelThen settings old = λ f. levelAfter settings f (getD old f (pos 0))
 
-module _ (d : Domain) (settings : List Setting) (old : State) (lowest highest : List ℤ) (w : ℕ) (bounds : Ranged d lowest highest w) where
+-- what is asked of each fluent
+abbrev asks : Domain → List Setting → State → ℕ → Fluent → Pass
+asks d settings old = fits old (stateAfter d settings old)
+
+-- fluent by fluent: the first f levels stored as those of state j + 1, and nothing to say against them
+pub record Put (d : Domain) (settings : List Setting) (old : State) (j f : ℕ) (history : List ℤ) : Type 0 where
+  pub levels : take f (drop (rowSize * (j + 1)) history) ≡ map (levelThen settings old) (numbers 0 f)
+  pub passed : each (asks d settings old) (d .fluents) ≡ eachFrom f (asks d settings old) (drop f (d .fluents))
+
+pub put-none : (d : Domain) (settings : List Setting) (old : State) (j : ℕ) (h : List ℤ) → Put d settings old j 0 h
+put-none d settings old j h = record { levels = row-none (levelThen settings old) (rowSize * (j + 1)) h; passed = refl }
+
+module _ (d : Domain) (settings : List Setting) (old : State) (r : Ranges) (w : ℕ) (bounds : Ranged d r w) where
   pub after-is : stateAfter d settings old ≡ map (levelThen settings old) (numbers 0 w)
   unfolding stateAfter
   after-is = ap (λ (n : ℕ). map (levelThen settings old) (numbers 0 n)) (bounds .count)
 
-  pub range-is : (f : ℕ) {v : ℤ} {t : Bool} → f < w → v ≡ levelThen settings old f → both (leZ (getD lowest f (pos 0)) v) (leZ v (getD highest f (pos 0))) ≡ t
-      → inRange (stateAfter d settings old) f (getD (d .fluents) f noFluent) ≡ unless 5 f t
-  unfolding inRange
-  range-is f {v} {t} p u e =
-      let here : getD (stateAfter d settings old) f (pos 0) ≡ v = ap (λ (s : State). getD s f (pos 0)) after-is ∙ (map-at (levelThen settings old) w f (pos 0) p ∙ sym u) in
-      ap (λ (z : ℤ). unless 5 f (both (leZ (getD (d .fluents) f noFluent .lowest) z) (leZ z (getD (d .fluents) f noFluent .highest)))) here
-      ∙ (ap (λ (z : ℤ). unless 5 f (both (leZ z v) (leZ v (getD (d .fluents) f noFluent .highest)))) (bounds .low f p)
-      ∙ (ap (λ (z : ℤ). unless 5 f (both (leZ (getD lowest f (pos 0)) v) (leZ v z))) (bounds .high f p) ∙ ap (unless 5 f) e))
+  -- what is asked of the new level v of fluent f
+  module _ (f : ℕ) {v : ℤ} (p : f < w) (u : v ≡ levelThen settings old f) where
+    here : getD (stateAfter d settings old) f (pos 0) ≡ v
+    here = ap (λ (s : State). getD s f (pos 0)) after-is ∙ (map-at (levelThen settings old) w f (pos 0) p ∙ sym u)
 
-  pub ranged-fine : (s : State) → each (inRange (stateAfter d settings old)) (d .fluents) ≡ pass → s ≡ map (levelThen settings old) (numbers 0 w) → leaving Passed s ≡ ranged d (stateAfter d settings old)
-  ranged-fine s e q = rw e (ap fine (q ∙ sym after-is))
+    abbrev InRange : Bool → Type 0
+    InRange b = both (leZ (getD (r .lowest) f (pos 0)) v) (leZ v (getD (r .highest) f (pos 0))) ≡ b
 
-  pub ranged-fault : (s : State) {n : ℕ} (x : Fault) → each (inRange (stateAfter d settings old)) (d .fluents) ≡ fault (kindOf x) n → leaving (Failed x n) s ≡ ranged d (stateAfter d settings old)
-  ranged-fault s x e = rw e
+    abbrev asked : Pass
+    asked = asks d settings old f (getD (d .fluents) f noFluent)
+
+    both-asked : {b t : Bool} → InRange b → slow (getD (r .limit) f 0) (getD old f (pos 0)) v ≡ t → asked ≡ next (unless 5 f b) (λ _. unless 10 f t)
+    unfolding fits
+    both-asked e g = rw (here, bounds .low f p, bounds .high f p, bounds .limits f p, e, g)
+
+    pub out-is : InRange false → asked ≡ fault 5 f
+    out-is e = both-asked e refl
+
+    pub slow-is : {t : Bool} → InRange true → slow (getD (r .limit) f 0) (getD old f (pos 0)) v ≡ t → asked ≡ unless 10 f t
+    slow-is e g = both-asked e g
+
+  pub put-more : (j f : ℕ) {v : ℤ} (h : List ℤ) → f < w → rowSize * (j + 1) + f < length h → Put d settings old j f h → v ≡ levelThen settings old f → asks d settings old f (getD (d .fluents) f noFluent) ≡ pass
+      → Put d settings old j (f + 1) (set h (rowSize * (j + 1) + f) v)
+  put-more j f {v} h p room so-far u e = record {
+    levels = row-more (levelThen settings old) (rowSize * (j + 1)) f v h room (so-far .levels) u;
+    passed = so-far .passed ∙ on (λ k q. eachFrom k (asks d settings old) q) (d .fluents) noFluent f (omega (arith, bounds .count)) (each-on (asks d settings old) f _ _ e);
+  }
+
+  pub put-fault : (j f : ℕ) (h : List ℤ) (s : State) (x : Fault) → f < w → Put d settings old j f h → asks d settings old f (getD (d .fluents) f noFluent) ≡ fault (kindOf x) f → leaving (Failed x f) s ≡ ranged d settings old
+  put-fault j f h s x p so-far e = rw (so-far .passed ∙ stops (λ k q. eachFrom k (asks d settings old) q) (d .fluents) noFluent f (omega (arith, bounds .count)) (each-stop (asks d settings old) f _ _ e))
+
+  pub put-all : (j f : ℕ) (h : List ℤ) → f ≡ w → Put d settings old j f h → leaving Passed (stateAt w h (j + 1)) ≡ ranged d settings old
+  put-all j f h e so-far =
+      rw (so-far .passed ∙ (ends (λ k q. eachFrom k (asks d settings old) q) (d .fluents) noFluent f (omega (arith, bounds .count)) ∙ each-none (asks d settings old) f))
+      (ap fine (row-whole (levelThen settings old) (rowSize * (j + 1)) f w h e (so-far .levels) ∙ sym after-is))

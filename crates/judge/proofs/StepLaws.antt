@@ -10,12 +10,13 @@ use lib.ListN.{length, getD}
 use Rattle.bmap.specs.Limits.{mostSteps}
 use Rattle.bmap.specs.Domain.{Domain, Names, State, static, concurrency}
 use Rattle.bmap.specs.Meaning.{History}
-use Rattle.bmap.specs.Judge.{Checked, fine, fault, Pass, pass, next, each, inRange, Setting, settled, levelAfter, stateAfter, history, allHold, placed, mayOccur, step, landed}
+use Rattle.bmap.specs.Judge.{Checked, fine, fault, Pass, pass, next, each, fits, Setting, settled, levelAfter, stateAfter, history, allHold, placed, mayOccur, step, landed}
 use Rattle.law.specs.Evaluate.{cellAt}
 use Rattle.judge.specs.Answer.{passOf, kindOf}
 use Rattle.judge.specs.States.{statesOf, leaving}
 use Rattle.judge.specs.Landing.{allowed, Laid, Ranged, ranged}
 use Rattle.judge.specs.Told.{Seen, Acted}
+use Rattle.judge.specs.declared.landing.Ranges.{Ranges}
 use Rattle.judge.specs.declared.verdict.Check.{Check}
 use Rattle.judge.specs.declared.verdict.Check.the-variants.{Passed, Failed}
 use Rattle.judge.specs.declared.verdict.Fault.{Fault}
@@ -64,18 +65,18 @@ module _ (d : Domain) (sheet : List Names) (states : List State) (j : ℕ) (name
   lasting new = next (allHold static 6 d (history d sheet (states ++ (new ∷ []))) (suc j)) (λ _. fine new)
 
   module _ (settings : List Setting) (old : State) (e : fine settings ≡ settled d (history d sheet states) j names 0 [] (d .laws)) (o : getD states j [] ≡ old) where
-    landed-on : next (each (inRange (stateAfter d settings old)) (d .fluents)) (λ _. lasting (stateAfter d settings old)) ≡ landed d sheet states j names
+    landed-on : next (each (fits old (stateAfter d settings old)) (d .fluents)) (λ _. lasting (stateAfter d settings old)) ≡ landed d sheet states j names
     unfolding landed
     landed-on = rw (← e, o)
 
-    pub landed-fault : (r : Check) (s : State) {f : Fault} {n : ℕ} → leaving r s ≡ ranged d (stateAfter d settings old) → r ≡ Failed f n → fault (kindOf f) n ≡ landed d sheet states j names
+    pub landed-fault : (r : Check) (s : State) {f : Fault} {n : ℕ} → leaving r s ≡ ranged d settings old → r ≡ Failed f n → fault (kindOf f) n ≡ landed d sheet states j names
     landed-fault r s {f} {n} q p =
-        passed-fault (each (inRange (stateAfter d settings old)) (d .fluents)) (stateAfter d settings old) (lasting (stateAfter d settings old)) (ap (λ (t : Check). leaving t s) (sym p) ∙ q) ∙ landed-on
+        passed-fault (each (fits old (stateAfter d settings old)) (d .fluents)) (stateAfter d settings old) (lasting (stateAfter d settings old)) (ap (λ (t : Check). leaving t s) (sym p) ∙ q) ∙ landed-on
 
-    pub landed-fine : (r r₃ : Check) (s : State) (states′ : List State) → leaving r s ≡ ranged d (stateAfter d settings old) → r ≡ Passed → states′ ≡ states ++ (s ∷ [])
+    pub landed-fine : (r r₃ : Check) (s : State) (states′ : List State) → leaving r s ≡ ranged d settings old → r ≡ Passed → states′ ≡ states ++ (s ∷ [])
         → passOf r₃ ≡ allHold static 6 d (history d sheet states′) (j + 1) → leaving r₃ s ≡ landed d sheet states j names
     landed-fine r r₃ s states′ q p more c =
-        let both′ = passed-fine (each (inRange (stateAfter d settings old)) (d .fluents)) (stateAfter d settings old) (lasting (stateAfter d settings old)) (ap (λ (t : Check). leaving t s) (sym p) ∙ q) in
+        let both′ = passed-fine (each (fits old (stateAfter d settings old)) (d .fluents)) (stateAfter d settings old) (lasting (stateAfter d settings old)) (ap (λ (t : Check). leaving t s) (sym p) ∙ q) in
         leaving-next r₃ s ∙ (ap (λ (t : Pass). next t (λ _. fine s)) (c ∙ ap (λ (k : ℕ). allHold static 6 d (history d sheet states′) k) (add-one j))
         ∙ (ap (λ (l : List State). next (allHold static 6 d (history d sheet l) (suc j)) (λ _. fine s)) more
         ∙ (ap lasting (both′ .1) ∙ (both′ .0 ∙ landed-on))))
@@ -115,9 +116,9 @@ module _ (d : Domain) (sheet : List Names) (states : List State) (j : ℕ) (name
 
 -- ---- the levels of a state that was stored
 
-pub laid-again : (d : Domain) (settings : List Setting) (old : State) (lowest highest : List ℤ) (w : ℕ) → Ranged d lowest highest w → (r : Check) (s : State) (new : List ℤ)
-    → leaving r s ≡ ranged d (stateAfter d settings old) → r ≡ Passed → Laid w new settings old → Laid w new [] s
+pub laid-again : (d : Domain) (settings : List Setting) (old : State) (ranges : Ranges) (w : ℕ) → Ranged d ranges w → (r : Check) (s : State) (new : List ℤ)
+    → leaving r s ≡ ranged d settings old → r ≡ Passed → Laid w new settings old → Laid w new [] s
 unfolding levelAfter
-laid-again d settings old lowest highest w bounds r s new q p laid f h =
-    let is : s ≡ stateAfter d settings old = passed-fine (each (inRange (stateAfter d settings old)) (d .fluents)) (stateAfter d settings old) (fine s) (ap (λ (t : Check). leaving t s) (sym p) ∙ q) .1 in
-    laid f h ∙ sym (ap (λ (l : State). getD l f (pos 0)) (is ∙ after-is d settings old lowest highest w bounds) ∙ map-at (levelThen settings old) w f (pos 0) h)
+laid-again d settings old ranges w bounds r s new q p laid f h =
+    let is : s ≡ stateAfter d settings old = passed-fine (each (fits old (stateAfter d settings old)) (d .fluents)) (stateAfter d settings old) (fine s) (ap (λ (t : Check). leaving t s) (sym p) ∙ q) .1 in
+    laid f h ∙ sym (ap (λ (l : State). getD l f (pos 0)) (is ∙ after-is d settings old ranges w bounds) ∙ map-at (levelThen settings old) w f (pos 0) h)

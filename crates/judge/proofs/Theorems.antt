@@ -7,7 +7,7 @@ use Rattle.bmap.specs.Refusal.{numberOf}
 use Rattle.bmap.proofs.RefusalLaws.{same-refusal}
 use Rattle.judge.specs.Answer.{kindOf, verdictOf, answerOf}
 use Rattle.judge.specs.declared.verdict.Fault.{Fault}
-use Rattle.judge.specs.declared.verdict.Fault.the-variants.{Misplaced, Barred, Concurrency, Conflict, Range, Static, ZeroDivisor, Goal, Beyond}
+use Rattle.judge.specs.declared.verdict.Fault.the-variants.{Misplaced, Barred, Concurrency, Conflict, Range, Static, ZeroDivisor, Goal, Beyond, TooFast}
 use Rattle.judge.specs.declared.verdict.Verdict.{Verdict}
 use Rattle.judge.specs.declared.verdict.Verdict.the-variants.{Accepted, Broken}
 use Rattle.judge.specs.declared.verdict.Judgement.{Judgement}
@@ -15,7 +15,7 @@ use Rattle.judge.specs.declared.verdict.Judgement.the-variants.{Refused,
 
 -- the faults by their number
 faults : List Fault
-faults = Misplaced ∷ Barred ∷ Concurrency ∷ Conflict ∷ Range ∷ Static ∷ ZeroDivisor ∷ Goal ∷ Beyond ∷ []
+faults = Misplaced ∷ Barred ∷ Concurrency ∷ Conflict ∷ Range ∷ Static ∷ ZeroDivisor ∷ Goal ∷ Beyond ∷ TooFast ∷ []
 
 fault-of : (f : Fault) → getD faults (kindOf f - 1) Misplaced ≡ f
 unfolding faults
@@ -28,6 +28,7 @@ fault-of Static = refl
 fault-of ZeroDivisor = refl
 fault-of Goal = refl
 fault-of Beyond = refl
+fault-of TooFast = refl
 
 pub same-fault : (a b : Fault) → kindOf a ≡ kindOf b → a ≡ b
 same-fault a b e = sym (fault-of a) ∙ (ap (λ (n : ℕ). getD faults (n - 1) Misplaced) e ∙ fault-of b)

@@ -18,7 +18,7 @@ use Rattle.bmap.specs.Verdict.{judgement, sheetJudged}
 use Rattle.bmap.specs.Verdict as call
 use Rattle.bmap.specs.Supplement.{sheetJudgedUnder}
 use Rattle.judge.specs.declared.verdict.Fault.{Fault}
-use Rattle.judge.specs.declared.verdict.Fault.the-variants.{Misplaced, Barred, Concurrency, Conflict, Range, Static, ZeroDivisor, Goal, Beyond}
+use Rattle.judge.specs.declared.verdict.Fault.the-variants.{Misplaced, Barred, Concurrency, Conflict, Range, Static, ZeroDivisor, Goal, Beyond, TooFast}
 use Rattle.judge.specs.declared.verdict.Verdict.{Verdict}
 use Rattle.judge.specs.declared.verdict.Verdict.the-variants.{Accepted, Broken}
 use Rattle.judge.specs.declared.verdict.Judgement.{Judgement}
@@ -40,6 +40,7 @@ kindOf Static = 6
 kindOf ZeroDivisor = 7
 kindOf Goal = 8
 kindOf Beyond = 9
+kindOf TooFast = 10
 
 -- "Accepted, or Broken with kind, step and number"
 abbrev pub verdictOf : Verdict → paper.Verdict

@@ -22,6 +22,7 @@ use Rattle.judge.specs.declared.judgement.Counted.{Counted}
 use Rattle.judge.specs.States.{statesOf, Blank, Kept}
 use Rattle.judge.specs.Landing.{Ranged, Storable}
 use Rattle.judge.specs.Told.{Lawful, Owned, Ordered, Few}
+use Rattle.judge.specs.declared.landing.Ranges.{Ranges}
 use Rattle.judge.specs.declared.reading.Runs.{Runs}
 use Rattle.judge.specs.declared.steps.Plan.{Plan}
 use Rattle.judge.specs.declared.steps.Ran.{Ran}
@@ -66,12 +67,12 @@ pub record Judgeable (u : Under) (sheet : List ℕ) (n : ℕ) (history : List �
   pub room : length history ≡ historySize
   pub blank : Blank 0 history
 
--- the held laws, who may read them and where those of each kind stand, the fluents' bounds, the number of entries
-pub record Prepared (d : Domain) (held owners : List ℕ) (n : ℕ) (runs : Runs) (lowest highest : List ℤ) (w count : ℕ) : Type 0 where
+-- the held laws, who may read them and where those of each kind stand, the fluents' ranges and limits, the number of entries
+pub record Prepared (d : Domain) (held owners : List ℕ) (n : ℕ) (runs : Runs) (ranges : Ranges) (w count : ℕ) : Type 0 where
   pub lawful : Lawful d held n
   pub owned : Owned d owners
   pub ordered : Ordered held owners n runs
-  pub ranged : Ranged d lowest highest w
+  pub ranged : Ranged d ranges w
   pub entries : length (d .entries) ≡ count
 
 -- the names and crews of a domain's entries
@@ -84,8 +85,8 @@ pub record Checkable (runs : Runs) (j : ℕ) : Type 0 where
   pub laws : Few runs
 
 -- state j + 1 can be stored, its levels found, and the laws of each kind be read
-pub record Landable (runs : Runs) (lowest highest : List ℤ) (w : ℕ) (history : List ℤ) (j : ℕ) (new : List ℤ) : Type 0 where
-  pub stores : Storable lowest highest w history j
+pub record Landable (runs : Runs) (ranges : Ranges) (w : ℕ) (history : List ℤ) (j : ℕ) (new : List ℤ) : Type 0 where
+  pub stores : Storable ranges w history j
   pub laws : Few runs
   pub wide : length new ≡ mostFluents
 
@@ -104,14 +105,15 @@ pub record Runnable (p : Plan) (sheet : List ℕ) (n : ℕ) (history : List ℤ)
   pub crewed : p .counts .entries ≤ length (p .crews)
   pub laws : Few (p .runs)
   pub fluents : p .counts .fluents ≤ mostFluents
-  pub low : p .counts .fluents ≤ length (p .lowest)
-  pub high : p .counts .fluents ≤ length (p .highest)
+  pub low : p .counts .fluents ≤ length (p .ranges .lowest)
+  pub high : p .counts .fluents ≤ length (p .ranges .highest)
+  pub limits : p .counts .fluents ≤ length (p .ranges .limit)
   pub room : length history ≡ historySize
   pub blank : Blank from history
 
 -- a plan is a domain's
 pub record Planned (d : Domain) (held : List ℕ) (l : ℕ) (p : Plan) : Type 0 where
-  pub prepared : Prepared d held (p .owners) l (p .runs) (p .lowest) (p .highest) (p .counts .fluents) (p .counts .entries)
+  pub prepared : Prepared d held (p .owners) l (p .runs) (p .ranges) (p .counts .fluents) (p .counts .entries)
   pub entered : Entered d (p .names) (p .crews) (p .counts .entries)
   pub agents : d .agents ≡ p .counts .agents
 

@@ -16,6 +16,7 @@ ghost use Rattle.supplement.specs.Under.{underIn};
 use crate::held::hold_laws;
 use crate::knowledge::all_knowers;
 use crate::knowledge::all_owners;
+use crate::landing::Ranges;
 use crate::reading::all_runs;
 use crate::states::copy_states;
 use crate::steps::Plan;
@@ -66,13 +67,18 @@ fn judge_steps<'a>(
     let start = under.index.start;
     let lowest = under.index.lowest;
     let highest = under.index.highest;
+    let limit = under.index.limit;
+    let ranges = Ranges {
+        lowest,
+        highest,
+        limit,
+    };
     let names = under.index.names;
     let plan = Plan {
         counts,
         owners,
         runs,
-        lowest,
-        highest,
+        ranges,
         names,
         crews,
     };

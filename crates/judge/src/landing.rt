@@ -5,10 +5,10 @@ ghost use Prim.Native.Nat.{ℕ, _+_, _≤_};
 ghost use lib.ListN.{length, set};
 ghost use Rattle.bmap.specs.Limits.{mostFluents, mostLaws};
 ghost use Rattle.bmap.specs.Domain.{Domain, State};
-ghost use Rattle.bmap.specs.Judge.{Setting, stateAfter};
+ghost use Rattle.bmap.specs.Judge.{Setting, slow};
 ghost use Rattle.judge.specs.States.{stateAt, leaving, Kept};
 ghost use Rattle.judge.specs.Settings.{settingsOf};
-ghost use Rattle.judge.specs.Landing.{Readable, Storable, Ranged, Laid, ranged, fitOf};
+ghost use Rattle.judge.specs.Landing.{Readable, Storable, Ranged, Laid, rangesOf, ranged, fitOf};
 use crate::verdict::Check;
 use crate::verdict::Fault;
 use bmap::Counts;
@@ -75,18 +75,38 @@ fn fitted(lowest: i16, v: i32, highest: i16) -> Fit
     Fit::Out
 }
 
-// 5: "each fluent by number, new value outside its range"; what is inside is stored as state j + 1.
+// K6: whether a change is not "larger than the limit in either direction"; 0 is no limit.
+fn is_slow(limit: u16, old: i16, new: i16) -> bool
+    ensures { λ r. ⌜ r ≡ slow limit old new ⌝ }
+{
+    if limit == 0 {
+        return true;
+    }
+    number::at_most_apart(old, new, limit)
+}
+
+// What check 5 asks of each fluent: its range, and the limit of its change in one step.
+pub struct Ranges {
+    pub lowest: [i16; Counts::FLUENTS],
+    pub highest: [i16; Counts::FLUENTS],
+    pub limit: [u16; Counts::FLUENTS],
+}
+
+// 5: "each fluent by number, new value outside its range"; K6: "After the range check of a fluent and before the next fluent, a
+// change larger than the limit". What passes is stored as state j + 1.
 pub(crate) fn put_state(
     lowest: &[i16; Counts::FLUENTS],
     highest: &[i16; Counts::FLUENTS],
+    limit: &[u16; Counts::FLUENTS],
     w: usize,
     new: &[i32; Counts::FLUENTS],
     history: &mut [i16; HISTORY],
     j: usize,
 ) -> Check
-    requires { ⌜ Storable (now lowest) (now highest) w (now history) j ⌝ }
-    ensures { λ r. ⌜ Kept j (now (history .entry)) (now (history .exit)) × ((d : Domain) (settings : List Setting) (old : State) → Ranged d (now (lowest .entry)) (now (highest .entry)) w → Laid w (now (new .entry)) settings old
-        → leaving r (stateAt w (now (history .exit)) (j + 1)) ≡ ranged d (stateAfter d settings old)) ⌝ }
+    requires { ⌜ Storable (rangesOf (now lowest) (now highest) (now limit)) w (now history) j ⌝ }
+    ensures { λ r. ⌜ Kept j (now (history .entry)) (now (history .exit)) × ((d : Domain) (settings : List Setting)
+        → Ranged d (rangesOf (now (lowest .entry)) (now (highest .entry)) (now (limit .entry))) w → Laid w (now (new .entry)) settings (stateAt w (now (history .entry)) j)
+        → leaving r (stateAt w (now (history .exit)) (j + 1)) ≡ ranged d settings (stateAt w (now (history .entry)) j)) ⌝ }
 {
     let mut f = 0;
     while f < w {
@@ -95,6 +115,9 @@ pub(crate) fn put_state(
                 return Check::Failed(Fault::Range, f);
             }
             Fit::In(z) => {
+                if !is_slow(limit[f], history[ROW * j + f], z) {
+                    return Check::Failed(Fault::TooFast, f);
+                }
                 history[ROW * (j + 1) + f] = z;
             }
         }

@@ -2,7 +2,6 @@
 ghost use mathlib.Core.Path.{_≡_};
 ghost use mathlib.Core.List.{List, []};
 ghost use Prim.Native.Nat.{ℕ, _+_, _≤_};
-ghost use lib.IntN.{ℤ};
 ghost use lib.ListN.{length, take};
 ghost use Rattle.bmap.specs.Limits.{mostSteps};
 ghost use Rattle.bmap.specs.Domain.{Domain, Names};
@@ -12,9 +11,10 @@ ghost use Rattle.bmap.specs.Judge as paper;
 ghost use Rattle.law.specs.Evaluate.{historySize};
 ghost use Rattle.judge.specs.Answer.{passOf};
 ghost use Rattle.judge.specs.States.{stateAt, statesOf, marksFrom};
-ghost use Rattle.judge.specs.Landing.{Laid, Landed, allowed};
+ghost use Rattle.judge.specs.Landing.{Laid, Landed, allowed, rangesOf};
 ghost use Rattle.judge.specs.Told.{Occurring, Acts, Acted};
 ghost use Rattle.judge.specs.Prepared.{Prepared, Checkable, Landable, Stored, Runnable, RanThrough, Planned, judgedOf};
+ghost use Rattle.judge.specs.declared.landing.Ranges.{Ranges};
 ghost use Rattle.judge.specs.declared.verdict.Verdict.the-variants.{Broken};
 use crate::acting::Acting;
 use crate::acting::Step;
@@ -23,6 +23,7 @@ use crate::checks::check_entries;
 use crate::checks::check_in_step;
 use crate::checks::check_laws;
 use crate::effects::lay_effects;
+use crate::landing::Ranges;
 use crate::landing::old_levels;
 use crate::landing::put_state;
 use crate::reading::Runs;
@@ -45,8 +46,8 @@ fn check_acts(
     history: &[i16; HISTORY],
 ) -> Check
     requires { ⌜ Checkable runs (step .j) ⌝ }
-    ensures { λ r. ⌜ ((d : Domain) (n w count : ℕ) (lowest highest : List ℤ) (sheet : List Names) (names : Names)
-        → Prepared d (now (held .entry)) (now (owners .entry)) n runs lowest highest w count → Acts d names (step .acting) → Acted d sheet (now (history .entry)) (step .j + 1)
+    ensures { λ r. ⌜ ((d : Domain) (n w count : ℕ) (ranges : Ranges) (sheet : List Names) (names : Names)
+        → Prepared d (now (held .entry)) (now (owners .entry)) n runs ranges w count → Acts d names (step .acting) → Acted d sheet (now (history .entry)) (step .j + 1)
         → passOf r ≡ allowed d (paper.history d sheet (statesOf w (step .j + 1) (now (history .entry)))) (step .j) names) ⌝ }
 {
     let acting = step.acting;
@@ -77,14 +78,15 @@ fn land(
     runs: Runs,
     lowest: &[i16; Counts::FLUENTS],
     highest: &[i16; Counts::FLUENTS],
+    limit: &[u16; Counts::FLUENTS],
     w: usize,
     step: Step,
     new: &mut [i32; Counts::FLUENTS],
     history: &mut [i16; HISTORY],
 ) -> Check
-    requires { ⌜ Landable runs (now lowest) (now highest) w (now history) (step .j) (now new) ⌝ }
+    requires { ⌜ Landable runs (rangesOf (now lowest) (now highest) (now limit)) w (now history) (step .j) (now new) ⌝ }
     ensures { λ r. ⌜ Stored (step .j) (now (history .entry)) (now (history .exit)) (now (new .exit)) × ((d : Domain) (owners : List ℕ) (n count : ℕ) (sheet : List Names) (names : Names)
-        → Prepared d (now (held .entry)) owners n runs (now (lowest .entry)) (now (highest .entry)) w count → Occurring d names (step .acting .entries) → Acted d sheet (now (history .entry)) (step .j + 1)
+        → Prepared d (now (held .entry)) owners n runs (rangesOf (now (lowest .entry)) (now (highest .entry)) (now (limit .entry))) w count → Occurring d names (step .acting .entries) → Acted d sheet (now (history .entry)) (step .j + 1)
         → Laid w (now (new .entry)) [] (stateAt w (now (history .entry)) (step .j))
         → Landed r w (now (new .exit)) (stateAt w (now (history .exit)) (step .j + 1)) (landed d sheet (statesOf w (step .j + 1) (now (history .entry))) (step .j) names)) ⌝ }
 {
@@ -101,7 +103,7 @@ fn land(
     ) {
         return Check::Failed(fault, n);
     }
-    if let Check::Failed(fault, n) = put_state(lowest, highest, w, new, history, present) {
+    if let Check::Failed(fault, n) = put_state(lowest, highest, limit, w, new, history, present) {
         return Check::Failed(fault, n);
     }
     check_in_step(held, runs.fixed, Kind::STATIC, Fault::Static, history, next)
@@ -131,8 +133,7 @@ pub struct Plan {
     pub counts: Counts,
     pub owners: [u8; Counts::LAWS],
     pub runs: Runs,
-    pub lowest: [i16; Counts::FLUENTS],
-    pub highest: [i16; Counts::FLUENTS],
+    pub ranges: Ranges,
     pub names: [u8; Counts::ENTRIES],
     pub crews: [u16; Counts::ENTRIES],
 }
@@ -153,8 +154,10 @@ fn run_steps(
     let agents = counts.agents;
     let owners = plan.owners;
     let runs = plan.runs;
-    let lowest = plan.lowest;
-    let highest = plan.highest;
+    let ranges = plan.ranges;
+    let lowest = ranges.lowest;
+    let highest = ranges.highest;
+    let limit = ranges.limit;
     let actions = plan.names;
     let crews = plan.crews;
     let mut levels = [0i32; Counts::FLUENTS];
@@ -179,6 +182,7 @@ fn run_steps(
             runs,
             &lowest,
             &highest,
+            &limit,
             counts.fluents,
             step,
             &mut levels,
@@ -190,9 +194,10 @@ fn run_steps(
         rest = &rest[agents..];
         j += 1;
     }
+    let reached = n + 1;
     Ran {
         verdict: Verdict::Accepted,
-        reached: n + 1,
+        reached,
     }
 }
 

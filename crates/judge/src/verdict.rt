@@ -25,6 +25,8 @@ pub enum Fault {
     Goal,
     // 9: a law has no value: a result beyond the number range
     Beyond,
+    // 10: a fluent changes by more than its limit
+    TooFast,
 }
 
 impl Fault {
@@ -41,6 +43,7 @@ impl Fault {
             Fault::ZeroDivisor => 7,
             Fault::Goal => 8,
             Fault::Beyond => 9,
+            Fault::TooFast => 10,
         }
     }
 }

@@ -15,6 +15,7 @@ use Rattle.judge.proofs.judgement.judge_steps.Tie as tie
 record Long (x : Index) : Type 0 where
   lowest : length (x .lowest) ≡ 32
   highest : length (x .highest) ≡ 32
+  limit : length (x .limit) ≡ 32
   start : length (x .start) ≡ 32
   known : length (x .known) ≡ 64
   knowers : length (x .knowers) ≡ 64
@@ -25,6 +26,7 @@ long : (s : tie.Start) → Long (s .args .under .index)
 long s = record {
   lowest = search needs;
   highest = search needs;
+  limit = search needs;
   start = search needs;
   known = search needs;
   knowers = search needs;
@@ -72,7 +74,7 @@ all-runs-requires c κs = start (held (known (c .before .before))) .pre .limits 
 
 run-sheet-requires : tie.Need-run-sheet-requires
 run-sheet-requires c κs =
-    let ran = c .before .before .before .before .before .before .before in let s = begun ran in let sound = s .pre .limits in let runs = ran .all-runs .ensures in (
+    let ran = c .before .before .before .before .before .before .before .before in let s = begun ran in let sound = s .pre .limits in let runs = ran .all-runs .ensures in (
       record {
         steps = s .pre .steps;
         whole = s .pre .whole;
@@ -90,6 +92,7 @@ run-sheet-requires c κs =
         fluents = sound .fluents;
         low = omega (arith, sound .fluents, long s .lowest);
         high = omega (arith, sound .fluents, long s .highest);
+        limits = omega (arith, sound .fluents, long s .limit);
         room = s .pre .room;
         blank = s .pre .blank;
       },
@@ -98,7 +101,7 @@ run-sheet-requires c κs =
 
 returns : tie.Need-returns
 returns c =
-    let ran = c .before .before .before .before .before .before .before .before in let s = begun ran in let x = s .args .under .index in let kept = held (known (owned ran)) in (
+    let ran = c .before .before .before .before .before .before .before .before .before in let s = begun ran in let x = s .args .under .index in let kept = held (known (owned ran)) in (
       c .run-sheet .ensures .0,
       λ d f.
           let w = under-is (s .args .store .now) (s .args .supplement .now) (f .of) in

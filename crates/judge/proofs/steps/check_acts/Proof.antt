@@ -4,7 +4,6 @@ use mathlib.Core.List.{List}
 use mathlib.Core.Bool.{true}
 use native.Mathlib.Omega.{arith}
 use borrow.Author.Needs.{needs}
-use lib.IntN.{ℤ}
 use lib.ListN.{length}
 use Rattle.bmap.specs.Domain.{Domain, Names, concurrency}
 use Rattle.bmap.specs.Meaning.{History}
@@ -14,6 +13,7 @@ use Rattle.judge.specs.States.{statesOf}
 use Rattle.judge.specs.Told.{Seen, Acts, Acted}
 use Rattle.judge.specs.Prepared.{Prepared}
 use Rattle.judge.proofs.StepLaws.{seen-all, barred-agents, barred-entries, allowed-laws}
+use Rattle.judge.specs.declared.landing.Ranges.{Ranges}
 use Rattle.judge.proofs.steps.check_acts.Statement.{statement}
 use Rattle.judge.proofs.steps.check_acts.Tie as tie
 
@@ -37,10 +37,10 @@ all-placed : (c : tie.After-enum-told) (d : Domain) (names : Names) → Acts d n
 all-placed c d names acts = sym (acts .agents) ∙ ap passOf (c .enum-told .given .1)
 
 -- check 2
-may-occur : (c : tie.After-check-entries) (d : Domain) (n w count : ℕ) (lowest highest : List ℤ) (sheet : List Names) (names : Names) → let s = start (one c) .args in
-    Prepared d (s .held .now) (s .owners .now) n (s .runs) lowest highest w count → Acts d names (s .step .acting) → Acted d sheet (s .history .now) (s .step .j + 1)
+may-occur : (c : tie.After-check-entries) (d : Domain) (n w count : ℕ) (ranges : Ranges) (sheet : List Names) (names : Names) → let s = start (one c) .args in
+    Prepared d (s .held .now) (s .owners .now) n (s .runs) ranges w count → Acts d names (s .step .acting) → Acted d sheet (s .history .now) (s .step .j + 1)
     → passOf (c .check-entries .result) ≡ each (mayOccur d (past (start (one c)) d w sheet) (s .step .j) names) (d .entries)
-may-occur c d n w count lowest highest sheet names p acts acted =
+may-occur c d n w count ranges sheet names p acts acted =
     c .check-entries .ensures d (past (start (one c)) d w sheet) n names (p .lawful) (p .ordered .executable) (p .owned) acts (seen (start (one c)) d w sheet (p .ranged .count) acted)
 
 -- ---- the needs
@@ -49,7 +49,7 @@ enum-known-placed : tie.Need-enum-known-placed
 enum-known-placed c = search needs
 
 returns : tie.Need-returns
-returns c = let start = c .before .before .before .before in λ d n w count lowest highest sheet names p acts acted.
+returns c = let start = c .before .before .before .before in λ d n w count ranges sheet names p acts acted.
     barred-agents d (past start d w sheet) (start .args .step .j) names (sym (acts .agents) ∙ ap passOf (c .before .placed .given .1))
 
 enum-told : tie.Need-enum-told
@@ -62,8 +62,8 @@ enum-known-fault : tie.Need-enum-known-fault
 enum-known-fault c = search needs
 
 returns-2 : tie.Need-returns-2
-returns-2 c = let two = c .before .before .before in let start′ = start (one two) in λ d n w count lowest highest sheet names p acts acted.
-    barred-entries d (past start′ d w sheet) (start′ .args .step .j) names (all-placed (one two) d names acts) (sym (may-occur two d n w count lowest highest sheet names p acts acted) ∙ ap passOf (c .before .fault .given .1))
+returns-2 c = let two = c .before .before .before in let start′ = start (one two) in λ d n w count ranges sheet names p acts acted.
+    barred-entries d (past start′ d w sheet) (start′ .args .step .j) names (all-placed (one two) d names acts) (sym (may-occur two d n w count ranges sheet names p acts acted) ∙ ap passOf (c .before .fault .given .1))
 
 enum-told-2 : tie.Need-enum-told-2
 enum-told-2 c = search needs
@@ -72,8 +72,8 @@ check-in-step-requires : tie.Need-check-in-step-requires
 check-in-step-requires c κs = start (one (c .before .before .before)) .pre .laws .concurrency
 
 returns-3 : tie.Need-returns-3
-returns-3 c = let two = c .before .before .before .before in let start′ = start (one two) in λ d n w count lowest highest sheet names p acts acted.
-    allowed-laws d (past start′ d w sheet) (start′ .args .step .j) names (all-placed (one two) d names acts) (sym (may-occur two d n w count lowest highest sheet names p acts acted) ∙ ap passOf (c .before .before .enum-told2 .given .1))
+returns-3 c = let two = c .before .before .before .before in let start′ = start (one two) in λ d n w count ranges sheet names p acts acted.
+    allowed-laws d (past start′ d w sheet) (start′ .args .step .j) names (all-placed (one two) d names acts) (sym (may-occur two d n w count ranges sheet names p acts acted) ∙ ap passOf (c .before .before .enum-told2 .given .1))
     (c .check-in-step .ensures d (past start′ d w sheet) concurrency n refl (p .lawful) (p .ordered .concurrency) (seen start′ d w sheet (p .ranged .count) acted))
 
 pub check-acts-spec : {M : Type 1} → statement M

@@ -7,7 +7,7 @@ use lib.IntN.{ℤ}
 use Rattle.bmap.specs.Domain.{Domain, Names, State, static}
 use Rattle.bmap.specs.Judge.{Checked, Setting, history, settled}
 use Rattle.judge.specs.States.{stateAt, statesOf}
-use Rattle.judge.specs.Landing.{Laid, Lays, LaidOver}
+use Rattle.judge.specs.Landing.{rangesOf, Laid, Lays, LaidOver}
 use Rattle.judge.specs.Told.{Occurring, Acted}
 use Rattle.judge.specs.Prepared.{Prepared}
 use Rattle.judge.specs.declared.verdict.Check.{Check}
@@ -29,7 +29,7 @@ abbrev new : tie.After-lay-effects → List ℤ
 new c = c .lay-effects .last .1 .1 .1 .1 .1 .0
 
 abbrev after : tie.After-put-state → List ℤ
-after c = c .put-state .last .1 .1 .1 .1 .0
+after c = c .put-state .last .1 .1 .1 .1 .1 .0
 
 -- the states that were reached, the last of them, and what the effect laws set
 abbrev states : tie.Start → List State
@@ -44,7 +44,7 @@ sets c d sheet names = settled d (history d sheet (states c)) (c .args .step .j)
 module _ (d : Domain) (owners : List ℕ) (n count : ℕ) (sheet : List Names) (names : Names) where
   -- what is asked of a domain
   abbrev Asked : tie.Start → Type 0
-  Asked c = let s = c .args in Prepared d (s .held .now) owners n (s .runs) (s .lowest .now) (s .highest .now) (s .w) count × (Occurring d names (s .step .acting .entries) × (Acted d sheet (s .history .now) (s .step .j + 1) × Laid (s .w) (s .new .now) [] (old c)))
+  Asked c = let s = c .args in Prepared d (s .held .now) owners n (s .runs) (rangesOf (s .lowest .now) (s .highest .now) (s .limit .now)) (s .w) count × (Occurring d names (s .step .acting .entries) × (Acted d sheet (s .history .now) (s .step .j + 1) × Laid (s .w) (s .new .now) [] (old c)))
 
   -- the effects
   laying : (c : tie.After-lay-effects) → Asked (start c) → Lays (c .lay-effects .result) (start c .args .w) (new c) (sets (start c) d sheet names) (old (start c))
@@ -91,7 +91,7 @@ returns-2 c = let five = c .before .before .before in let begun = start (effects
   record { kept = five .put-state .ensures .0; wide = effects five .lay-effects .ensures .0 },
   λ d owners n count sheet names p occurring acted laid. let l = laid-over d owners n count sheet names five (p, (occurring, (acted, laid))) in record {
     leaves = landed-fault d sheet (states begun) (s .step .j) names (l .settings) (old begun) (l .are) (states-at (s .w) (s .step .j + 1) (s .step .j) (s .history .now) (omega arith))
-        (five .put-state .result) _ (five .put-state .ensures .1 d (l .settings) (old begun) (p .ranged) (l .laid)) (c .before .fault2 .given .1);
+        (five .put-state .result) _ (five .put-state .ensures .1 d (l .settings) (p .ranged) (l .laid)) (c .before .fault2 .given .1);
     levels = λ e. absurd (let z : _≡_ {A = ℕ} 0 1 = cc in omega arith);
   },
 )
@@ -105,12 +105,12 @@ check-in-step-requires c κs = start (effects (c .before .before .before)) .pre 
 returns-3 : tie.Need-returns-3
 returns-3 c = let five = c .before .before .before .before in let begun = start (effects five) in let s = begun .args in (
   record { kept = five .put-state .ensures .0; wide = effects five .lay-effects .ensures .0 },
-  λ d owners n count sheet names p occurring acted laid. let l = laid-over d owners n count sheet names five (p, (occurring, (acted, laid))) in let put = five .put-state .ensures .1 d (l .settings) (old begun) (p .ranged) (l .laid) in record {
+  λ d owners n count sheet names p occurring acted laid. let l = laid-over d owners n count sheet names five (p, (occurring, (acted, laid))) in let put = five .put-state .ensures .1 d (l .settings) (p .ranged) (l .laid) in record {
     leaves = landed-fine d sheet (states begun) (s .step .j) names (l .settings) (old begun) (l .are) (states-at (s .w) (s .step .j + 1) (s .step .j) (s .history .now) (omega arith))
         (five .put-state .result) (c .check-in-step .result) (stateAt (s .w) (after five) (s .step .j + 1)) (statesOf (s .w) (s .step .j + 1 + 1) (after five)) put (c .before .before .enum-told2 .given .1)
         (states-more (s .w) (s .step .j) (s .history .now) (after five) (five .put-state .ensures .0 .before) (begun .pre .stores .fluents))
         (c .check-in-step .ensures d (history d sheet (statesOf (s .w) (s .step .j + 1 + 1) (after five))) static n refl (p .lawful) (p .ordered .fixed) (seen-states d sheet (s .w) (after five) (s .step .j + 1) (omega (arith, begun .pre .stores .step)) (p .ranged .count)));
-    levels = λ e. laid-again d (l .settings) (old begun) (s .lowest .now) (s .highest .now) (s .w) (p .ranged) (five .put-state .result) (stateAt (s .w) (after five) (s .step .j + 1)) (new (effects five)) put (c .before .before .enum-told2 .given .1) (l .laid);
+    levels = λ e. laid-again d (l .settings) (old begun) (rangesOf (s .lowest .now) (s .highest .now) (s .limit .now)) (s .w) (p .ranged) (five .put-state .result) (stateAt (s .w) (after five) (s .step .j + 1)) (new (effects five)) put (c .before .before .enum-told2 .given .1) (l .laid);
   },
 )
 

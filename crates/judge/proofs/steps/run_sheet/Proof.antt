@@ -118,6 +118,7 @@ run-steps-requires c κs = let copied = copies (c .before .before .before) in le
   fluents = pre .fluents;
   low = pre .low;
   high = pre .high;
+  limits = pre .limits;
   room = zeroth-long copied;
   blank = start-blank (s .plan .counts .fluents) (s .history .now) (s .start .now) _ (pre .fluents) (start copied .pre .1) (copied .copy-levels .ensures) (pre .blank);
 }

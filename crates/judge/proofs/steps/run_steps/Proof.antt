@@ -12,7 +12,7 @@ use Rattle.bmap.specs.Judge.{history, landed, step, carried, accepted}
 use Rattle.law.specs.Evaluate.{rowSize}
 use Rattle.judge.specs.Answer.{passOf}
 use Rattle.judge.specs.States.{stateAt, statesOf, leaving, marksFrom}
-use Rattle.judge.specs.Landing.{Laid, Landed, allowed}
+use Rattle.judge.specs.Landing.{rangesOf, Laid, Landed, allowed}
 use Rattle.judge.specs.Told.{Acts, Acted}
 use Rattle.judge.specs.Prepared.{Planned}
 use Rattle.judge.proofs.StateLaws.{state-kept, states-kept, states-more, between-blank}
@@ -22,12 +22,12 @@ use Rattle.judge.proofs.steps.run_steps.Statement.{statement}
 use Rattle.judge.proofs.steps.run_steps.Tie as tie
 
 abbrev Inv-loop : tie.InvT-loop
-Inv-loop held sheet n history₀ counts agents owners runs lowest highest actions crews levels₀ acting₀ before₀ rest₀ j₀ history levels acting before rest j =
-    Round n agents history levels rest j × ((d : Domain) (l : ℕ) → Planned d held l (record { counts = counts; owners = owners; runs = runs; lowest = lowest; highest = highest; names = actions; crews = crews })
+Inv-loop held sheet n history₀ counts agents owners runs lowest highest limit actions crews levels₀ acting₀ before₀ rest₀ j₀ history levels acting before rest j =
+    Round n agents history levels rest j × ((d : Domain) (l : ℕ) → Planned d held l (record { counts = counts; owners = owners; runs = runs; ranges = rangesOf lowest highest limit; names = actions; crews = crews })
     → Going d agents n (counts .fluents) (rows agents n sheet) (statesOf (counts .fluents) 1 history₀) j history levels acting before rest)
 
 abbrev μ-loop : tie.MeasureT-loop
-μ-loop held sheet n history₀ counts agents owners runs lowest highest actions crews levels₀ acting₀ before₀ rest₀ j₀ history levels acting before rest j =
+μ-loop held sheet n history₀ counts agents owners runs lowest highest limit actions crews levels₀ acting₀ before₀ rest₀ j₀ history levels acting before rest j =
     n - j
 
 -- ---- the places: the start, a turn's head, who acts, the marks, checks 1 to 3, the new state
@@ -35,8 +35,11 @@ abbrev μ-loop : tie.MeasureT-loop
 abbrev Start : Type 0
 Start = tie.Start Inv-loop μ-loop
 
+abbrev begun : tie.After-old-levels Inv-loop μ-loop → Start
+begun c = c .before .before .before .before .before .before .before .before .before .before .before .before .before
+
 abbrev start : tie.At-loop Inv-loop μ-loop → Start
-start c = c .before .before .before .before .before .before .before .before .before .before .before .before .before
+start c = begun (c .before .before)
 
 abbrev head : tie.After-acting-in Inv-loop μ-loop → tie.At-loop Inv-loop μ-loop
 head c = c .before .before .before .before .before
@@ -48,7 +51,7 @@ abbrev marks : tie.After-check-acts Inv-loop μ-loop → tie.After-mark-step Inv
 marks c = c .before .before .before
 
 abbrev allows : tie.After-land Inv-loop μ-loop → tie.After-check-acts Inv-loop μ-loop
-allows c = c .before .before .before .before .before .before .before
+allows c = c .before .before .before .before .before .before .before .before
 
 -- the numbers of agents and fluents, and the steps
 abbrev agents : Start → ℕ
@@ -75,10 +78,10 @@ abbrev marked : tie.After-mark-step Inv-loop μ-loop → List ℤ
 marked c = c .mark-step .last .0
 
 abbrev after : tie.After-land Inv-loop μ-loop → List ℤ
-after c = c .land .last .1 .1 .1 .1 .1 .1 .1 .0
+after c = c .land .last .1 .1 .1 .1 .1 .1 .1 .1 .0
 
 abbrev levels : tie.After-land Inv-loop μ-loop → List ℤ
-levels c = c .land .last .1 .1 .1 .1 .1 .1 .0
+levels c = c .land .last .1 .1 .1 .1 .1 .1 .1 .0
 
 -- the states that were reached
 abbrev states : tie.After-mark-step Inv-loop μ-loop → List State
@@ -120,7 +123,7 @@ module _ (d : Domain) (l : ℕ) where
 
   allowing : (c : tie.After-check-acts Inv-loop μ-loop) → let h = head (acts (marks c)) in let s = start h in Of s → passOf (c .check-acts .result) ≡ allowed d (history d (sheet s) (states (marks c))) (j h) (names h)
   allowing c p = let h = head (acts (marks c)) in let s = start h in
-      c .check-acts .ensures d l (fluents s) (s .args .plan .counts .entries) (s .args .plan .lowest) (s .args .plan .highest) (sheet s) (names h) (p .prepared) (who (acts (marks c)) p) (acted (marks c) p)
+      c .check-acts .ensures d l (fluents s) (s .args .plan .counts .entries) (s .args .plan .ranges) (sheet s) (names h) (p .prepared) (who (acts (marks c)) p) (acted (marks c) p)
 
   landing : (c : tie.After-land Inv-loop μ-loop) → let m = marks (allows c) in let h = head (acts m) in let s = start h in Of s
       → Landed (c .land .result) (fluents s) (levels c) (stateAt (fluents s) (after c) (j h + 1)) (landed d (sheet s) (states m) (j h) (names h))
@@ -131,23 +134,23 @@ module _ (d : Domain) (l : ℕ) where
   stepping : (c : tie.After-land Inv-loop μ-loop) → let m = marks (allows c) in let h = head (acts m) in let s = start h in Of s
       → leaving (c .land .result) (stateAt (fluents s) (after c) (j h + 1)) ≡ step d (sheet s) (states m) (j h) (names h)
   stepping c p = let m = marks (allows c) in let h = head (acts m) in let s = start h in
-      landing c p .leaves ∙ step-on d (sheet s) (states m) (j h) (names h) (allows c .check-acts .result) (allowing (allows c) p) (c .before .before .before .before .before .enum-told .given .1)
+      landing c p .leaves ∙ step-on d (sheet s) (states m) (j h) (names h) (allows c .check-acts .result) (allowing (allows c) p) (c .before .before .before .before .before .before .enum-told .given .1)
 
 -- ---- the needs
 
 old-levels-requires : tie.Need-old-levels-requires Inv-loop μ-loop
-old-levels-requires c κs = let pre = c .before .before .before .before .before .before .before .before .before .before .pre in record { step = omega arith; fluents = pre .fluents; room = pre .room; wide = refl }
+old-levels-requires c κs = let pre = c .before .before .before .before .before .before .before .before .before .before .before .before .pre in record { step = omega arith; fluents = pre .fluents; room = pre .room; wide = refl }
 
 slice-aggregate-before : tie.Need-slice-aggregate-before Inv-loop μ-loop
 slice-aggregate-before c = search needs
 
 loop-holds : tie.Need-loop-holds Inv-loop μ-loop
-loop-holds c = let begun = c .before .before .before .before .before .before .before .before .before .before .before .before in let s = begun .args in let first = c .before .old-levels .ensures in (
-  record { within = search needs; whole = left-start (agents begun) (s .n) _ (begun .pre .whole); room = begun .pre .room; blank = begun .pre .blank; wide = first .0 },
+loop-holds c = let origin = begun (c .before) in let s = origin .args in let first = c .before .old-levels .ensures in (
+  record { within = search needs; whole = left-start (agents origin) (s .n) _ (origin .pre .whole); room = origin .pre .room; blank = origin .pre .blank; wide = first .0 },
   λ d l p. record {
     acted = λ k e h i. absurd (omega arith);
-    left = rows-start (agents begun) (s .n) (s .sheet .now);
-    run = ap (λ (r : List Names). carried d (sheet begun) 0 (statesOf (fluents begun) 1 (s .history .now)) r) (rows-start (agents begun) (s .n) (s .sheet .now));
+    left = rows-start (agents origin) (s .n) (s .sheet .now);
+    run = ap (λ (r : List Names). carried d (sheet origin) 0 (statesOf (fluents origin) 1 (s .history .now)) r) (rows-start (agents origin) (s .n) (s .sheet .now));
     present = first .1;
     last = λ h. absurd (omega arith);
   },
@@ -190,9 +193,9 @@ enum-told : tie.Need-enum-told Inv-loop μ-loop
 enum-told c = search needs
 
 land-requires : tie.Need-land-requires Inv-loop μ-loop
-land-requires c κs = let m = marks (c .before .before .before .before .before .before) in let h = head (acts m) in let pre = start h .pre in
+land-requires c κs = let m = marks (c .before .before .before .before .before .before .before) in let h = head (acts m) in let pre = start h .pre in
     record {
-      stores = record { step = step-less (acts m); fluents = pre .fluents; low = pre .low; high = pre .high; room = m .mark-step .ensures .0 .long };
+      stores = record { step = step-less (acts m); fluents = pre .fluents; low = pre .low; high = pre .high; limits = pre .limits; room = m .mark-step .ensures .0 .long };
       laws = pre .laws;
       wide = h .loop .inv .0 .wide;
     }
@@ -259,8 +262,8 @@ loop-again c = let six = c .before .before .before in let m = marks (allows six)
       },
     )
 
-add-t52 : tie.Need-add-t52 Inv-loop μ-loop
-add-t52 c = omega (arith, start (c .before) .pre .steps)
+add-reached : tie.Need-add-reached Inv-loop μ-loop
+add-reached c = omega (arith, start (c .before) .pre .steps)
 
 returns-3 : tie.Need-returns-3 Inv-loop μ-loop
 returns-3 c = let h = c .before in let s = start h in let z : j h ≡ s .args .n = omega (arith, h .loop .inv .0 .within, c .loop-test .left) in (
@@ -302,5 +305,5 @@ run-steps-spec =
     add-j
     loop-less
     loop-again
-    add-t52
+    add-reached
     returns-3)

@@ -53,7 +53,7 @@ use Rattle.answer.specs.Speaks.{Speaks}
 use Rattle.answer.specs.Figures.{mostStates}
 use Rattle.answer.proofs.PutLaws.{put-then}
 use Rattle.answer.proofs.FiguresLaws.{lines-none}
-use Rattle.answer.proofs.StatesLaws.{judge-reached}
+use Rattle.answer.proofs.StatesLaws.{judge-whole}
 use Rattle.answer.specs.Morning.{statesSize, Accepts, Breaks, ComesTo, Modest, Underway, Kept, GoesOn, NextIs, NextUnderway, sheetTexts, reportedAfter, reportFrom}
 
 -- ---- one sheet
@@ -249,7 +249,7 @@ module _ (d : Domain) (width : ℕ) (judged : List Judged) (m : Morning) {levels
       → Kept width (judged ++ (judge d (x .steps) ∷ [])) (record { at = at; lines = lines; accepted = m .accepted + 1; broken = m .broken; states = m .states + k }) (take (m .states * width) levels ++ (left ++ post))
   kept-accepted {entry} {left} post {k} e x =
       let j : Judged = judge d (x .steps) in
-      let r : Rows width (j .states) = subst (λ (n : ℕ). Rows n (j .states)) (sym e) (judge-reached d (x .steps) .whole) in
+      let r : Rows width (j .states) = subst (λ (n : ℕ). Rows n (j .states)) (sym e) (judge-whole d (x .steps)) in
       let after : List ℤ = drop (length (flat (j .states))) entry in
       let taken : rows width k (left ++ post) ≡ j .states =
       ap (λ (n : ℕ). rows width n (left ++ post)) (x .count) ∙ ap (λ (l : List ℤ). rows width (length (j .states)) (l ++ post)) (x .levels-are)

@@ -55,7 +55,7 @@ use Rattle.answer.specs.Room.{outputSize, Few}
 use Rattle.answer.specs.Speaks.{Speaks}
 use Rattle.answer.specs.Answer.{Answered, answered}
 use Rattle.answer.proofs.PutLaws.{put-then}
-use Rattle.answer.proofs.StatesLaws.{judge-reached}
+use Rattle.answer.proofs.StatesLaws.{judge-whole}
 
 -- ---- the last line
 
@@ -96,7 +96,7 @@ module _ (store supplement sheet : List ℕ) (levels : List ℤ) {after : List �
     written {fluents} e =
         ap (λ (w : ℕ). rows w states after) e ∙ ap (λ (n : ℕ). rows (length (d .fluents)) n after) counted
         ∙ ap (λ (x : call.Judgement). rows (length (d .fluents)) (length (expected .states)) (x .levels)) judged
-        ∙ rows-front (length (d .fluents)) (drop (length (flat (expected .states))) levels) (judge-reached (replaced s d) steps .whole)
+        ∙ rows-front (length (d .fluents)) (drop (length (flat (expected .states))) levels) (judge-whole (replaced s d) steps)
 
     pub verdict-is : (v : Verdict) → j ≡ said.Judged v → verdictOf v ≡ expected .verdict
     verdict-is v e = let q : answerOf j ≡ got (expected .verdict) = ap (λ (x : call.Judgement). x .answer) judged in cc

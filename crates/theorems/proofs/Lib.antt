@@ -10,3 +10,6 @@ pub mod LongTexts
 pub mod DivisionLaws
 -- K4: laws that look back.
 pub mod LookBackLaws
+-- K6: what is so of every state that is written, and the limits of their changes.
+pub mod ReachedLaws
+pub mod ChangesLaws

@@ -13,7 +13,7 @@ use Rattle.judge.specs.declared.judgement.Counted.{Counted}
 use Rattle.judge.specs.declared.verdict.Verdict.{Verdict}
 use Rattle.judge.specs.declared.verdict.Verdict.the-variants.{Accepted, Broken}
 use Rattle.judge.specs.declared.verdict.Fault.{Fault}
-use Rattle.judge.specs.declared.verdict.Fault.the-variants.{Misplaced, Barred, Concurrency, Conflict, Range, Static, ZeroDivisor, Goal, Beyond}
+use Rattle.judge.specs.declared.verdict.Fault.the-variants.{Misplaced, Barred, Concurrency, Conflict, Range, Static, ZeroDivisor, Goal, Beyond, TooFast}
 use Rattle.desk.specs.Numbers.{verdictNumber, judgedNumber}
 
 pub number-small : (r : Refusal) → numberOf r ≤ 20
@@ -38,7 +38,7 @@ number-small LongInput = omega arith
 number-small TooManySheets = omega arith
 number-small OtherLaw = omega arith
 
-pub kind-small : (f : Fault) → kindOf f ≤ 9
+pub kind-small : (f : Fault) → kindOf f ≤ 10
 kind-small Misplaced = omega arith
 kind-small Barred = omega arith
 kind-small Concurrency = omega arith
@@ -48,6 +48,7 @@ kind-small Static = omega arith
 kind-small ZeroDivisor = omega arith
 kind-small Goal = omega arith
 kind-small Beyond = omega arith
+kind-small TooFast = omega arith
 
 -- 24 bits: kind, step and number
 pub verdict-small : (v : Verdict) → verdictNumber (verdictOf v) < 2 ^ 24

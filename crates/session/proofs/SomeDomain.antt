@@ -12,7 +12,7 @@ use Rattle.bmap.specs.Number.{signedWord}
 use Rattle.bmap.specs.Tree.{allowedE, allowedC, always}
 use Rattle.bmap.specs.Code.{codeOf, parseE, parseC}
 use Rattle.bmap.specs.Domain.{Domain, executable}
-use Rattle.bmap.specs.Payload.{agents, knowledge, maskFits, agentsFit, fluentFits, entryFits, executableIn, lawIn, itemIn}
+use Rattle.bmap.specs.Payload.{agents, knowledge, maskFits, agentsFit, limitFits, fluentFits, entryFits, executableIn, lawIn, itemIn}
 use Rattle.bmap.specs.Accept.{inOrder, room, fresh, checked, accept, complete, takenFrom}
 use Rattle.bmap.specs.Store.{framesFrom, frameAt, standsAt, domainIn}
 use Rattle.domain.specs.declared.found.Found.{Found}
@@ -26,14 +26,14 @@ storeFor n = 0xA1 ∷ 1 ∷ n ∷ 0xA2 ∷ 6 ∷ 0 ∷ 0 ∷ 0 ∷ 0 ∷ 0 ∷ 0
 abbrev pub domainFor : ℕ → Domain
 domainFor n = record {
   agents = n;
-  fluents = record { lowest = pos 0; highest = pos 0; start = pos 0 } ∷ [];
+  fluents = record { lowest = pos 0; highest = pos 0; start = pos 0; limit = 0 } ∷ [];
   knowledge = [];
   entries = record { name = 1; crew = 1 } ∷ [];
   laws = executable 0 always ∷ [];
 }
 
 pub domain-for : (n : ℕ) → 1 ≤ n → n ≤ 16 → domainIn (storeFor n) ≡ got (domainFor n)
-unfolding domainIn framesFrom frameAt standsAt all any numbers takenFrom accept checked inOrder room fresh complete itemIn agentsFit fluentFits entryFits maskFits lawIn executableIn parseC parseE codeOf allowedC allowedE signedWord
+unfolding domainIn framesFrom frameAt standsAt all any numbers takenFrom accept checked inOrder room fresh complete itemIn agentsFit limitFits fluentFits entryFits maskFits lawIn executableIn parseC parseE codeOf allowedC allowedE signedWord
 domain-for zero a b = absurd (omega arith)
 domain-for (suc zero) a b = refl
 domain-for (suc (suc zero)) a b = refl

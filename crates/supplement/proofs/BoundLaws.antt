@@ -50,7 +50,7 @@ place-within at (f ∷ fs) n h = go (leb 0xA5 (f .kind)) n h (place-within (at +
     go true (suc n) h rec = omega (arith, rec n (omega arith), longer, line-longer f)
     go false n h rec = omega (arith, rec n h, longer, line-longer f)
 
-pub own-low : (store : List ℕ) (d : Domain) (fs : List Frame) → domainIn store ≡ got d → framesIn store ≡ some fs → (n : ℕ) → n < length (lawPlaces 0 fs) → getD (lawPlaces 0 fs) n 0 ≤ 33_319
+pub own-low : (store : List ℕ) (d : Domain) (fs : List Frame) → domainIn store ≡ got d → framesIn store ≡ some fs → (n : ℕ) → n < length (lawPlaces 0 fs) → getD (lawPlaces 0 fs) n 0 ≤ 33_447
 own-low store d fs g e n h =
     let t : textOf store ≡ flat (map lineFor fs) = ap (λ (o : Option (List Frame)). maybe o [] (λ (l : List Frame). flat (map lineFor l))) e in
     omega (arith, place-within 0 fs n h, ap length t, domain-text-fits .most store d g)
@@ -128,7 +128,7 @@ law-low store supplement n p e =
     let places = lawPlaces 0 (m .frames) in
     let few : length (d .laws) ≤ 128 = omega (arith, law-count store (u .index), k .under .sound .laws) in
     let in-places : n < length places = omega (arith, as-many store d places (m .all), law-count store (u .index), k .number) in
-    let frame : getD (u .index .laws) n 0 ≤ 33_319 = subst (λ (i : ℕ). i ≤ 33_319) (sym (law-place store d (u .index) (k .under .found) (k .under .domain) n in-places)) (own-low store d (m .frames) (k .under .domain) (m .are) n in-places) in
+    let frame : getD (u .index .laws) n 0 ≤ 33_447 = subst (λ (i : ℕ). i ≤ 33_447) (sym (law-place store d (u .index) (k .under .found) (k .under .domain) n in-places)) (own-low store d (m .frames) (k .under .domain) (m .are) n in-places) in
     let over : getD (u .over) n 0 ≤ 15_617 = subst (λ (i : ℕ). i ≤ 15_617) (sym (ap (λ (o : List ℕ). getD o n 0) (k .under .places) ∙ over-at (k .under .replacements) n (omega (arith, k .under .sound .laws, k .number)))) (low (k .under .replacements) (replaced-low d supplement (k .under .replacements) few (k .under .accepted) n)) in
     let there : placeIn (p .stands) ≡ placeIn (lawStretch store (u .index .laws) supplement (u .over) n .stands) = ap (λ (x : Stretch). placeIn (x .stands)) (k .part .stretch) in
     record {

@@ -34,7 +34,8 @@ enum {
     WAROTH_KNOWLEDGE = 64, /* A3 lines */
     WAROTH_ENTRIES = 64,
     WAROTH_LAWS = 128,
-    WAROTH_PAYLOAD = 120, /* bytes of a line's payload */
+    WAROTH_PAYLOAD = 120,  /* bytes of a line's payload */
+    WAROTH_CHANGE = 32767, /* the highest limit of a fluent's change in one step; the lowest is 1 */
     WAROTH_STEPS = 64,
     WAROTH_EDITS = 200,
     WAROTH_SHEETS = 40 /* of a report */
@@ -63,12 +64,12 @@ enum { WAROTH_REPORT_INPUT = WAROTH_INPUT + WAROTH_SHEETS * (5 + WAROTH_INPUT) +
 
 /* The most stack of a call, in bytes: what was measured, with room to spare. Measured by reference/beside/stack.c:
  *
- *   waroth_read_domain   6,544   waroth_read_supplement  9,200   waroth_judge        36,168   waroth_open    5,568
- *   waroth_write_domain  5,616   waroth_law              8,368   waroth_judge_under  36,184   waroth_enter  16,352
- *   waroth_counts        5,552   waroth_lay             10,448   waroth_answer       78,616   waroth_strike 16,352
- *   waroth_frame             8   waroth_read_sheet         312   waroth_low_water    92,888   waroth_amend  16,352
- *                                waroth_write_sheet         69   waroth_report      239,880   waroth_undo   17,360
- *                                                                waroth_verdict      44,568   waroth_redo   20,992 */
+ *   waroth_read_domain   6,864   waroth_read_supplement  9,648   waroth_judge        36,488   waroth_open    5,824
+ *   waroth_write_domain  5,872   waroth_law              8,752   waroth_judge_under  36,504   waroth_enter  16,352
+ *   waroth_counts        5,808   waroth_lay             10,960   waroth_answer       79,000   waroth_strike 16,352
+ *   waroth_frame             8   waroth_read_sheet         312   waroth_low_water    93,144   waroth_amend  16,352
+ *                                waroth_write_sheet         69   waroth_report      240,200   waroth_undo   17,360
+ *                                                                waroth_verdict      44,696   waroth_redo   20,992 */
 enum {
     WAROTH_STACK_TEXTS = 8192,        /* domains and sheets */
     WAROTH_STACK_SUPPLEMENTS = 16384, /* waroth_read_supplement, waroth_law, waroth_lay */
@@ -84,7 +85,7 @@ enum {
 /* The longest texts: a buffer of this size has room for whatever a writer writes (crates/bmap/specs/Theorems.antt,
  * DomainTextFits and SheetTextFits, both proved). */
 enum {
-    WAROTH_DOMAIN_TEXT = WAROTH_LINE_TEXT(1) + WAROTH_FLUENTS * WAROTH_LINE_TEXT(6) + WAROTH_KNOWLEDGE * WAROTH_LINE_TEXT(3) +
+    WAROTH_DOMAIN_TEXT = WAROTH_LINE_TEXT(1) + WAROTH_FLUENTS * WAROTH_LINE_TEXT(8) + WAROTH_KNOWLEDGE * WAROTH_LINE_TEXT(3) +
                          WAROTH_ENTRIES * WAROTH_LINE_TEXT(3) + WAROTH_LAWS * WAROTH_LINE_TEXT(WAROTH_PAYLOAD),
     WAROTH_SHEET_TEXT = WAROTH_STEPS * WAROTH_LINE_TEXT(WAROTH_AGENTS)
 };
@@ -130,6 +131,7 @@ enum waroth_kind_number {
     WAROTH_ZERO_DIVISOR = 7, /* a law has no value: a zero divisor; number: law */
     WAROTH_GOAL = 8,         /* a goal law is false; number: law */
     WAROTH_BEYOND = 9,       /* a law has no value: a result beyond -1,000,000,000 to 1,000,000,000; number: law */
+    WAROTH_TOO_FAST = 10,    /* a fluent changes by more than its limit, down or up; number: fluent */
     WAROTH_ACCEPTED = 128,
     WAROTH_REFUSED = 255
 };

@@ -284,6 +284,8 @@ fn main() {
     ] {
         verdicts(&input);
     }
+    // Levels that may not change fast.
+    verdicts(&inputs::full_of_limits());
     for input in [&inputs::long_text(), &filled, &mixed] {
         domain_texts(input);
     }

@@ -51,8 +51,9 @@ static_assert(WAROTH_SUPPLEMENT == 16000 && WAROTH_LAWS * (2 + WAROTH_PAYLOAD) <
 static_assert(WAROTH_SHEET == 1024 && WAROTH_LEVELS == 2080, "the paper's buffers");
 static_assert(WAROTH_SHEETS == 40 && WAROTH_TOO_MANY_SHEETS == 19, "the paper's numbers of a report");
 static_assert(WAROTH_ZERO_DIVISOR == 7 && WAROTH_BEYOND == 9, "the paper's kinds of a law without value");
+static_assert(WAROTH_TOO_FAST == 10 && WAROTH_CHANGE == 32767, "the paper's kind and limit of a change");
 static_assert(WAROTH_REPORT_INPUT == 2460205, "what decides a report");
-static_assert(WAROTH_DOMAIN_TEXT == 33319 && WAROTH_SHEET_TEXT == 2368, "the longest texts");
+static_assert(WAROTH_DOMAIN_TEXT == 33447 && WAROTH_SHEET_TEXT == 2368, "the longest texts");
 static_assert(sizeof(struct waroth_session) == 4 * sizeof(size_t) + WAROTH_SHEET + sizeof session.log, "no gaps");
 
 enum { TOO_MANY_AGENTS = WAROTH_AGENTS + 1, TOO_FEW_LEVELS = WAROTH_LEVELS - 1 };
@@ -348,8 +349,10 @@ static int refusals(void)
 }
 
 /* A domain with one agent, a fluent that is 5 and at most 9, an action 1 that may always be taken, and one law more; the
- * agent takes it once. What has no value is 1 by 0, and 31,623 times 31,623. */
+ * agent takes it once. What has no value is 1 by 0, and 31,623 times 31,623. The same with a limit: the fluent may change
+ * by 2. */
 #define SMALL "A10101\nA206000000090005\nA403010001\nA502002A\n"
+#define LIMITED "A10101\nA2080000000900050002\nA403010001\nA502002A\n"
 #define BY_ZERO "0B2015100001100000100000\n"
 #define BEYOND "0B2014107B87107B87100000\n"
 
@@ -369,6 +372,9 @@ static int kinds(void)
         {SMALL "A8" BEYOND, WAROTH_BEYOND, 1, 1, 1},
         {SMALL "A9" BEYOND, WAROTH_BEYOND, 1, 1, 2},
         {SMALL "A902282A\n", WAROTH_GOAL, 1, 1, 2},
+        {LIMITED "A606002A00100008\n", WAROTH_TOO_FAST, 1, 0, 1},
+        {LIMITED "A606002A0010000A\n", WAROTH_RANGE, 1, 0, 1},
+        {LIMITED "A606002A00100007\nA902282A\n", WAROTH_GOAL, 1, 2, 2},
     };
     size_t i;
     for (i = 0; i < sizeof cases / sizeof cases[0]; i++) {

@@ -82,6 +82,18 @@ pub fn full() -> Input {
     Input { name, draft, sheet }
 }
 
+/// The same, and each level may change by just as much as it does.
+pub fn full_of_limits() -> Input {
+    let mut input = full();
+    for fluent in 0..input.draft.fluents.len() {
+        input.draft.limit(fluent, 7);
+    }
+    Input {
+        name: "full of limits, 64 steps",
+        ..input
+    }
+}
+
 /// An expression of this depth over one fluent, a reified constraint at every third.
 fn nested(depth: usize) -> Vec<u8> {
     match depth {

@@ -28,23 +28,61 @@ pub struct Fluent {
     pub lowest: i16,
     pub highest: i16,
     pub start: i16,
+    /// The largest change in one step.
+    limit: u16,
     /// The agents that know it.
     pub knowers: u16,
 }
 
 impl Fluent {
+    /// Bytes of the longest payload, which has a limit.
+    pub const MAX_PAYLOAD: usize = 8;
+
+    pub const MAX_LIMIT: u16 = 32_767;
+
+    /// Where no limit is given: from one end of two bytes to the other, no change is
+    /// larger.
+    const NO_LIMIT: u16 = u16::MAX;
+
+    const EMPTY: Fluent = Fluent {
+        lowest: 0,
+        highest: 0,
+        start: 0,
+        limit: 0,
+        knowers: 0,
+    };
+
     fn of(payload: &[u8]) -> Option<Self> {
-        let &[a, b, c, d, e, f] = payload else {
-            return None;
-        };
+        let (&[a, b, c, d, e, f], rest) = payload.split_first_chunk()?;
         let [lowest, highest, start] = [[a, b], [c, d], [e, f]].map(i16::from_be_bytes);
+        let limit = match *rest {
+            [] => Fluent::NO_LIMIT,
+            [high, low] => match u16::from_be_bytes([high, low]) {
+                limit @ 1..=Fluent::MAX_LIMIT => limit,
+                _ => return None,
+            },
+            _ => return None,
+        };
         let fluent = Fluent {
             lowest,
             highest,
             start,
+            limit,
             knowers: 0,
         };
         (lowest..=highest).contains(&start).then_some(fluent)
+    }
+
+    /// Whether a number is in its range.
+    #[inline]
+    pub fn has(&self, number: i64) -> bool {
+        (i64::from(self.lowest)..=self.highest.into()).contains(&number)
+    }
+
+    /// Whether a step may change it so.
+    #[inline]
+    pub fn may_change(&self, from: i64, to: i64) -> bool {
+        (to - from).abs() <= self.limit.into()
     }
 }
 
@@ -111,12 +149,7 @@ impl Domain {
 
     pub const EMPTY: Domain = Domain {
         agents: 0,
-        fluents: [Fluent {
-            lowest: 0,
-            highest: 0,
-            start: 0,
-            knowers: 0,
-        }; Domain::MAX_FLUENTS],
+        fluents: [Fluent::EMPTY; Domain::MAX_FLUENTS],
         fluent_count: 0,
         knows_count: 0,
         entries: [Entry(0); Domain::MAX_ENTRIES],

@@ -66,6 +66,11 @@ impl<'a> History<'a> {
         self.position += 1;
     }
 
+    /// The value of a fluent in the present state.
+    pub fn present(&self, fluent: usize) -> i64 {
+        self.now[fluent].into()
+    }
+
     /// Gives a fluent another value in the present state.
     pub fn set(&mut self, fluent: usize, value: i16) {
         self.now[fluent] = value.into();

@@ -1,7 +1,7 @@
 //! The judge: a sheet's steps in order until the first fault.
 
 use crate::code::{Compiler, Op};
-use crate::domain::{bits, Domain, CONCURRENCY, EFFECT, EXECUTABILITY, GOAL, STATIC};
+use crate::domain::{bits, Domain, Fluent, CONCURRENCY, EFFECT, EXECUTABILITY, GOAL, STATIC};
 use crate::history::History;
 use crate::line::MAX_PAYLOAD;
 use crate::number::Trouble;
@@ -25,6 +25,7 @@ pub const STATE_REFUSED: u8 = 6;
 pub const ZERO_DIVISOR: u8 = 7;
 pub const GOAL_MISSED: u8 = 8;
 pub const OUT_OF_NUMBERS: u8 = 9;
+pub const TOO_FAST: u8 = 10;
 
 #[derive(Clone, Copy, PartialEq, Eq, Debug)]
 pub enum Verdict {
@@ -105,6 +106,16 @@ impl Fault {
     #[cold]
     fn of(trouble: Trouble, law: usize) -> Self {
         Fault(trouble as u8, law)
+    }
+
+    /// A value that its fluent, of this number, may not get: the range goes before
+    /// the change.
+    #[cold]
+    fn of_value(fluent: &Fluent, number: usize, value: i64) -> Self {
+        match fluent.has(value) {
+            true => Fault(TOO_FAST, number),
+            false => Fault(OUT_OF_RANGE, number),
+        }
     }
 
     fn at(self, step: usize, states: usize) -> Judged {
@@ -323,13 +334,15 @@ impl Trial<'_> {
             set |= 1 << fluent;
         }
         self.history.advance();
-        for fluent in bits(set.into()) {
-            let range = &domain.fluents()[fluent];
-            let value = settings[fluent];
-            if !(i64::from(range.lowest)..=range.highest.into()).contains(&value) {
-                return Err(Fault(OUT_OF_RANGE, fluent));
+        // A fluent that no law set is in its range, and changes by 0.
+        for number in bits(set.into()) {
+            let fluent = &domain.fluents()[number];
+            let (from, to) = (self.history.present(number), settings[number]);
+            // Both are asked at once: all is well almost always.
+            if !(fluent.has(to) & fluent.may_change(from, to)) {
+                return Err(Fault::of_value(fluent, number, to));
             }
-            self.history.set(fluent, value as i16);
+            self.history.set(number, to as i16);
         }
         Ok(())
     }

@@ -6,7 +6,7 @@
 use crate::domain::{AGENTS, CONCURRENCY, EFFECT, ENTRY, EXECUTABILITY, FLUENT, KNOWS, STATIC};
 use crate::judge::{
     Judged, Verdict, DISAGREEMENT, GOAL_MISSED, LEVELS, NOT_EXECUTABLE, NOT_TAKEN_UP, NOT_TOGETHER,
-    OUT_OF_NUMBERS, OUT_OF_RANGE, STATE_REFUSED, ZERO_DIVISOR,
+    OUT_OF_NUMBERS, OUT_OF_RANGE, STATE_REFUSED, TOO_FAST, ZERO_DIVISOR,
 };
 use crate::number;
 use crate::refusal;
@@ -99,6 +99,8 @@ struct Law {
 struct Fluent {
     range: std::ops::RangeInclusive<i64>,
     start: i64,
+    /// The largest change allowed in one step, if it has such a limit.
+    limit: Option<i64>,
     /// The agents that know it.
     knowers: Vec<usize>,
 }
@@ -223,6 +225,8 @@ impl Domain {
                     domain.fluents.push(Fluent {
                         range: value(0)..=value(2),
                         start: value(4),
+                        // "frames of 6 bytes stay valid and mean no such limit"
+                        limit: (p.len() > 6).then(|| value(6)),
                         knowers: Vec::new(),
                     });
                 }
@@ -365,16 +369,29 @@ impl Domain {
             }
             settings.push((*fluent, value));
         }
-        let mut state = history.states[position].clone();
+        let before = &history.states[position];
+        let mut state = before.clone();
         for (fluent, value) in settings {
             state[fluent] = value;
         }
-        let outside =
-            |(fluent, value): &(usize, &i64)| !self.fluents[*fluent].range.contains(value);
-        match state.iter().enumerate().find(outside) {
-            Some((fluent, _)) => Err((OUT_OF_RANGE, fluent)),
-            None => Ok(state),
+        for (number, fluent) in self.fluents.iter().enumerate() {
+            if !fluent.range.contains(&state[number]) {
+                return Err((OUT_OF_RANGE, number));
+            }
+            // "After the range check of a fluent and before the next fluent, a change
+            // larger than the limit in either direction"
+            let (fall, rise) = (
+                before[number] - state[number],
+                state[number] - before[number],
+            );
+            if fluent
+                .limit
+                .is_some_and(|limit| fall > limit || rise > limit)
+            {
+                return Err((TOO_FAST, number));
+            }
         }
+        Ok(state)
     }
 
     fn value(&self, expression: &Expression, history: &History, position: usize) -> Found<i64> {

@@ -1,15 +1,16 @@
 //! The store: a domain's frames end to end, then zeros.
 
-use crate::domain::{Counts, Domain};
+use crate::domain::{Counts, Domain, Fluent};
 use crate::line::{line_length, write_line, Lines, MAX_PAYLOAD};
 use crate::refusal;
 
 /// Bytes that the domain reader asks of its store.
 pub const STORE_BYTES: usize = 36_000;
 
-/// Bytes of the longest text: every limit reached, every law's line full.
+/// Bytes of the longest text: every limit reached, every fluent with one of its own,
+/// every law's line full.
 pub const LONGEST_TEXT: usize = line_length(2 + 1)
-    + Domain::MAX_FLUENTS * line_length(2 + 6)
+    + Domain::MAX_FLUENTS * line_length(2 + Fluent::MAX_PAYLOAD)
     + (Domain::MAX_KNOWS + Domain::MAX_ENTRIES) * line_length(2 + 3)
     + Domain::MAX_LAWS * line_length(2 + MAX_PAYLOAD);
 

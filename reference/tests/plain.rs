@@ -4,7 +4,7 @@ use waroth_reference::generate::draft::{law, Draft};
 use waroth_reference::generate::laws::{constant, node};
 use waroth_reference::generate::random::Random;
 use waroth_reference::generate::{
-    divisions, looking_back, nesting, sheets, troubles, verdicts, Expect,
+    changing_fast, divisions, looking_back, nesting, sheets, troubles, verdicts, Expect,
 };
 use waroth_reference::judge::{judge, Judged, Verdict, LEVELS};
 use waroth_reference::plain;
@@ -24,9 +24,12 @@ fn compare(draft: &Draft, sheet: &[u8]) -> Judged {
 #[test]
 fn random_sheets() {
     let mut r = Random::seeded(21);
-    let mut kinds = [0; 10];
-    for _ in 0..4_000 {
-        let draft = Draft::random(&mut r);
+    let mut kinds = [0; 11];
+    for turn in 0..4_000 {
+        let draft = match turn % 4 {
+            0 => changing_fast::restless(&mut r),
+            _ => Draft::random(&mut r),
+        };
         let sheet = sheets::sheet(&mut r, &draft);
         let Judged { verdict, states } = compare(&draft, &sheet);
         let all = sheet.len() / draft.agents + 1;
@@ -54,6 +57,7 @@ fn wanted_verdicts() {
     let trials = trials.chain(divisions::further());
     let trials = trials.chain(looking_back::further());
     let trials = trials.chain(nesting::further());
+    let trials = trials.chain(changing_fast::further());
     for (label, expect, make) in trials {
         for _ in 0..10 {
             let (draft, sheet) = make(&mut r);
@@ -61,7 +65,10 @@ fn wanted_verdicts() {
             let met = match verdict {
                 Verdict::Accepted => Expect::Accepted,
                 Verdict::Broken { kind, step, .. } if states > step.into() => Expect::Goal(kind),
-                Verdict::Broken { kind, .. } => Expect::Broken(kind),
+                Verdict::Broken { kind, step, number } => match expect {
+                    Expect::At(..) => Expect::At(kind, step.into(), number.into()),
+                    _ => Expect::Broken(kind),
+                },
             };
             assert_eq!(met, expect, "{label}");
         }

@@ -1,5 +1,6 @@
 //! Each refusal's order, the edges of the limits, and what buffers hold after.
 
+use waroth_reference::generate::changing_fast;
 use waroth_reference::generate::codes;
 use waroth_reference::generate::draft::{frame, mask_frame, text_of, Draft};
 use waroth_reference::generate::faults::LINE_FAULTS;
@@ -39,6 +40,14 @@ fn every_line_fault_has_its_number() {
             let lines = lines(&mut r);
             let met = domain(&text_of(&lines)).map_or_else(|(met, _)| met, |_| 0);
             assert_eq!(met, *number, "{label}");
+        }
+    }
+    let lines = changing_fast::lines().into_iter();
+    for (label, number, line) in lines.chain(changing_fast::numbered_lines()) {
+        for _ in 0..20 {
+            let lines = line.in_domain(&mut r);
+            let met = domain(&text_of(&lines)).map_or_else(|(met, _)| met, |_| 0);
+            assert_eq!(met, number, "{label}");
         }
     }
 }

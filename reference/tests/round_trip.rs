@@ -41,13 +41,13 @@ fn sheets() {
 
 #[test]
 fn the_longest_texts() {
-    assert_eq!((store::LONGEST_TEXT, sheet::LONGEST_TEXT), (33_319, 2_368));
+    assert_eq!((store::LONGEST_TEXT, sheet::LONGEST_TEXT), (33_447, 2_368));
     let mut r = Random::seeded(9);
     for _ in 0..20 {
         let (domain, names) = (longest(&mut r).store(), r.bytes(1024));
-        let mut text = vec![b'?'; 33_319];
-        assert_eq!(write_domain(&domain, &mut text[..33_318]), Err(10));
-        assert_eq!(write_domain(&domain, &mut text), Ok(33_319));
+        let mut text = vec![b'?'; 33_447];
+        assert_eq!(write_domain(&domain, &mut text[..33_446]), Err(10));
+        assert_eq!(write_domain(&domain, &mut text), Ok(33_447));
         assert_eq!(write_sheet(&names, 16, &mut text[..2_367]), Err(10));
         assert_eq!(write_sheet(&names, 16, &mut text[..2_368]), Ok(2_368));
     }
@@ -67,7 +67,7 @@ fn the_generator_repeats_itself() {
 fn the_generator_meets_everything() {
     let mut generator = Generator::seeded(4);
     let mut coverage = Coverage::of(generator.aims());
-    for _ in 0..12_000 {
+    for _ in 0..13_000 {
         let made = generator.next().expect("without end");
         let aim = made.aim.map(|aim| (aim, generator.aims()[aim].expect));
         coverage.count(&run_reference(&made.case), aim);

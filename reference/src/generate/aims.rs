@@ -3,6 +3,7 @@
 
 use super::calls::CALLS;
 use super::case::{Call, Case, SupplementCall};
+use super::changing_fast;
 use super::codes::{self, Part};
 use super::divisions;
 use super::draft::{sheet_text, text_of, Draft};
@@ -33,6 +34,8 @@ pub enum Expect {
     Refused(u8),
     /// The verdict is this kind of fault, and the states are those before it.
     Broken(u8),
+    /// The same in this step and of this number.
+    At(u8, usize, usize),
     /// The verdict is this kind of fault of a goal law, and all states are
     /// there.
     Goal(u8),
@@ -614,6 +617,13 @@ pub fn aims() -> Vec<Aim> {
             aims.store(label, number, lines);
         }
     }
+    for (label, number, line) in changing_fast::lines() {
+        aims.domain_text(&label, number, move |r| text_of(&line.in_domain(r)));
+        aims.store(&label, number, move |r| line.in_domain(r));
+    }
+    for (turn, (label, number, line)) in changing_fast::numbered_lines().into_iter().enumerate() {
+        aims.lines_in(turn % 4, &label, number, move |r| line.in_domain(r));
+    }
     for &(label, spoil) in CHARACTER_FAULTS {
         aims.domain_text(label, LINE, move |r| {
             let text = Draft::random(r).text();
@@ -697,6 +707,7 @@ pub fn aims() -> Vec<Aim> {
         divisions::further(),
         looking_back::further(),
         nesting::further(),
+        changing_fast::further(),
     ] {
         for (turn, trial) in trials.iter().enumerate() {
             aims.trial_in_turn(turn, trial);

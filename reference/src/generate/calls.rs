@@ -5,6 +5,7 @@ use super::aims::{
     enough, enough_levels, on, over_store, printing, stored, too_few_levels, too_short,
 };
 use super::case::{Call, Case};
+use super::changing_fast::both_lengths;
 use super::draft::{frame, sheet_text, text_of, Draft};
 use super::faults::roomy;
 use super::random::Random;
@@ -35,6 +36,10 @@ fn counted(r: &mut Random, draft: Draft) -> Case {
         store: stored(r, bytes),
     }
 }
+
+/// Bytes of 16 fluents with a limit and 16 without, of one agent, an entry and its law:
+/// 35 lines in all.
+const BOTH_LENGTHS: usize = 16 * 10 + 16 * 8 + 3 + 5 + 4;
 
 pub type CallAim = (&'static str, Expect, fn(&mut Random) -> Case);
 
@@ -141,6 +146,27 @@ pub const CALLS: &[CallAim] = &[
             text: r.bytes(store::LONGEST_TEXT - 1),
         },
     ),
+    (
+        "read_domain: fluents with a limit and without",
+        Count(BOTH_LENGTHS),
+        |r| Case::ReadDomain {
+            text: both_lengths().text(),
+            store: enough(r, STORE_BYTES),
+        },
+    ),
+    (
+        "write_domain: fluents with a limit and without",
+        Count(2 * BOTH_LENGTHS + 35),
+        |r| Case::WriteDomain {
+            store: both_lengths().store(),
+            text: enough(r, 2 * BOTH_LENGTHS + 35),
+        },
+    ),
+    ("frames: fluents with a limit and without", Fine, |_| {
+        Case::Frames {
+            store: both_lengths().store(),
+        }
+    }),
     (
         "write_sheet: longest text",
         Count(sheet::LONGEST_TEXT),

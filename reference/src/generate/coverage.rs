@@ -56,6 +56,7 @@ const FAULTS: &[Fault] = &[
     (8, true),
     (9, false),
     (9, true),
+    (10, false),
 ];
 
 /// Those that are possible before step 1.
@@ -79,6 +80,7 @@ enum Sense {
     Broken {
         kind: u8,
         step: usize,
+        number: usize,
         states: usize,
     },
     Accepted {
@@ -105,9 +107,10 @@ fn sense(answer: &Answer) -> Sense {
         Answer::Refused { number, .. } => Sense::Refused(*number),
         &Answer::Judged(Judged { verdict, states }) => match verdict {
             Verdict::Accepted => Sense::Accepted { states },
-            Verdict::Broken { kind, step, .. } => Sense::Broken {
+            Verdict::Broken { kind, step, number } => Sense::Broken {
                 kind,
                 step: step.into(),
+                number: number.into(),
                 states,
             },
         },
@@ -132,6 +135,7 @@ fn sense(answer: &Answer) -> Sense {
                 (_, "BROKEN") => Sense::Broken {
                     kind: last.number(1) as u8,
                     step: last.number(2),
+                    number: last.number(3),
                     states: more,
                 },
                 _ => Sense::Accepted { states: more },
@@ -220,7 +224,9 @@ impl Coverage {
                 // Only the question itself was asked, nothing was refused.
                 Sense::Refused(_) if NEVER_REFUSED.contains(&call) => {}
                 Sense::Refused(number) => *self.refused.entry((call, number)).or_default() += 1,
-                Sense::Broken { kind, step, states } => {
+                Sense::Broken {
+                    kind, step, states, ..
+                } => {
                     let fault = (kind, states > step);
                     self.odd_states += (states != step + fault.1 as usize) as usize;
                     *self.broken.entry((call, fault)).or_default() += 1;
@@ -256,12 +262,27 @@ impl Coverage {
             (Expect::Laws { own, replaced }, _) => [own, replaced] == found(&outcome.answers),
             (Expect::Same, Sense::Count(_)) => same(outcome),
             (Expect::Refused(wanted), Sense::Refused(number)) => wanted == number,
-            (Expect::Broken(wanted), Sense::Broken { kind, step, states }) => {
-                (wanted, step) == (kind, states)
-            }
-            (Expect::Goal(wanted), Sense::Broken { kind, step, states }) => {
-                (wanted, step + 1) == (kind, states)
-            }
+            (
+                Expect::Broken(wanted),
+                Sense::Broken {
+                    kind, step, states, ..
+                },
+            ) => (wanted, step) == (kind, states),
+            (
+                Expect::Goal(wanted),
+                Sense::Broken {
+                    kind, step, states, ..
+                },
+            ) => (wanted, step + 1) == (kind, states),
+            (
+                Expect::At(wanted, at, of),
+                Sense::Broken {
+                    kind,
+                    step,
+                    number,
+                    states,
+                },
+            ) => (wanted, at, of, at) == (kind, step, number, states),
             (Expect::Accepted, Sense::Accepted { .. }) => true,
             (Expect::Counts(wanted), Sense::Counts(counts)) => wanted == counts,
             (Expect::Law(wanted), Sense::Law(law)) => wanted == law,

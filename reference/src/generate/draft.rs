@@ -2,6 +2,7 @@
 
 use super::laws::Ground;
 use super::random::Random;
+use crate::domain::Fluent;
 use crate::line::{line_length, write_line, MAX_PAYLOAD};
 use crate::store::STORE_BYTES;
 
@@ -22,6 +23,12 @@ pub fn agents_frame(agents: usize) -> Vec<u8> {
 
 pub fn fluent_frame(range: [i16; 3]) -> Vec<u8> {
     frame(0xA2, &range.map(i16::to_be_bytes).concat())
+}
+
+/// The same with a limit to the change in one step.
+pub fn limited_frame(range: [i16; 3], limit: u16) -> Vec<u8> {
+    let range = range.map(i16::to_be_bytes).concat();
+    frame(0xA2, &[&range[..], &limit.to_be_bytes()].concat())
 }
 
 /// A3 or A4: a number or name, and a mask.
@@ -122,6 +129,13 @@ impl Draft {
             }
         }
         draft
+    }
+
+    /// Gives a fluent a limit to its change in one step.
+    pub fn limit(&mut self, fluent: usize, limit: u16) -> &mut Self {
+        // Only the number of agents stands before the fluents.
+        self.frames[1 + fluent] = limited_frame(self.fluents[fluent], limit);
+        self
     }
 
     /// Puts a frame behind the last one of its kind or a lower one.
@@ -231,9 +245,24 @@ impl Draft {
             crews.push((r.from_to(1, 255) as u8, 1));
         }
         let mut draft = Draft::new(agents, &ranges, &crews);
+        draft.add_limits(r);
         draft.add_knowledge(r, everybody);
         draft.add_laws(r, big);
         draft
+    }
+
+    /// Every second domain has limits, for some of its fluents or all.
+    fn add_limits(&mut self, r: &mut Random) {
+        if r.one_in(2) {
+            return;
+        }
+        let all = r.one_in(2);
+        for fluent in 0..self.fluents.len() {
+            if all || r.one_in(2) {
+                let limit = limit(r, self.fluents[fluent]);
+                self.limit(fluent, limit);
+            }
+        }
     }
 
     fn add_knowledge(&mut self, r: &mut Random, everybody: u16) {
@@ -335,4 +364,15 @@ fn range(r: &mut Random) -> [i16; 3] {
     };
     bounds.sort();
     [bounds[0], bounds[2], bounds[1]]
+}
+
+/// A random limit for such a fluent: mostly one that its changes may reach.
+fn limit(r: &mut Random, [lowest, highest, _]: [i16; 3]) -> u16 {
+    match r.below(8) {
+        0..=2 => 1,
+        3 | 4 => r.from_to(1, 4) as u16,
+        5 => highest.abs_diff(lowest).clamp(1, Fluent::MAX_LIMIT),
+        6 => Fluent::MAX_LIMIT,
+        _ => r.from_to(1, Fluent::MAX_LIMIT.into()) as u16,
+    }
 }

@@ -59,6 +59,19 @@ fn filled(r: &mut Random, kind: u8, number: usize) -> Lines {
     draft.frames
 }
 
+/// Every fluent with a limit, or every second one, and the others without.
+fn with_limits(mut lines: Lines, each: usize) -> Lines {
+    let fluents = lines.iter_mut().filter(|line| line[0] == 0xA2);
+    for (number, line) in fluents.enumerate() {
+        line.truncate(8);
+        if number % each == 0 {
+            line.extend([0x7F, number as u8]);
+        }
+        line[1] = (line.len() - 2) as u8;
+    }
+    lines
+}
+
 /// One frame of the kind with another payload length.
 fn resized(r: &mut Random, kind: u8) -> Lines {
     let mut lines = loop {
@@ -70,14 +83,20 @@ fn resized(r: &mut Random, kind: u8) -> Lines {
     let places: Vec<_> = (0..lines.len()).filter(|&i| lines[i][0] == kind).collect();
     let line = &mut lines[*r.pick(&places)];
     let length = line.len() - 2;
-    // A law of the greatest length can only get shorter.
-    if length == 120 || r.one_in(2) {
-        line.truncate(2 + r.below(length));
-    } else {
-        let more = r.from_to(1, 120 - length);
-        line.extend(r.bytes(more));
-    }
-    line[1] = (line.len() - 2) as u8;
+    let other = loop {
+        // A law of the greatest length can only get shorter.
+        let other = match length == 120 || r.one_in(2) {
+            true => r.below(length),
+            false => r.from_to(length + 1, 120),
+        };
+        // A fluent may have a limit or none.
+        if kind != 0xA2 || ![6, 8].contains(&other) {
+            break other;
+        }
+    };
+    line.truncate(2 + other);
+    line.extend(r.bytes(other.saturating_sub(length)));
+    line[1] = other as u8;
     lines
 }
 
@@ -320,6 +339,12 @@ pub const LINE_FAULTS: &[LineFault] = &[
         Draft::new(16, &[[0, 9, 5]], &[(1, 0xFFFF)]).free().frames
     }),
     ("edge: 32 A2", 0, |r| filled(r, 0xA2, 32)),
+    ("edge: 32 A2 with limits", 0, |r| {
+        with_limits(filled(r, 0xA2, 32), 1)
+    }),
+    ("edge: 32 A2, every second with a limit", 0, |r| {
+        with_limits(filled(r, 0xA2, 32), 2)
+    }),
     ("edge: 64 A3", 0, |r| filled(r, 0xA3, 64)),
     ("edge: 64 A4", 0, |r| filled(r, 0xA4, 64)),
     ("edge: 128 laws", 0, |r| filled(r, 0xA5, 128)),

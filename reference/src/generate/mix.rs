@@ -5,6 +5,7 @@ use super::aims::{
     too_short, Aim,
 };
 use super::case::{Call, Case, SupplementCall};
+use super::changing_fast::restless;
 use super::draft::{sheet_text, text_of, Draft};
 use super::random::Random;
 use super::report::NEARLY_MARKS;
@@ -108,8 +109,16 @@ fn any_store(r: &mut Random) -> Vec<u8> {
     stored(r, bytes)
 }
 
+/// A random domain to be judged over.
+fn some_domain(r: &mut Random) -> Draft {
+    match r.one_in(6) {
+        true => restless(r),
+        false => Draft::random(r),
+    }
+}
+
 fn judged(r: &mut Random) -> Case {
-    let draft = Draft::random(r);
+    let draft = some_domain(r);
     let mut sheet = sheets::sheet(r, &draft);
     if r.one_in(20) {
         let length = r.below(70 * draft.agents);
@@ -176,7 +185,7 @@ fn series(r: &mut Random) -> Case {
 
 /// One call on a session that is sound, nearly sound, or anything.
 fn single(r: &mut Random) -> Case {
-    let draft = Draft::random(r);
+    let draft = some_domain(r);
     let length = r.below(40);
     let mut session = match r.one_in(3) {
         true => sheets::session_of(&sheets::sheet(r, &draft), draft.agents),
@@ -233,7 +242,7 @@ fn program(r: &mut Random, aims: &[Aim]) -> Case {
             input.extend(sheet_text(&sheet, agents));
         }
         _ => {
-            let draft = Draft::random(r);
+            let draft = some_domain(r);
             input = draft.text();
             agents = draft.agents;
             input.extend(sheet_text(&sheets::sheet(r, &draft), agents));
@@ -260,7 +269,7 @@ fn mark(r: &mut Random) -> &'static [u8] {
 /// A report's input: a domain's text and sheets for it, good and bad, among them
 /// what some aim gave the sheet reader.
 fn report(r: &mut Random, aims: &[Aim]) -> Case {
-    let draft = Draft::random(r);
+    let draft = some_domain(r);
     let mut texts = Vec::new();
     for _ in 0..r.from_to(1, 4) {
         let text = sheet_text(&sheets::sheet(r, &draft), draft.agents);
@@ -327,7 +336,7 @@ fn mostly_own(r: &mut Random, draft: &Draft) -> Vec<u8> {
 
 /// Layings, verdicts and laws in force over supplements and over what was laid.
 fn supplement_calls(r: &mut Random) -> Case {
-    let draft = Draft::random(r);
+    let draft = some_domain(r);
     let mut held = r.from_to(1, 3);
     let supplements = (0..held).map(|_| any_supplement(r, &draft)).collect();
     let mut calls = Vec::new();
@@ -364,7 +373,7 @@ fn supplement_calls(r: &mut Random) -> Case {
 
 /// A call that takes a supplement's text or store, or the program that does.
 fn under(r: &mut Random) -> Case {
-    let draft = Draft::random(r);
+    let draft = some_domain(r);
     match r.below(8) {
         0 | 1 => Case::ReadSupplement {
             store: mostly_own(r, &draft),

@@ -3,6 +3,7 @@
 pub mod aims;
 pub mod calls;
 pub mod case;
+pub mod changing_fast;
 pub mod codes;
 mod course;
 pub mod coverage;

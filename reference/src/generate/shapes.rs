@@ -3,6 +3,7 @@
 use super::draft::{law, Draft};
 use super::laws::{constant, lag, node, wrapped};
 use super::random::Random;
+use crate::domain::Fluent;
 use crate::line::MAX_PAYLOAD;
 
 /// A law of a random kind around a constraint; code 29 asks for A5, A6 or A8.
@@ -121,10 +122,13 @@ pub fn sized(r: &mut Random, draft: &Draft, kind: u8, entry: u8, size: usize) ->
     bytes
 }
 
-/// As many of everything as is allowed, and laws that fill their lines: no
-/// domain has a longer text.
+/// As many of everything as is allowed, fluents with limits, and laws that fill
+/// their lines: no domain has a longer text.
 pub fn longest(r: &mut Random) -> Draft {
     let mut draft = Draft::crowded();
+    for fluent in 0..draft.fluents.len() {
+        draft.limit(fluent, r.from_to(1, Fluent::MAX_LIMIT.into()) as u16);
+    }
     for entry in 0..draft.entries.len() as u8 {
         let law = sized(r, &draft, 0xA5, entry, MAX_PAYLOAD);
         draft.insert(law);

@@ -1,7 +1,7 @@
 //! Texts with a fault in their characters, sheets with a faulty line, and
 //! lines with two faults, of which the one that is looked for first counts.
 
-use super::draft::{agents_frame, fluent_frame, frame, mask_frame, Draft};
+use super::draft::{agents_frame, fluent_frame, frame, limited_frame, mask_frame, Draft};
 use super::faults::{roomy, LineFault, Lines};
 use super::random::Random;
 use crate::refusal::*;
@@ -164,6 +164,16 @@ pub const ORDER_FAULTS: &[LineFault] = &[
     ("order: 33rd A2 with bad payload", TOO_MANY, |_| {
         let lines = vec![fluent_frame([0, 0, 0]); 32];
         with_last(lines, fluent_frame([1, 0, 0]))
+    }),
+    ("order: 33rd A2 with limit 0", TOO_MANY, |_| {
+        let lines = vec![limited_frame([0, 0, 0], 1); 32];
+        with_last(lines, limited_frame([0, 0, 0], 0))
+    }),
+    ("order: A2 out of order with limit 0", KIND, |r| {
+        with_last(roomy(r).frames, limited_frame([0, 9, 5], 0))
+    }),
+    ("order: incomplete, last line with limit 0", PAYLOAD, |_| {
+        vec![agents_frame(1), limited_frame([0, 9, 5], 0)]
     }),
     ("order: 65th A3 with bad payload", TOO_MANY, |_| {
         let mut lines = vec![agents_frame(1), fluent_frame([0, 0, 0])];

@@ -1,6 +1,7 @@
 //! Domains and sheets made for one verdict each.
 
 use super::aims::Expect::{self, Accepted, Broken, Goal};
+use super::changing_fast;
 use super::divisions;
 use super::draft::{frame, law, mask_frame, Draft};
 use super::laws::{constant, node};
@@ -218,5 +219,6 @@ pub fn trials() -> Vec<Trial> {
     trials.extend(troubles::trials());
     trials.extend(divisions::trials());
     trials.extend(looking_back::trials());
+    trials.extend(changing_fast::trials());
     trials
 }

@@ -75,6 +75,7 @@ static const char *fault_words(unsigned kind)
     case WAROTH_ZERO_DIVISOR: return "no value, a zero divisor, law";
     case WAROTH_GOAL: return "the goal is missed, law";
     case WAROTH_BEYOND: return "no value, a result beyond the number range, law";
+    case WAROTH_TOO_FAST: return "a larger change than its limit, fluent";
     default: return "unknown, number";
     }
 }

@@ -1,5 +1,5 @@
 // The kinds of frames, each once, by the definitions' names (`Line.agents_kind` to `Line.step_kind`).
-#[derive(Drop)]
+#[derive(Clone, Copy)]
 pub struct Kind {}
 
 impl Kind {

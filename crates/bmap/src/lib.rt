@@ -1,6 +1,8 @@
 // What every crate names: the operators of the law language and why they give no value, the limits and the kinds of frames
 // (each once), the refusals, a sheet and a session.
 // The definitions themselves are in specs/; nothing stands below this crate, and every other stands on it.
+#![tactic(auto)]
+
 mod kind;
 mod limits;
 mod refusal;
@@ -15,14 +17,14 @@ pub use refusal::Refusal;
 pub use session::Session;
 
 // Why there is no value: "A zero divisor", or "a result beyond the number range".
-#[derive(Drop)]
+#[derive(Clone, Copy)]
 pub enum Reason {
     ZeroDivisor,
     OutOfRange,
 }
 
 // Codes 12 to 16: two expressions.
-#[derive(Drop)]
+#[derive(Clone, Copy)]
 pub enum Operation {
     Sum,
     Difference,
@@ -32,14 +34,14 @@ pub enum Operation {
 }
 
 // Codes 17 and 18: one expression.
-#[derive(Drop)]
+#[derive(Clone, Copy)]
 pub enum Single {
     Negation,
     Absolute,
 }
 
 // Codes 20 to 25: two expressions.
-#[derive(Drop)]
+#[derive(Clone, Copy)]
 pub enum Comparison {
     Equal,
     Unequal,
@@ -50,7 +52,7 @@ pub enum Comparison {
 }
 
 // Codes 26 and 27: two constraints.
-#[derive(Drop)]
+#[derive(Clone, Copy)]
 pub enum Junction {
     And,
     Or,

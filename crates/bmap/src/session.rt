@@ -2,7 +2,7 @@
 use crate::{Counts, Sheet};
 
 #[repr(C)]
-#[derive(Drop)]
+#[derive(Clone, Copy)]
 pub struct Session {
     pub agents: usize,
     pub sheet: Sheet,

@@ -78,7 +78,7 @@ pub wide_fits : {z : ℤ} → SFits w32 z → SFits w64 (back w32 z)
 wide_fits f = rw (to_z-of_z f) (sfits_widen tt f)
 
 wide_is : {z : ℤ} → SFits w32 z → wide z ≡ z
-wide_is f = rw (to_z-of_z f) (to_z-of_z (sfits_widen tt f))
+wide_is f = rw (to_z-of_z f) (to_z-of_z {w = w64} (sfits_widen tt f))
 
 kept_is : {z z' : ℤ} {r : Valued ℤ} → r ≡ bounded (back w64 z) → SFits w64 z → z ≡ z' → r ≡ bounded z'
 kept_is e f h = e ∙ ap bounded (to_z-of_z f ∙ h)

@@ -3,6 +3,8 @@
 // "Everything built on a part without value has none", and "the first trouble found is the one given": the left part's, else
 // the right one's, else the operator's own. Each function answers for all its arguments, and asks nothing.
 // `law` stands on it for its operators, `domain`, `judge`, `answer` and `river_cases` for values and their bytes.
+#![tactic(auto)]
+
 ghost use Rattle.std.specs.Prelude.{not, ◌≡◌, leb};
 ghost use Rattle.bmap.specs.Number.{value, with1, with2, bounded, takes_sign, operate, change, compare, join, flag};
 ghost use Rattle.bmap.specs.Number.{apart, signed_word, bytes_of, bits};
@@ -14,14 +16,14 @@ ghost use Rattle.number.specs.Answer.{valued_of, truth_of};
 use bmap::{Comparison, Junction, Operation, Reason, Single};
 
 // What an expression gives, or why it gives nothing.
-#[derive(Drop)]
+#[derive(Clone, Copy)]
 pub enum Value {
     Number(i32),
     NoValue(Reason),
 }
 
 // What a constraint gives, or why it gives nothing.
-#[derive(Drop)]
+#[derive(Clone, Copy)]
 pub enum Truth {
     Is(bool),
     NoTruth(Reason),
@@ -35,6 +37,7 @@ impl Value {
 
 // "any result outside −1,000,000,000 to 1,000,000,000, gives no value". What is inside fits 32 bits, so what one
 // operator makes of two numbers fits the 64 bits in which it is made.
+#[tactic(auto, using(crate::proofs::Laws::signed))]
 fn kept(z: i64) -> Value
     ensures { valued_of result ≡ bounded z }
 {
@@ -59,6 +62,7 @@ fn takes_sign(r: i64, q: i64) -> bool
 // K3: "The quotient is to be rounded down": `/` and `%` divide toward zero, so where what is left has the other sign the quotient
 // is one less, and a divisor more is left. Both ways meet in one value before its range is asked, which compiles without a jump on
 // a sign (docs/PERFORMANCE.md).
+#[tactic(auto, using(crate::proofs::Laws::signed))]
 fn operated(op: Operation, x: i32, y: i32) -> Value
     ensures { valued_of result ≡ operate op x y }
 {
@@ -285,6 +289,7 @@ pub fn at_most_apart(old: i16, new: i16, limit: u16) -> bool
 
 // "Two-byte numbers are high byte first", "values are two's complement". With the sign bit set the number is
 // one below the negative of what is missing to sixteen ones: no cast loses a bit.
+#[tactic(auto, using(crate::proofs::Laws::signed))]
 pub fn signed_word(high: u8, low: u8) -> i16
     ensures { result ≡ signed_word high low }
 {
@@ -304,12 +309,13 @@ fn bits_of(z: i16) -> u16
     65_535 - ((-1 - z) as u16)
 }
 
-#[derive(Drop)]
+#[derive(Clone, Copy)]
 pub struct Two {
     pub high: u8,
     pub low: u8,
 }
 
+#[tactic(auto, using(crate::proofs::Laws::signed))]
 pub fn bytes_of(z: i16) -> Two
     ensures { (result.high ≡ (bytes_of z).high) × (result.low ≡ (bytes_of z).low) }
 {

@@ -12,7 +12,7 @@ use borrow.Author.Tests.{le-leb, lt-leb}
 use Rattle.bmap.specs.Plain.{if_else}
 use Rattle.bmap.specs.Limits.{most_payload, frame_size}
 use Rattle.bmap.specs.Refusal.{Answer, got, refused, then}
-use Rattle.bmap.specs.Line.{Line, Frame, line_feed, lines_of, bytes, decode, stored, hex, line_for}
+use Rattle.bmap.specs.Line.{Line, Frame, line_feed, lines_of, decode, stored, hex, line_for}
 use Rattle.bmap.specs.Buffer.{over}
 use Rattle.line.specs.Read.{Taken, first_of, line_read, bytes_read, spelt}
 use Rattle.line.specs.Within.{Begins, Whole}

@@ -4,7 +4,7 @@ ghost use Rattle.line.specs.Frame.{size_of, frame_size_at};
 
 use bmap::PAYLOAD;
 
-#[derive(Drop)]
+#[derive(Clone, Copy)]
 pub enum FrameAt {
     Nothing,
     // So many bytes: kind, count and payload.

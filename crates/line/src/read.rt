@@ -10,7 +10,7 @@ use crate::digit::{feed_at, pair};
 use crate::whole::{decode, whole_line};
 use bmap::{FRAME, Refusal};
 
-#[derive(Drop)]
+#[derive(Clone, Copy)]
 pub enum FirstLine {
     // No character is left.
     Nothing,

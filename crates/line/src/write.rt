@@ -7,7 +7,7 @@ ghost use Rattle.line.specs.Write.{answer_of, line_written};
 use crate::digit::{LINE_FEED, high_digit, low_digit};
 use bmap::{PAYLOAD, Refusal};
 
-#[derive(Drop)]
+#[derive(Clone, Copy)]
 pub enum Written {
     // So many bytes.
     Wrote(usize),

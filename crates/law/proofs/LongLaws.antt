@@ -1,11 +1,9 @@
 -- The checker of either sort of tree, by the row of its code.
 use mathlib.Core.Path.{◌≡◌, refl, sym, ap, ◌∙◌}
 use mathlib.Core.Bool.{Bool, true, false}
-use mathlib.Core.List.{List, [], ◌∷◌}
+use mathlib.Core.List.{List}
 use Prim.Native.Nat.{ℕ, ◌+◌, ◌-◌, ◌/◌, ◌≤◌, ◌<◌}
 use native.Mathlib.Omega.{arith}
-use types.Run.{OneOf, hit}
-use denote.Enum.Declared.{tag_of}
 use borrow.Author.Tests.{eqb-true, eqb-false}
 use lib.Dec.{eqb}
 use lib.ListN.{length, drop, get_or}
@@ -19,7 +17,6 @@ use Rattle.law.specs.Check.{Test, next_of, passes_e, passes_c, may_back, back_at
 use Rattle.law.proofs.Trees.{deep_e, deep_c, end_e, end_c, no_expression, no_constraint, never_back}
 use Rattle.law.proofs.CheckLaws.{no_tree, leaf_short, leaf_passes, leaf_fails, check_leaf, check_reified, check_one, check_two, check_first}
 use Rattle.law.proofs.CheckLaws.{check_compared, check_first_e, check_occurrence, check_truth, check_negation, check_look_back, check_barred, check_junction, check_first_c}
-use Rattle.law.specs.contracts.table.Node as node-type
 
 by_test : {A : Type 0} (b : Bool) → (b ≡ true → A) → (b ≡ false → A) → A
 by_test true f g = f refl
@@ -75,24 +72,24 @@ module _ {row : ℕ} where
   of_expressions no_code p q r m = cc
 
 -- no row is 255
-no_row_e : (c : Code) (w : ℕ) → eqb w 3 ≡ false → row_for w (opened c) ≡ 255 → OneOf (1 ∷ 2 ∷ []) (tag_of node-type.the_type (opened c))
+no_row_e : (c : Code) (w : ℕ) → eqb w 3 ≡ false → row_for w (opened c) ≡ 255 → (x : ℕ) → opened c ≡ Expression x → ⊥
 no_row_e (expression a_constant) w f e = absurd (omega (arith, rw f at e))
 no_row_e (expression a_fluent) w f e = absurd (omega (arith, rw f at e))
 no_row_e (expression (of_two o)) w f e = absurd (omega (arith, rw f at e))
 no_row_e (expression (of_one o)) w f e = absurd (omega (arith, rw f at e))
 no_row_e (expression a_reified) w f e = absurd (omega (arith, rw f at e))
-no_row_e (constraint c) w f e = hit (1 ∷ 2 ∷ []) 1 tt
-no_row_e no_code w f e = hit (1 ∷ 2 ∷ []) 2 tt
+no_row_e (constraint c) w f e = λ x z. cc
+no_row_e no_code w f e = λ x z. cc
 
-no_row_c : (c : Code) (w : ℕ) → eqb w 3 ≡ true → row_for w (opened c) ≡ 255 → OneOf (0 ∷ 2 ∷ []) (tag_of node-type.the_type (opened c))
+no_row_c : (c : Code) (w : ℕ) → eqb w 3 ≡ true → row_for w (opened c) ≡ 255 → (x : ℕ) → opened c ≡ Constraint x → ⊥
 no_row_c (constraint (of_comparison o)) w f e = absurd (omega (arith, rw f at e))
 no_row_c (constraint (of_junction o)) w f e = absurd (omega (arith, rw f at e))
 no_row_c (constraint a_negation) w f e = absurd (omega (arith, rw f at e))
 no_row_c (constraint an_occurrence) w f e = absurd (omega (arith, rw f at e))
 no_row_c (constraint a_truth) w f e = absurd (omega (arith, rw f at e))
 no_row_c (constraint (a_look_back o)) w f e = absurd (omega (arith, rw f at e))
-no_row_c (expression c) w f e = hit (0 ∷ 2 ∷ []) 0 tt
-no_row_c no_code w f e = hit (0 ∷ 2 ∷ []) 2 tt
+no_row_c (expression c) w f e = λ x z. cc
+no_row_c no_code w f e = λ x z. cc
 
 row_e : (c : Code) (w : ℕ) {row : ℕ} → eqb w 3 ≡ false → row ≡ row_for w (opened c) → (row ≡ 255 → ⊥) → Expression row ≡ opened c
 row_e (expression c) w f e n = ap Expression (rw f at e)

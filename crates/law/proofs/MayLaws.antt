@@ -56,6 +56,7 @@ has_bits from (suc n) t i lo hi =
   where
     is_true : (b : Bool) → T b → b ≡ true
     is_true true t = refl
+    is_true false t = elim t [ ]
 
 full_has : (i : ℕ) → i < 32 → has full i ≡ true
 full_has i h = has_bits 0 32 tt i (omega arith) (omega arith)

@@ -127,7 +127,7 @@ module _ {z : ℤ} (f : SFits w32 z) where
   raises_wide = rw (to_z-of_z f) (sfits_widen tt f)
 
   wide_is : wide z ≡ z
-  wide_is = rw (to_z-of_z f) (to_z-of_z (sfits_widen tt f))
+  wide_is = rw (to_z-of_z f) (to_z-of_z {w = w64} (sfits_widen {w = w32} {w' = w64} tt f))
 
   pub raises_fits : SFits w64 (wide z +ℤ pos half)
   raises_fits = rw wide_is (raised_fits z f)

@@ -1,6 +1,5 @@
 -- The tree at a place of some bytes, by its code: what the table says of the code, and what the parser does after it.
-use mathlib.Core.Path.{◌≡◌, refl, subst}
-use mathlib.Core.Logic.{⊎_elim}
+use mathlib.Core.Path.{◌≡◌, refl, ◌∙◌}
 use mathlib.Core.Bool.{true, false}
 use mathlib.Core.List.{List, [], ◌∷◌}
 use mathlib.Core.Option.{none}
@@ -9,8 +8,6 @@ use native.Mathlib.Numerals.{add-one}
 use native.Mathlib.Decide.{dec_le}
 use native.Mathlib.Omega.{arith}
 use borrow.Author.Tests.{leb-true, leb-false}
-use types.Run.{OneOf}
-use denote.Enum.Declared.{tag_of}
 use lib.ListN.{length, drop, get_or, length-drop, drop_of_length-le}
 use lib.Seq.{drop-cons}
 use Rattle.bmap.specs.Code.{Code, expression, constraint, no_code, a_constant, a_fluent, of_two, of_one, a_reified, of_comparison, of_junction, a_negation, an_occurrence, a_truth, a_look_back}
@@ -30,7 +27,6 @@ use Rattle.bmap.specs.declared.Comparison.{Comparison}
 use Rattle.bmap.specs.declared.Comparison.TheVariants.{Equal, Unequal, Less, AtMost, Greater, AtLeast}
 use Rattle.bmap.specs.declared.Junction.{Junction}
 use Rattle.bmap.specs.declared.Junction.TheVariants.{And, Or}
-use Rattle.law.specs.contracts.table.Node as node-type
 
 -- What a row says is read back: what follows the code, and the operator.
 read_follows : (s n o : ℕ) → s < 4 → n < 4 → follows_in (s + 4 * n + 16 * o) ≡ s + 4 * n
@@ -287,20 +283,20 @@ module _ (s : List ℕ) (at d : ℕ) (ne : d ≡ 0 → ⊥) (lt : at < length s)
   after_c : (c : Code) → code ≡ c → parse_c d (drop at s) ≡ con_after (parse_e (d - 1)) (parse_c (d - 1)) c rest
   after_c c is = level_c (d - 1) (omega arith) c is
 
-  pub no_expression : (n : Node) → n ≡ opened code → OneOf (1 ∷ 2 ∷ []) (tag_of node-type.the_type n) → parse_e d (drop at s) ≡ none
-  no_expression n e h = go code refl (subst (λ (m : Node). OneOf (1 ∷ 2 ∷ []) (tag_of node-type.the_type m)) e h)
+  pub no_expression : (n : Node) → n ≡ opened code → ((row : ℕ) → n ≡ Expression row → ⊥) → parse_e d (drop at s) ≡ none
+  no_expression n e h = go code refl (λ row z. h row (e ∙ z))
     where
-      go : (c : Code) → code ≡ c → OneOf (1 ∷ 2 ∷ []) (tag_of node-type.the_type (opened c)) → parse_e d (drop at s) ≡ none
-      go (expression c) is h = ⊎_elim (λ z. absurd (omega arith)) (λ z. absurd (omega arith)) h
+      go : (c : Code) → code ≡ c → ((row : ℕ) → opened c ≡ Expression row → ⊥) → parse_e d (drop at s) ≡ none
+      go (expression c) is h = absurd (h _ refl)
       go (constraint c) is h = after_e (constraint c) is
       go no_code is h = after_e no_code is
 
-  pub no_constraint : (n : Node) → n ≡ opened code → OneOf (0 ∷ 2 ∷ []) (tag_of node-type.the_type n) → parse_c d (drop at s) ≡ none
-  no_constraint n e h = go code refl (subst (λ (m : Node). OneOf (0 ∷ 2 ∷ []) (tag_of node-type.the_type m)) e h)
+  pub no_constraint : (n : Node) → n ≡ opened code → ((row : ℕ) → n ≡ Constraint row → ⊥) → parse_c d (drop at s) ≡ none
+  no_constraint n e h = go code refl (λ row z. h row (e ∙ z))
     where
-      go : (c : Code) → code ≡ c → OneOf (0 ∷ 2 ∷ []) (tag_of node-type.the_type (opened c)) → parse_c d (drop at s) ≡ none
+      go : (c : Code) → code ≡ c → ((row : ℕ) → opened c ≡ Constraint row → ⊥) → parse_c d (drop at s) ≡ none
       go (expression c) is h = after_c (expression c) is
-      go (constraint c) is h = ⊎_elim (λ z. absurd (omega arith)) (λ z. absurd (omega arith)) h
+      go (constraint c) is h = absurd (h _ refl)
       go no_code is h = after_c no_code is
 
   module _ {row : ℕ} (p : Expression row ≡ opened code) where

@@ -17,7 +17,7 @@ use crate::table::{
 use bmap::Context;
 
 // The place just after the tree, or refused.
-#[derive(Drop)]
+#[derive(Clone, Copy)]
 pub enum Checked {
     Next(usize),
     Refused,

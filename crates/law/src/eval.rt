@@ -26,14 +26,14 @@ pub const ROW: usize = Counts::FLUENTS + Counts::ENTRIES;
 pub const HISTORY: usize = (Sheet::STEPS + 1) * ROW;
 
 // What an expression gives, with the place just after it; or no expression stands there.
-#[derive(Drop)]
+#[derive(Clone, Copy)]
 pub enum Evaluated {
     Malformed,
     Gives(Value, usize),
 }
 
 // The same of a constraint.
-#[derive(Drop)]
+#[derive(Clone, Copy)]
 pub enum Judged {
     Malformed,
     Gives(Truth, usize),

@@ -3,6 +3,8 @@
 // is longer than a frame, `names` asks which fluents a tree names, and `eval` says what it gives at a position of a history.
 // Expressions hold constraints and constraints expressions, so the functions of each call each other, with less depth left. It
 // stands on `number`; `domain` stands on it for its checks, `judge` for what laws give.
+#![tactic(auto)]
+
 mod checks;
 mod eval;
 mod long;

@@ -9,7 +9,7 @@ ghost use Rattle.law.specs.Table.{opened, pair_of, row_of, rows, follows_in, sor
 use bmap::{Comparison, Junction, Operation, Single};
 
 // What a code byte opens, with its row.
-#[derive(Drop)]
+#[derive(Clone, Copy)]
 pub enum Node {
     Expression(u8),
     Constraint(u8),
@@ -199,7 +199,7 @@ pub(crate) fn joins_by(n: u8) -> Junction
 }
 
 // The two bytes after the code at a place.
-#[derive(Drop)]
+#[derive(Clone, Copy)]
 pub enum Pair {
     Bytes(u8, u8),
     Short,

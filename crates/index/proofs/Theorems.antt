@@ -14,5 +14,5 @@ module _ {s : Bor (List ℕ)} {at : ℕ} {bytes : List ℕ} where
     pub same_contents : r.now ≡ q.now
     same_contents = one.contents ∙ sym other.contents
 
-    pub same_place : 0 < length bytes → r.ptr ≡ q.ptr
+    pub same_place : 0 < length bytes → r.ref_ptr ≡ q.ref_ptr
     same_place some = stands one some ∙ sym (stands other some)

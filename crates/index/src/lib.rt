@@ -1,13 +1,15 @@
 // What a judge reads of an accepted store, found once: the numbers of its fluents, knowledge and entries, and where each law
 // stands. `domain` makes an index, `supplement` and `judge` read it; `session`, `answer` and `desk` ask it for its counts. What
 // is handed out of a store is cut here, so that its place is promised once.
+#![tactic(auto)]
+
 ghost use Rattle.std.specs.Prelude.{◌≡◌, ◌-◌, ◌≤◌, length, get_or, take, drop};
 ghost use Rattle.index.specs.Index.{frame_bytes};
 ghost use Rattle.index.specs.Place.{StandsAt};
 
 use bmap::Counts;
 
-#[derive(Drop)]
+#[derive(Clone, Copy)]
 pub struct Index {
     pub counts: Counts,
     // A2: a fluent's range, its start value and the limit of its change in one step, 0 where it has none.

@@ -14,7 +14,7 @@ use Rattle.bmap.specs.Plain.{maybe, numbers}
 use Rattle.bmap.specs.Limits.{frame_size}
 use Rattle.bmap.specs.Refusal.{Answer, got, refused, known, Reading, read, refused_at}
 use Rattle.bmap.specs.Line.{Frame}
-use Rattle.bmap.specs.Domain.{Domain, Fluent, Knows, Entry, Law}
+use Rattle.bmap.specs.Domain.{Domain, Fluent, Knows, Entry}
 use Rattle.bmap.specs.Accept.{nothing, counts_of, complete, taken}
 use Rattle.bmap.specs.Store.{frames_in, what_was_read, domain_in}
 use Rattle.bmap.proofs.PlainLaws.{both_true}

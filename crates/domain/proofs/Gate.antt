@@ -12,7 +12,7 @@ use borrow.Author.Tests.{eqb-true, eqb-false, leb-true, eq-eqb, ne_eqb, le-leb}
 use Rattle.bmap.specs.Plain.{both, either, if_else, any, numbers}
 use Rattle.bmap.specs.Line.{Frame}
 use Rattle.bmap.specs.Domain.{Domain, Fluent, Knows, Entry, Law}
-use Rattle.bmap.specs.Payload.{Item, agents, knowledge, byte, word_at, fluent_in, knowledge_in, entry_in}
+use Rattle.bmap.specs.Payload.{Item, byte, word_at, fluent_in, knowledge_in, entry_in}
 use Rattle.bmap.specs.Accept.{Partial, nothing, counts_of, room, add, executes, complete, checked}
 use Rattle.bmap.specs.declared.limits.Counts.{Counts}
 use Rattle.bmap.proofs.PlainLaws.{either_end}

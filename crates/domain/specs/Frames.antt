@@ -28,7 +28,7 @@ pub record StandsOver (s : Bor (List ℕ)) (refusal : ℕ) (p : Bor (List ℕ)) 
 -- "It starts only over an accepted domain (else 15, and it stands over no bytes)": over the store s that it was lent
 pub record StartsOver (s : Bor (List ℕ)) (r : FrameReader) : Type 0 where
   pub contents : r.store.now ≡ (start s.now).place.store
-  pub itself : r.store.ptr ≡ s.ref_ptr
+  pub itself : r.store.ref_ptr ≡ s.ref_ptr
   pub place : r.at ≡ (start s.now).place.at
   pub refusal : r.refusal ≡ refusal_in s.now
 

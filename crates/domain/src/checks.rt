@@ -59,7 +59,7 @@ fn repeated(
     false
 }
 
-#[derive(Drop)]
+#[derive(Clone, Copy)]
 pub enum Check {
     Passed,
     Refused(Refusal),

@@ -11,7 +11,7 @@ use bmap::Counts;
 use index::{Index, byte_at};
 use line::{FrameAt, frame_at, is_zero_from};
 
-#[derive(Drop)]
+#[derive(Clone, Copy)]
 pub struct Found {
     pub ok: bool,
     pub index: Index,

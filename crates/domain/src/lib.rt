@@ -1,6 +1,8 @@
 // Domains: the check of one frame, the reader of lines into a store, the acceptance of a store with its index, the writer and the
 // frame reader. It stands on `law` for the trees in a payload, on `line` for lines and frames, on `number` for values and on
 // `index` for what a judge reads; `supplement`, `session`, `answer`, `desk` and `frame_cases` stand on it.
+#![tactic(auto)]
+
 mod checks;
 mod found;
 mod frames;

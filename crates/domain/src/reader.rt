@@ -14,7 +14,7 @@ use index::{Index, byte_at};
 use line::{FirstLine, read_line, zero_from};
 
 // What a reader of lines into a store answers.
-#[derive(Drop)]
+#[derive(Clone, Copy)]
 pub enum ReadStore {
     // So many bytes of the store are used.
     Read(usize),
@@ -22,7 +22,7 @@ pub enum ReadStore {
 }
 
 // A reading, and what was found of the store that it leaves: who needs it checks no frame again.
-#[derive(Drop)]
+#[derive(Clone, Copy)]
 pub struct ReadFound {
     pub answer: ReadStore,
     pub found: Found,

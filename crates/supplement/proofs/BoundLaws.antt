@@ -1,5 +1,5 @@
 -- Where laws stand: below 2 ^ 16, in a domain's store and in a supplement's. Assumes nothing.
-use Prim.Native.Nat.{ℕ, zero, suc, ◌+◌, ◌-◌, ◌*◌, ◌≤◌, ◌<◌, ◌^◌}
+use Prim.Native.Nat.{ℕ, zero, suc, ◌+◌, ◌-◌, ◌≤◌, ◌<◌, ◌^◌}
 use native.Mathlib.Omega.{arith}
 use mathlib.Core.Path.{◌≡◌, refl, sym, ap, subst, ◌∙◌}
 use mathlib.Core.Bool.{Bool, true, false}
@@ -8,11 +8,11 @@ use mathlib.Core.Option.{Option, none, some}
 use lib.Dec.{eqb, leb}
 use lib.ListN.{length, get_or, set, drop, length-append}
 use Rattle.bmap.specs.Plain.{if_else, maybe, flat}
-use Rattle.bmap.specs.Refusal.{Answer, got, refused}
+use Rattle.bmap.specs.Refusal.{got, refused}
 use Rattle.bmap.specs.Line.{Frame, stored, line_for}
 use Rattle.bmap.specs.Domain.{Domain}
 use Rattle.bmap.specs.Store.{frame_at, zeros, frames_in, domain_in, text_of}
-use Rattle.bmap.specs.Supplement.{Replacement, replaces, number_in, payload_in, replacement_in, supplement_in, Where, in_domain, in_supplement, Part, replacement_part, law_in_force}
+use Rattle.bmap.specs.Supplement.{Replacement, replaces, number_in, payload_in, replacement_in, supplement_in, in_domain, in_supplement, Part, replacement_part, law_in_force}
 use Rattle.bmap.specs.Laying.{bytes_of}
 use Rattle.bmap.specs.Limits.{most_payload}
 use Rattle.line.proofs.WriteLaws.{length_line}
@@ -20,10 +20,9 @@ use Rattle.index.specs.Index.{domain_of}
 use Rattle.index.proofs.DomainLaws.{law_count}
 use Rattle.domain.specs.Check.{refused_in}
 use Rattle.domain.specs.Found.{law_places}
-use Rattle.domain.proofs.Stands.{here}
 use Rattle.domain.proofs.Accepted.{domained, as_many}
 use Rattle.domain.proofs.TextLaws.{domain_text_fits}
-use Rattle.supplement.specs.Check.{place_in, count_place, over_of}
+use Rattle.supplement.specs.Check.{place_in, count_place}
 use Rattle.supplement.specs.Under.{under_in}
 use Rattle.supplement.specs.Force.{Stretch, stretch_at, law_stretch}
 use Rattle.supplement.proofs.OverLaws.{Over, over_at_lem}

@@ -15,7 +15,7 @@ use Rattle.bmap.specs.Store.{frames_in, what_was_read, domain_in}
 use Rattle.bmap.specs.Sheet.{sheet_of}
 use Rattle.bmap.specs.Judge.{Judged, judge}
 use Rattle.bmap.specs.Verdict.{sheet_judged}
-use Rattle.bmap.specs.Supplement.{replacement_of, in_force_from, replaced, supplement_from, supplement_in, sheet_judged_under, Part, law_parts, replacement_part, no_part, law_in_force}
+use Rattle.bmap.specs.Supplement.{replacement_of, in_force_from, replaced, supplement_from, supplement_in, sheet_judged_under, law_parts, replacement_part, no_part, law_in_force}
 use Rattle.domain.proofs.RoundTrip.{no_frames, frames_back}
 
 in_force_none : (n : ℕ) (laws : List Law) → in_force_from [] n laws ≡ laws

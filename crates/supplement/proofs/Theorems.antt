@@ -85,9 +85,9 @@ same_law_place (Refused r) (Refused q) e = let n : number_of r ≡ number_of q =
 -- contents, and, where there are bytes, the place
 module _ (store supplement r q : Bor (List ℕ)) (bytes : List ℕ) where
   pub same_bytes_lem : (w : Where) → StandsIn w store supplement bytes r → StandsIn w store supplement bytes q → r.now ≡ q.now
-  same_bytes_lem (in_domain at) one other = part.same-contents one other
-  same_bytes_lem (in_supplement at) one other = part.same-contents one other
+  same_bytes_lem (in_domain at) one other = part.same_contents one other
+  same_bytes_lem (in_supplement at) one other = part.same_contents one other
 
-  pub same_stand : (w : Where) → StandsIn w store supplement bytes r → StandsIn w store supplement bytes q → 0 < length bytes → r.ptr ≡ q.ptr
+  pub same_stand : (w : Where) → StandsIn w store supplement bytes r → StandsIn w store supplement bytes q → 0 < length bytes → r.ref_ptr ≡ q.ref_ptr
   same_stand (in_domain at) one other = part.same_place one other
   same_stand (in_supplement at) one other = part.same_place one other

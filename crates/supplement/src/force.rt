@@ -9,7 +9,7 @@ use bmap::{Counts, Refusal};
 use index::{byte_at, part};
 
 // Where a law's payload stands, and how many bytes it has.
-#[derive(Drop)]
+#[derive(Clone, Copy)]
 pub enum LawPlace {
     InDomain { at: usize, size: usize },
     InSupplement { at: usize, size: usize },

@@ -7,7 +7,6 @@ ghost use Rattle.supplement.specs.Laid.{frame_with, winner, frames_laid};
 
 use crate::under::{index_of, places_of};
 use bmap::{Counts, Refusal, SUPPLEMENT};
-use bytes::copy;
 use index::{byte_at, part};
 use line::{Written, zero_from};
 
@@ -76,5 +75,8 @@ fn put_frame(supplement: &[u8], count: usize, out: &mut [u8]) -> usize
         return 0;
     }
     let size = byte_at(supplement, count) as usize + 2;
-    copy(part(supplement, count - 1, size), out)
+    let frame = part(supplement, count - 1, size);
+    let n = frame.len();
+    out[..n].copy_from_slice(frame);
+    n
 }

@@ -3,6 +3,8 @@
 // laid over another.
 // It stands on `domain` for a store's index and for the check of a law, on `line` for lines and frames and on `index` for the parts
 // of a store; `judge`, `answer` and `desk` stand on it.
+#![tactic(auto)]
+
 mod checks;
 mod force;
 mod laying;

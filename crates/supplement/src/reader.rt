@@ -14,7 +14,7 @@ use index::{Index, byte_at};
 use line::{FirstLine, read_line, zero_from};
 
 // A reading, and what was found of the domain and of the supplement that it leaves: who needs it checks neither again.
-#[derive(Drop)]
+#[derive(Clone, Copy)]
 pub struct ReadUnder {
     pub answer: ReadStore,
     pub under: Under,

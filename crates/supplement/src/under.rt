@@ -12,7 +12,7 @@ use index::{Index, byte_at};
 use line::{FrameAt, frame_at, is_zero_from};
 
 // What a judge reads of a domain and a supplement accepted for it.
-#[derive(Drop)]
+#[derive(Clone, Copy)]
 pub struct Under {
     pub ok: bool,
     pub index: Index,

@@ -1,9 +1,0 @@
-use borrow.Author.Rules.{rules}
-use Rattle.supplement.proofs.reader.read.Statement.{statement}
-use Rattle.supplement.proofs.reader.read.Tie as tie
-
-returns : tie.Need-returns
-returns c = let r = c.before.before.read_under.ensures in (r.answer, r.buffer)
-
-pub read_spec : {M : Type 1} → statement M
-read_spec = tie.close (tie.spec (λ c κs. search rules) (λ c. search rules) returns)

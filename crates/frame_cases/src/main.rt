@@ -1,18 +1,20 @@
 // Document 01's domain P, read into a store and handed out again by the frame reader: the refusal, then a line for each frame,
 // which is the line that was read. It stands on `domain`.
-ghost use Rattle.std.specs.Prelude.{◌≡◌, ◌-◌, ◌<◌, length};
+#![tactic(auto)]
+
+ghost use Rattle.std.specs.Prelude.{◌≡◌, ◌-◌, ◌<◌, length, IfOk};
 
 use bmap::STORE;
 use domain::{next, start};
-use libc::STDOUT_FILENO;
+use std::io;
+use std::io::{BufWriter, Write};
 
-fn print(text: &[u8]) {
-    io::write_all(STDOUT_FILENO, text);
+fn print<W: Write>(out: &mut W, text: &[u8]) -> io::Result<()> {
+    out.write_all(text)
 }
 
-fn print_refusal(refusal: u8) {
-    io::print_decimal(STDOUT_FILENO, refusal as u64);
-    print(b"\n");
+fn print_refusal<W: Write>(out: &mut W, refusal: u8) -> io::Result<()> {
+    writeln!(out, "{refusal}")
 }
 
 fn digit(n: u8) -> u8
@@ -22,47 +24,47 @@ fn digit(n: u8) -> u8
 }
 
 // Two digits of upper-case hex.
-fn print_byte(b: u8) {
+fn print_byte<W: Write>(out: &mut W, b: u8) -> io::Result<()> {
     let high = digit(b / 16);
     let low = digit(b % 16);
-    print(&[high, low]);
+    print(out, &[high, low])
 }
 
-fn print_bytes(part: &[u8]) {
-    let mut k: usize = 0;
-    while k < part.len() {
-        print_byte(part[k]);
-        k += 1;
+fn print_bytes<W: Write>(out: &mut W, part: &[u8]) -> io::Result<()> {
+    for b in part {
+        print_byte(out, *b)?;
     }
+    Ok(())
 }
 
 // Prints a part, and says how many times "no more" is still to be heard.
-fn show(part: &[u8], left: usize) -> usize
+fn show<W: Write>(out: &mut W, part: &[u8], left: usize) -> io::Result<usize>
     requires { 0 < left }
-    ensures { (length part.now ≡ 0 → result ≡ left - 1) × (0 < length part.now → result ≡ left) }
+    ensures { IfOk result (λ still. (length part.now ≡ 0 → still ≡ left - 1) × (0 < length part.now → still ≡ left)) }
 {
     if part.len() == 0 {
-        print(b"no more\n");
-        return left - 1;
+        print(out, b"no more\n")?;
+        return Ok(left - 1);
     }
-    print_bytes(part);
-    print(b"\n");
-    left
+    print_bytes(out, part)?;
+    print(out, b"\n")?;
+    Ok(left)
 }
 
 // Frame after frame, until "no more" was heard twice: after the last frame the reader stays.
-fn hand_out(store: &[u8]) {
+fn hand_out<W: Write>(out: &mut W, store: &[u8]) -> io::Result<()> {
     let mut r = start(store);
-    print_refusal(r.refusal);
+    print_refusal(out, r.refusal)?;
     let mut left: usize = 2;
     while 0 < left {
         let part = next(&mut r);
-        left = show(part, left);
+        left = show(out, part, left)?;
     }
+    Ok(())
 }
 
-fn main() {
-    let mut store = [0u8; STORE];
+fn main(rt: HostRuntime) -> io::Result<()> {
+    let mut store = Vec::from_elem(rt.alloc(), 0u8, STORE)?;
     domain::read(
         b"A10102\n\
           A20600C80140012C\n\
@@ -76,8 +78,10 @@ fn main() {
           A90725110000100118\n",
         &mut store,
     );
-    hand_out(&store);
+    let mut out = BufWriter::new(rt.alloc(), rt.stdout())?;
+    hand_out(&mut out, &store)?;
     // With a byte after its frames the store is no domain, and none of them is handed out.
     store[STORE - 1] = 1;
-    hand_out(&store);
+    hand_out(&mut out, &store)?;
+    out.flush()
 }

@@ -1,4 +1,6 @@
 // Sheets as hex lines: the reader and the writer. Both stand on `line`; `answer` and `desk` stand on them.
+#![tactic(auto)]
+
 mod reader;
 mod writer;
 

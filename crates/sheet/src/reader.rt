@@ -10,7 +10,7 @@ use crate::writer::line_size;
 use bmap::{FRAME, Kind, Refusal, Sheet};
 use line::{FirstLine, read_line, read_payload, zero_from};
 
-#[derive(Drop)]
+#[derive(Clone, Copy)]
 pub enum ReadSheet {
     // So many steps.
     Read(usize),
@@ -19,14 +19,14 @@ pub enum ReadSheet {
 }
 
 // What was read of the lines: the answer, and how many bytes of the buffer hold names.
-#[derive(Drop)]
+#[derive(Clone, Copy)]
 struct Steps {
     answer: ReadSheet,
     used: usize,
 }
 
 // What the first line is: none, a step of so many characters, or a refusal.
-#[derive(Drop)]
+#[derive(Clone, Copy)]
 enum Next {
     End,
     Step(usize),

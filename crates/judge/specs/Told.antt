@@ -6,7 +6,7 @@ use Rattle.bmap.specs.Limits.{most_agents, most_fluents, most_steps, most_entrie
 use Rattle.bmap.specs.Line.{effect_kind, static_kind, concurrency_kind, goal_kind}
 use Rattle.bmap.specs.Tree.{Con}
 use Rattle.bmap.specs.Meaning.{History}
-use Rattle.bmap.specs.Domain.{Domain, Names, Law, executable, effect, must, concurrency, goal, entry_at, has, occurs_in, knows, readable}
+use Rattle.bmap.specs.Domain.{Domain, Names, Law, executable, effect, must, entry_at, has, occurs_in, knows, readable}
 use Rattle.bmap.specs.Judge.{each, placed, carries}
 use Rattle.bmap.specs.Payload.{law_in, asks}
 use Rattle.bmap.specs.Accept.{counts_of}

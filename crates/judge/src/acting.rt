@@ -16,21 +16,21 @@ use bmap::Counts;
 const NAMES: usize = 256;
 
 // The entries that occur, and the agents who belong to one of them.
-#[derive(Drop)]
+#[derive(Clone, Copy)]
 pub struct Occurs {
     pub entries: u64,
     pub agents: u16,
 }
 
 // What the names of a step say by themselves: the entries that occur, and check 1.
-#[derive(Drop)]
+#[derive(Clone, Copy)]
 pub struct Acting {
     pub entries: u64,
     pub placed: Check,
 }
 
 // A step: who acts in it, and the state that it starts from.
-#[derive(Drop)]
+#[derive(Clone, Copy)]
 pub struct Step {
     pub acting: Acting,
     pub j: usize,

@@ -18,7 +18,7 @@ use bmap::{Counts, FRAME};
 use law::{HELD, HISTORY};
 
 // So many settings, or the first fault and its law.
-#[derive(Drop)]
+#[derive(Clone, Copy)]
 pub enum Settled {
     Clash(Fault, usize),
     Count(usize),

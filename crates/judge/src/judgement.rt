@@ -77,7 +77,7 @@ fn judge_steps<'a>(
 }
 
 // A judgement, and how many states the levels buffer received.
-#[derive(Drop)]
+#[derive(Clone, Copy)]
 pub struct Counted {
     pub judgement: Judgement,
     pub states: usize,

@@ -55,7 +55,7 @@ pub(crate) fn lay(
     }
 }
 
-#[derive(Drop)]
+#[derive(Clone, Copy)]
 pub enum Fit {
     Out,
     In(i16),
@@ -83,7 +83,7 @@ fn is_slow(limit: u16, old: i16, new: i16) -> bool
 }
 
 // What check 5 asks of each fluent: its range, and the limit of its change in one step.
-#[derive(Drop)]
+#[derive(Clone, Copy)]
 pub struct Ranges {
     pub lowest: [i16; Counts::FLUENTS],
     pub highest: [i16; Counts::FLUENTS],

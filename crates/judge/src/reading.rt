@@ -33,7 +33,7 @@ pub(crate) fn constraint_of(
 }
 
 // What a law wants set: a fluent and its new level; or why it has no value.
-#[derive(Drop)]
+#[derive(Clone, Copy)]
 pub enum Wants {
     Blank(Reason),
     Leaves,
@@ -89,7 +89,7 @@ pub(crate) fn wanted(
 }
 
 // The kinds never decrease from law to law, so the laws of a kind stand together, in a run of law numbers.
-#[derive(Drop)]
+#[derive(Clone, Copy)]
 pub struct Run {
     pub from: usize,
     pub to: usize,
@@ -133,7 +133,7 @@ fn run_of(held: &[u8; HELD], n: usize, kind: u8) -> Run
 }
 
 // Where the laws of each entry and of each kind stand.
-#[derive(Drop)]
+#[derive(Clone, Copy)]
 pub struct Runs {
     pub first: [u8; Counts::ENTRIES],
     pub last: [u8; Counts::ENTRIES],

@@ -97,7 +97,7 @@ fn land(
 }
 
 // A verdict, and how many states were reached.
-#[derive(Drop)]
+#[derive(Clone, Copy)]
 pub struct Ran {
     pub verdict: Verdict,
     pub reached: usize,
@@ -117,7 +117,7 @@ fn broken(fault: Fault, step: usize, number: usize, reached: usize) -> Ran
 
 // What is found once for a judgement. It goes by value once, to each of the two that follow: what is called in every step is lent
 // its parts, since a struct that holds arrays is copied at each call.
-#[derive(Drop)]
+#[derive(Clone, Copy)]
 pub struct Plan {
     pub counts: Counts,
     pub owners: [u8; Counts::LAWS],

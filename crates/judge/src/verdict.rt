@@ -6,7 +6,7 @@ ghost use Rattle.judge.specs.Answer.{kind_of};
 use bmap::{Reason, Refusal};
 
 // What is at fault.
-#[derive(Drop)]
+#[derive(Clone, Copy)]
 pub enum Fault {
     // 1: an agent names an action but belongs to no occurring entry with that name
     Misplaced,
@@ -60,7 +60,7 @@ pub(crate) fn fault_of(why: Reason) -> Fault
 }
 
 // "A verdict is Accepted, or Broken with kind, step and number."
-#[derive(Drop)]
+#[derive(Clone, Copy)]
 pub enum Verdict {
     Accepted,
     Broken {
@@ -70,14 +70,14 @@ pub enum Verdict {
     },
 }
 
-#[derive(Drop)]
+#[derive(Clone, Copy)]
 pub enum Judgement {
     Refused(Refusal),
     Judged(Verdict),
 }
 
 // What one check of a step answers: nothing wrong, or the first fault and its number.
-#[derive(Drop)]
+#[derive(Clone, Copy)]
 pub enum Check {
     Passed,
     Failed(Fault, usize),

@@ -1,8 +1,11 @@
 // Document 01's cases of domain P, through the code: for each sheet the levels written, then the verdict; and under supplements.
 // It stands on `judge`, and on `number` for the bytes of a level.
+#![tactic(auto)]
+
 use bmap::{LEVELS, Sheet};
 use judge::{Counted, Judgement, Verdict};
-use libc::STDOUT_FILENO;
+use std::io;
+use std::io::{BufWriter, Write};
 
 // "A river of one pool", as the domain reader stores it.
 const P: [u8; 91] = [
@@ -18,88 +21,89 @@ const NO_GOAL: [u8; 5] = [0xAF, 3, 4, 0xA9, 0x2A];
 // One step more than a sheet may have, of P's two agents.
 const TOO_LONG: usize = (Sheet::STEPS + 1) * 2;
 
-fn print(text: &[u8]) {
-    io::write_all(STDOUT_FILENO, text);
+fn print<W: Write>(out: &mut W, text: &[u8]) -> io::Result<()> {
+    out.write_all(text)
 }
 
-fn print_number(n: usize) {
-    io::print_decimal(STDOUT_FILENO, n as u64);
-    print(b" ");
+fn print_number<W: Write>(out: &mut W, n: usize) -> io::Result<()> {
+    write!(out, "{n} ")
 }
 
 // P's levels are not negative, so their two bytes are the number.
-fn print_level(levels: &[i16], k: usize) {
+fn print_level<W: Write>(out: &mut W, levels: &[i16], k: usize) -> io::Result<()> {
     if k < levels.len() {
         let two = number::bytes_of(levels[k]);
-        print_number(two.high as usize * 256 + two.low as usize);
+        print_number(out, two.high as usize * 256 + two.low as usize)?;
     }
+    Ok(())
 }
 
-fn print_levels(levels: &[i16], n: usize) {
-    let mut k: usize = 0;
-    while k < n {
-        print_level(levels, k);
-        k += 1;
+fn print_levels<W: Write>(out: &mut W, levels: &[i16], n: usize) -> io::Result<()> {
+    for k in 0..n {
+        print_level(out, levels, k)?;
     }
+    Ok(())
 }
 
-fn print_verdict(verdict: Verdict) {
+fn print_verdict<W: Write>(out: &mut W, verdict: Verdict) -> io::Result<()> {
     match verdict {
-        Verdict::Accepted => print(b"accepted"),
+        Verdict::Accepted => print(out, b"accepted"),
         Verdict::Broken {
             fault,
             step,
             number,
         } => {
-            print(b"broken ");
-            print_number(fault.number());
-            print_number(step);
-            print_number(number);
+            print(out, b"broken ")?;
+            print_number(out, fault.number())?;
+            print_number(out, step)?;
+            print_number(out, number)
         }
     }
 }
 
-fn print_judged(levels: &[i16], counted: Counted) {
-    print_levels(levels, counted.states);
+fn print_judged<W: Write>(out: &mut W, levels: &[i16], counted: Counted) -> io::Result<()> {
+    print_levels(out, levels, counted.states)?;
     let judgement = counted.judgement;
     match judgement {
         Judgement::Refused(refusal) => {
-            print(b"refused ");
-            print_number(refusal.number());
+            print(out, b"refused ")?;
+            print_number(out, refusal.number())?;
         }
-        Judgement::Judged(verdict) => print_verdict(verdict),
+        Judgement::Judged(verdict) => print_verdict(out, verdict)?,
     }
-    print(b"\n");
+    print(out, b"\n")
 }
 
-fn judged(sheet: &[u8]) {
+fn judged<W: Write>(out: &mut W, sheet: &[u8]) -> io::Result<()> {
     let store = P;
     let mut levels = [0i16; LEVELS];
     let counted = judge::judge_counted(&store, sheet, &mut levels);
-    print_judged(&levels, counted);
+    print_judged(out, &levels, counted)
 }
 
-fn judged_under(supplement: &[u8], sheet: &[u8]) {
+fn judged_under<W: Write>(out: &mut W, supplement: &[u8], sheet: &[u8]) -> io::Result<()> {
     let store = P;
     let mut levels = [0i16; LEVELS];
     let counted = judge::judge_under_counted(&store, supplement, sheet, &mut levels);
-    print_judged(&levels, counted);
+    print_judged(out, &levels, counted)
 }
 
-fn main() {
+fn main(rt: HostRuntime) -> io::Result<()> {
+    let mut out = BufWriter::new(rt.alloc(), rt.stdout())?;
     let none: [u8; 0] = [];
-    judged(&none);
-    judged(&[1, 0]);
-    judged(&[1, 0, 0, 2]);
-    judged(&[1, 2]);
-    judged(&[2, 0]);
-    judged(&[9, 0]);
-    judged(&[1, 0, 1, 0]);
-    judged(&[1, 0, 1, 0, 1, 0, 1, 0, 1, 0, 1, 0]);
-    judged(&[1, 0, 1, 0, 1, 0, 1, 0, 1, 0, 1, 0, 1, 0]);
-    judged(&[1, 0, 1]);
-    judged(&[0; TOO_LONG]);
-    judged_under(&NO_GOAL, &[1, 0, 1, 0]);
-    judged_under(&none, &[1, 0, 1, 0]);
-    judged_under(&[1], &[1, 0, 1]);
+    judged(&mut out, &none)?;
+    judged(&mut out, &[1, 0])?;
+    judged(&mut out, &[1, 0, 0, 2])?;
+    judged(&mut out, &[1, 2])?;
+    judged(&mut out, &[2, 0])?;
+    judged(&mut out, &[9, 0])?;
+    judged(&mut out, &[1, 0, 1, 0])?;
+    judged(&mut out, &[1, 0, 1, 0, 1, 0, 1, 0, 1, 0, 1, 0])?;
+    judged(&mut out, &[1, 0, 1, 0, 1, 0, 1, 0, 1, 0, 1, 0, 1, 0])?;
+    judged(&mut out, &[1, 0, 1])?;
+    judged(&mut out, &[0; TOO_LONG])?;
+    judged_under(&mut out, &NO_GOAL, &[1, 0, 1, 0])?;
+    judged_under(&mut out, &none, &[1, 0, 1, 0])?;
+    judged_under(&mut out, &[1], &[1, 0, 1])?;
+    out.flush()
 }

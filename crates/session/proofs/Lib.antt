@@ -5,8 +5,6 @@ pub mod TurnLaws
 pub mod ReplayLaws
 pub mod OpenLaws
 pub mod CallLaws
-pub mod LentWalk
-pub mod LentChange
 pub mod ModelLaws
 pub mod SomeDomain
 pub mod Theorems

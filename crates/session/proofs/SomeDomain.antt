@@ -12,7 +12,7 @@ use Rattle.bmap.specs.Number.{signed_word}
 use Rattle.bmap.specs.Tree.{allowed_e, allowed_c, always}
 use Rattle.bmap.specs.Code.{code_of, parse_e, parse_c}
 use Rattle.bmap.specs.Domain.{Domain, executable}
-use Rattle.bmap.specs.Payload.{agents, knowledge, mask_fits, agents_fit, limit_fits, fluent_fits, entry_fits, executable_in, law_in, item_in}
+use Rattle.bmap.specs.Payload.{mask_fits, agents_fit, limit_fits, fluent_fits, entry_fits, executable_in, law_in, item_in}
 use Rattle.bmap.specs.Accept.{in_order, room, fresh, checked, accept, complete, taken_from}
 use Rattle.bmap.specs.Store.{frames_from, frame_at, stands_at, domain_in}
 use Rattle.domain.specs.declared.found.Found.{Found}

@@ -2,6 +2,8 @@
 // refusal 17; value.rt has the five changes by value, lent.rt those that alter the session itself; opening.rt takes the number
 // of agents from a store, judging.rt hands the sheet to the judge.
 // It stands on `line` for zeros, on `domain` for a store, on `index` for its counts and on `judge`; `desk` stands on it.
+#![tactic(auto)]
+
 mod judging;
 mod kept;
 mod lent;
@@ -16,14 +18,14 @@ pub use opening::open;
 pub use value::{amended, entered, redone, stricken, undone};
 
 // What a call on a session answers.
-#[derive(Drop)]
+#[derive(Clone, Copy)]
 pub enum Outcome {
     Done,
     Refused(bmap::Refusal),
 }
 
 // What a call by value leaves.
-#[derive(Drop)]
+#[derive(Clone, Copy)]
 pub struct Change {
     pub outcome: Outcome,
     pub session: bmap::Session,

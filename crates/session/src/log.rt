@@ -18,14 +18,14 @@ pub(crate) const AMEND: u8 = 3;
 const NAMES: usize = 2;
 
 // Where an edit's names are laid in a sheet, and the number of steps after it.
-#[derive(Drop)]
+#[derive(Clone, Copy)]
 enum Place {
     Nowhere,
     Step(usize, usize),
 }
 
 // The number of steps that a log's entries leave, or that one of them is no edit that could be done.
-#[derive(Drop)]
+#[derive(Clone, Copy)]
 pub(crate) enum Run {
     Stuck,
     Steps(usize),

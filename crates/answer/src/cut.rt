@@ -4,7 +4,7 @@ ghost use Rattle.bmap.specs.Line.{starts_with};
 ghost use Rattle.answer.specs.Cut.{InLine, CutIn, feed_in};
 
 // The place of that line, or the input's end, and the number of lines before it.
-#[derive(Drop)]
+#[derive(Clone, Copy)]
 pub struct Cut {
     pub at: usize,
     pub lines: usize,

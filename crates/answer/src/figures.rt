@@ -11,7 +11,7 @@ use crate::print::{LEVEL_ZERO, level, put_number, put_signed, raised};
 
 // Of one fluent. Levels are counted from the lowest that 16 bits hold, so that one comparison and one sum of unsigned numbers do for
 // all signs; in a sum of `count` levels 0 is at count * LEVEL_ZERO.
-#[derive(Drop)]
+#[derive(Clone, Copy)]
 struct Figures {
     lowest: usize,
     highest: usize,

@@ -26,7 +26,7 @@ use supplement::{Under, alone};
 const STATES: usize = SHEETS * LEVELS;
 
 // What a sheet's text comes to.
-#[derive(Drop)]
+#[derive(Clone, Copy)]
 enum Outcome {
     // With so many states, at the front of the levels.
     Accepted(usize),
@@ -35,7 +35,7 @@ enum Outcome {
 }
 
 // Where a report is: at the next B000 line or the input's end, after so many lines, with so many sheets and states.
-#[derive(Drop)]
+#[derive(Clone, Copy)]
 struct Morning {
     at: usize,
     lines: usize,
@@ -44,7 +44,7 @@ struct Morning {
     states: usize,
 }
 
-#[derive(Drop)]
+#[derive(Clone, Copy)]
 enum Next {
     Goes(Morning),
     Refused(Refusal, usize),

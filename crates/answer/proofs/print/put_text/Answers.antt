@@ -1,0 +1,7 @@
+use Prim.Native.Nat.{◌-◌}
+use native.Mathlib.Omega.{arith}
+use Rattle.answer.proofs.PutLaws.{put_none, put_next, put_whole, put_length}
+use Rattle.answer.proofs.print.put_text.Goals as goal
+
+pub loop-i-preserved : goal.loop-i-preserved
+loop-i-preserved c = (omega arith, put_next _ c.loop-i-test.true c.loop-i.invariant.1)

@@ -1,4 +1,3 @@
 pub mod NumberLaws
 pub mod CountLaws
-pub mod LentNumber
 pub mod Theorems

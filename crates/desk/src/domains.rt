@@ -4,7 +4,7 @@ ghost use Rattle.bmap.specs.Store.{read_domain, write_domain, domain_in};
 ghost use Rattle.line.specs.Frame.{size_of, frame_size_at};
 ghost use Rattle.desk.specs.Numbers.{read_number, written_number, counts_number, size_number};
 
-use crate::number::{FOURTH, SECOND, THIRD, read, refused_alone, written};
+use crate::parts::{FOURTH, SECOND, THIRD, read, refused_alone, written};
 use bmap::Refusal;
 use line::{FrameAt, frame_at};
 

@@ -7,7 +7,7 @@ ghost use Rattle.judge.specs.Answer as answer;
 ghost use Rattle.session.specs.Verdict as session;
 ghost use Rattle.desk.specs.Numbers.{verdict_number, judged_number};
 
-use crate::number::{FOURTH, SECOND, THIRD, refused};
+use crate::parts::{FOURTH, SECOND, THIRD, refused};
 use bmap::Session;
 use judge::{Counted, Judgement, Verdict};
 

@@ -1,11 +1,13 @@
 // The library's calls for C and Rust, by numbers and slices: include/waroth.h says what each takes and leaves.
 // Each answers by one number of 64 bits, whose meaning is a definition in specs/; the calls themselves stand in the crates below,
 // `line`, `domain`, `supplement`, `sheet`, `judge`, `session` and `answer`, and `index` has a store's counts. No crate stands on it.
+#![tactic(auto)]
+
 mod domains;
 mod edits;
 mod judgements;
-mod number;
 mod numbered;
+mod parts;
 mod program;
 mod sheets;
 mod supplements;

@@ -3,12 +3,12 @@ ghost use Rattle.bmap.specs.Session.{enter, strike, amend, edit_session, undo_se
 ghost use Rattle.session.specs.Calls.{changed_of};
 ghost use Rattle.desk.specs.Numbers.{answers};
 
-use crate::number::done;
+use crate::parts::done;
 use bmap::Session;
 use session::Change;
 
 // What a call leaves.
-#[derive(Drop)]
+#[derive(Clone, Copy)]
 pub(crate) struct Numbered {
     pub(crate) number: u64,
     pub(crate) session: Session,

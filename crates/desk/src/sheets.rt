@@ -4,7 +4,7 @@ ghost use Rattle.bmap.specs.Sheet.{read_sheet, write_sheet};
 ghost use Rattle.sheet.specs.Answer.{reading_of};
 ghost use Rattle.desk.specs.Numbers.{read_number, written_number};
 
-use crate::number::{counted, refused, written};
+use crate::parts::{counted, refused, written};
 use sheet::ReadSheet;
 
 fn read(answer: ReadSheet) -> u64

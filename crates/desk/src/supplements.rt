@@ -5,7 +5,7 @@ ghost use Rattle.bmap.specs.Laying.{lay_supplements};
 ghost use Rattle.supplement.specs.Force.{placed, stretch_of};
 ghost use Rattle.desk.specs.Numbers.{read_number, written_number, law_place_number};
 
-use crate::number::{FOURTH, SECOND, read, refused_alone, written};
+use crate::parts::{FOURTH, SECOND, read, refused_alone, written};
 use supplement::LawPlace;
 
 #[unsafe(no_mangle)]

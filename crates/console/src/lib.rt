@@ -1,30 +1,119 @@
 // Standard input, taken whole: the programs `waroth`, `low_water` and `report` stand on it.
-ghost use Rattle.std.specs.Prelude.{◌≤◌, length};
+#![tactic(auto)]
 
-use libc::STDIN_FILENO;
+ghost use Rattle.std.specs.Prelude.{◌≤◌, ◌<◌, length, take, OnOk};
+ghost use Rattle.std.specs.Io.KnownBytes.{Consumes, IsAtEnd};
 
-// The input's size, or that a read failed.
+use std::io;
+use std::io::Read;
+
+// How many bytes were taken, and whether a read failed after them.
 #[derive(Drop)]
 pub struct Taken {
-    pub whole: bool,
+    pub whole: io::Result<()>,
     pub size: usize,
 }
 
-// Reads to the end of the input, or until the buffer is full. Which bytes come, no contract can say.
-pub fn take_input(buffer: &mut [u8]) -> Taken
-    ensures { result.size ≤ length buffer.new }
+// Reads to the end of the input, until the buffer is full, or until a read fails: what the reader gave stands at the front of the
+// buffer, byte for byte, and a shorter input that is whole has no byte left. Which bytes standard input gives, no contract can say.
+pub fn take_input<R: Read>(reader: &mut R, buffer: &mut [u8]) -> Taken
+    ensures within { result.size ≤ length buffer.new }
+    ensures bytes { Consumes (R.remaining reader.old) (R.remaining reader.new) (take result.size buffer.new) }
+    ensures end { OnOk result.whole (result.size < length buffer.new → IsAtEnd (R.remaining reader.new)) }
 {
     let mut size: usize = 0;
     while size < buffer.len() {
-        let got = libc::read(STDIN_FILENO, &mut buffer[size..]);
-        if got < 0 {
-            return Taken { whole: false, size };
+        match reader.read(&mut buffer[size..]) {
+            Ok(0) => break,
+            Ok(more) => size += more,
+            Err(e) => return Taken {
+                whole: Err(e),
+                size,
+            },
         }
-        let more = io::count(got, &buffer[size..]);
-        if more == 0 {
-            return Taken { whole: true, size };
-        }
-        size += more;
     }
-    Taken { whole: true, size }
+    Taken {
+        whole: Ok(()),
+        size,
+    }
+}
+
+#[cfg(test)]
+mod tests {
+    use super::*;
+
+    // Gives at most so many bytes a read, and fails once, after so many reads.
+    #[derive(Drop)]
+    struct Pieces {
+        left: &'static [u8],
+        most: usize,
+        reads: Option<usize>,
+    }
+
+    impl Read for Pieces {
+        fn read(&mut self, buf: &mut [u8]) -> io::Result<usize> {
+            if self.reads == Some(0) {
+                self.reads = None;
+                return Err(io::ErrorKind::TimedOut.into());
+            }
+            self.reads = self.reads.map(|n| n.saturating_sub(1));
+            let n = self.most.min(self.left.len()).min(buf.len());
+            buf[..n].copy_from_slice(&self.left[..n]);
+            self.left = &self.left[n..];
+            Ok(n)
+        }
+    }
+
+    // What is taken of "A10102" into a buffer of so many bytes, and what is left to be read.
+    #[test]
+    fn takes_pieces(rt: HostRuntime) {
+        for (most, room, taken, left) in [
+            (6, 8, &b"A10102"[..], &b""[..]),
+            (1, 8, b"A10102", b""),
+            (4, 6, b"A10102", b""),
+            (4, 5, b"A1010", b"2"),
+            (9, 0, b"", b"A10102"),
+        ] {
+            let mut reader = Pieces {
+                left: b"A10102",
+                most,
+                reads: None,
+            };
+            let mut buffer = [b'.'; 8];
+            let got = take_input(&mut reader, &mut buffer[..room]);
+            assert!(rt; got.whole.is_ok(), "{most} {room}");
+            assert_eq!(rt; &buffer[..got.size], taken, "{most} {room}");
+            assert_eq!(rt; reader.left, left, "{most} {room}");
+        }
+    }
+
+    // A read that fails in mid-stream: what came before it is there, and the next call goes on behind it.
+    #[test]
+    fn says_that_a_read_failed(rt: HostRuntime) {
+        let mut reader = Pieces {
+            left: b"A10102",
+            most: 2,
+            reads: Some(2),
+        };
+        let mut buffer = [b'.'; 8];
+        let got = take_input(&mut reader, &mut buffer);
+        assert_eq!(rt;
+            got.whole.map_err(|e| e.kind()),
+            Err(io::ErrorKind::TimedOut)
+        );
+        assert_eq!(rt; &buffer[..got.size], &b"A101"[..]);
+        let rest = take_input(&mut reader, &mut buffer);
+        assert!(rt; rest.whole.is_ok());
+        assert_eq!(rt; &buffer[..rest.size], &b"02"[..]);
+    }
+
+    // A slice is a reader too, and needs no fake.
+    #[test]
+    fn takes_a_slice(rt: HostRuntime) {
+        let mut reader: &[u8] = b"A10102\n";
+        let mut buffer = [0u8; 16];
+        let got = take_input(&mut reader, &mut buffer);
+        assert!(rt; got.whole.is_ok());
+        assert_eq!(rt; &buffer[..got.size], &b"A10102\n"[..]);
+    }
 }

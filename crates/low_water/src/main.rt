@@ -1,20 +1,49 @@
 // The sheet judge in low water: a domain's hex lines, those of a supplement and a sheet's from standard input; the states reached and the
 // verdict under the laws in force to standard output.
 // What it writes is `answer`'s; here bytes only come and go.
+#![tactic(auto)]
+
+ghost use Rattle.std.specs.Prelude.{◌≡◌, ◌+◌, ◌≤◌, length, OnOk, IfSome};
+ghost use Rattle.std.specs.Io.KnownBytes.{Appends};
+ghost use Rattle.bmap.specs.Limits.{most_input};
+ghost use Rattle.bmap.specs.Program as program;
+ghost use Rattle.answer.specs.Room.{output_size};
+
 use answer::OUTPUT;
 use bmap::INPUT;
-use libc::STDOUT_FILENO;
+use std::io;
+use std::io::{Read, Write};
 
-fn main() {
+// The output of an input, to a writer.
+fn write_answer<W: Write>(input: &[u8], out: &mut [u8], to: &mut W) -> io::Result<()>
+    requires { output_size ≤ length out.old }
+    ensures { OnOk result (Appends (W.contents to.old) (W.contents to.new) (program.low_water input.now)) }
+{
+    let written = answer::low_water(input, out);
+    to.write_all(&out[..written])
+}
+
+// All of a reader's bytes, to a writer the output for them: which, where the reader says its bytes, is the program's promise.
+fn judge<R: Read, W: Write>(
+    from: &mut R,
+    input: &mut [u8],
+    out: &mut [u8],
+    to: &mut W,
+) -> io::Result<()>
     // One byte past the limit shows that it is passed.
-    let mut input = [0u8; INPUT + 1];
-    let taken = console::take_input(&mut input);
+    requires taken { length input.old ≡ most_input + 1 }
+    requires room { output_size ≤ length out.old }
+    ensures { OnOk result (IfSome (R.remaining from.old) (λ bytes. Appends (W.contents to.old) (W.contents to.new) (program.low_water bytes))) }
+{
+    let taken = console::take_input(from, input);
     // Half an input is not judged.
-    if !taken.whole {
-        return;
-    }
+    taken.whole?;
     let size = taken.size;
-    let mut output = [0u8; OUTPUT];
-    let written = answer::low_water(&input[..size], &mut output);
-    io::write_all(STDOUT_FILENO, &output[..written]);
+    write_answer(&input[..size], out, to)
+}
+
+fn main(rt: HostRuntime) -> io::Result<()> {
+    let mut input = Vec::from_elem(rt.alloc(), 0u8, INPUT + 1)?;
+    let mut output = Vec::from_elem(rt.alloc(), 0u8, OUTPUT)?;
+    judge(&mut rt.stdin(), &mut input, &mut output, &mut rt.stdout())
 }

@@ -1,20 +1,49 @@
 // The morning's figures: a domain's hex lines and those of its sheets, each begun by a line B000, from standard input; the count of
 // sheets and each fluent's figures to standard output.
 // What it writes is `answer`'s; here bytes only come and go.
+#![tactic(auto)]
+
+ghost use Rattle.std.specs.Prelude.{◌≡◌, ◌≤◌, length, OnOk, IfSome};
+ghost use Rattle.std.specs.Io.KnownBytes.{Appends};
+ghost use Rattle.bmap.specs.Limits.{report_input};
+ghost use Rattle.bmap.specs.Report as program;
+ghost use Rattle.answer.specs.Room.{output_size};
+
 use answer::OUTPUT;
 use bmap::REPORT_INPUT;
-use libc::STDOUT_FILENO;
+use std::io;
+use std::io::{Read, Write};
 
-fn main() {
+// The output of an input, to a writer.
+fn write_answer<W: Write>(input: &[u8], out: &mut [u8], to: &mut W) -> io::Result<()>
+    requires { output_size ≤ length out.old }
+    ensures { OnOk result (Appends (W.contents to.old) (W.contents to.new) (program.report input.now)) }
+{
+    let written = answer::report(input, out);
+    to.write_all(&out[..written])
+}
+
+// All of a reader's bytes, to a writer the output for them: which, where the reader says its bytes, is the program's promise.
+fn figures<R: Read, W: Write>(
+    from: &mut R,
+    input: &mut [u8],
+    out: &mut [u8],
+    to: &mut W,
+) -> io::Result<()>
     // What stands after these bytes cannot change the report, and stays unread: `RestUnread` of bmap/specs/Theorems, proved in `theorems`.
-    let mut input = [0u8; REPORT_INPUT];
-    let taken = console::take_input(&mut input);
+    requires taken { length input.old ≡ report_input }
+    requires room { output_size ≤ length out.old }
+    ensures { OnOk result (IfSome (R.remaining from.old) (λ bytes. Appends (W.contents to.old) (W.contents to.new) (program.report bytes))) }
+{
+    let taken = console::take_input(from, input);
     // Half an input is not reported on.
-    if !taken.whole {
-        return;
-    }
+    taken.whole?;
     let size = taken.size;
-    let mut output = [0u8; OUTPUT];
-    let written = answer::report(&input[..size], &mut output);
-    io::write_all(STDOUT_FILENO, &output[..written]);
+    write_answer(&input[..size], out, to)
+}
+
+fn main(rt: HostRuntime) -> io::Result<()> {
+    let mut input = Vec::from_elem(rt.alloc(), 0u8, REPORT_INPUT)?;
+    let mut output = Vec::from_elem(rt.alloc(), 0u8, OUTPUT)?;
+    figures(&mut rt.stdin(), &mut input, &mut output, &mut rt.stdout())
 }

@@ -1,4 +1,4 @@
-/* The sheet judge for C: the calls of target/staticlib/libdesk.a, which `rt staticlib desk` makes for x86-64 Linux.
+/* The sheet judge for C: the calls of crates/desk/out/libdesk.a, which `rt lib` makes in crates/desk for x86-64 Linux.
  *
  * Every call is total: it takes any bytes, ends, and what it cannot use it refuses by one of the numbers below. Its answer
  * and every byte that it leaves are proved; crates/desk/specs/Numbers.antt says what each answer means.

@@ -6,8 +6,8 @@
  * A third has those of a supplement that is laid over it first. Nothing is allocated: the header names the size of every
  * buffer.
  *
- *     rt staticlib desk
- *     cc -std=c11 -I include examples/c/evening.c target/staticlib/libdesk.a -o evening
+ *     (cd crates/desk && rt lib)
+ *     cc -std=c11 -I include examples/c/evening.c crates/desk/out/libdesk.a -o evening
  *     ./evening examples/pool/accepted.hex
  *     ./evening examples/pool/accepted.hex examples/c/low_water.af
  *     ./evening examples/pool/accepted.hex examples/c/low_water.af examples/c/dredging.af

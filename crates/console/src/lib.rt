@@ -1,4 +1,4 @@
-// Standard input, taken whole: the programs `waroth`, `low_water` and `report` stand on it.
+// A reader's bytes, taken whole, as standard input's: the programs `waroth`, `low_water` and `report` stand on it.
 #![tactic(auto)]
 
 ghost use Rattle.std.specs.Prelude.{◌≤◌, ◌<◌, length, take, OnOk};

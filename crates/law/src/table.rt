@@ -51,8 +51,7 @@ pub(crate) const FIRST: u8 = 0x10;
 
 pub(crate) const ROWS: usize = 32;
 
-// Code by code, from the first. A use copies the table, so who reads many rows keeps a copy and lends it; numbers, since an
-// array of an enum or a struct cannot be lent.
+// Code by code, from the first. Who reads many rows keeps a copy and lends it.
 pub(crate) const TABLE: [u8; ROWS] = [
     PAIR, // 10 constant
     PAIR + NEXT, // 11 fluent, lag

@@ -12,8 +12,7 @@ pub(crate) fn pair(high: u8, low: u8) -> u16
     value(high) * 16 + value(low)
 }
 
-// The value of a digit, 256 for what is none. A `match` on single numbers is compiled to a table that only is read; a constant
-// array would be copied at each use.
+// The value of a digit, 256 for what is none. A `match` on single numbers is compiled to a table that only is read.
 fn value(c: u8) -> u16
     ensures { result ≡ worth (digit c) }
 {

@@ -7,7 +7,7 @@ ghost use Rattle.std.specs.Prelude.{◌≡◌, ◌-◌, ◌<◌, length, IfOk};
 use bmap::STORE;
 use domain::{next, start};
 use std::io;
-use std::io::{BufWriter, Write};
+use std::io::Write;
 
 fn print<W: Write>(out: &mut W, text: &[u8]) -> io::Result<()> {
     out.write_all(text)
@@ -64,7 +64,7 @@ fn hand_out<W: Write>(out: &mut W, store: &[u8]) -> io::Result<()> {
 }
 
 fn main(rt: HostRuntime) -> io::Result<()> {
-    let mut store = Vec::from_elem(rt.alloc(), 0u8, STORE)?;
+    let mut store = [0u8; STORE];
     domain::read(
         b"A10102\n\
           A20600C80140012C\n\
@@ -78,10 +78,9 @@ fn main(rt: HostRuntime) -> io::Result<()> {
           A90725110000100118\n",
         &mut store,
     );
-    let mut out = BufWriter::new(rt.alloc(), rt.stdout())?;
+    let mut out = rt.stdout();
     hand_out(&mut out, &store)?;
     // With a byte after its frames the store is no domain, and none of them is handed out.
     store[STORE - 1] = 1;
-    hand_out(&mut out, &store)?;
-    out.flush()
+    hand_out(&mut out, &store)
 }

@@ -43,7 +43,7 @@ fn judge<R: Read, W: Write>(
 }
 
 fn main(rt: HostRuntime) -> io::Result<()> {
-    let mut input = Vec::from_elem(rt.alloc(), 0u8, INPUT + 1)?;
-    let mut output = Vec::from_elem(rt.alloc(), 0u8, OUTPUT)?;
+    let mut input = [0u8; INPUT + 1];
+    let mut output = [0u8; OUTPUT];
     judge(&mut rt.stdin(), &mut input, &mut output, &mut rt.stdout())
 }

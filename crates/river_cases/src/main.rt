@@ -5,7 +5,7 @@
 use bmap::{LEVELS, Sheet};
 use judge::{Counted, Judgement, Verdict};
 use std::io;
-use std::io::{BufWriter, Write};
+use std::io::Write;
 
 // "A river of one pool", as the domain reader stores it.
 const P: [u8; 91] = [
@@ -89,7 +89,7 @@ fn judged_under<W: Write>(out: &mut W, supplement: &[u8], sheet: &[u8]) -> io::R
 }
 
 fn main(rt: HostRuntime) -> io::Result<()> {
-    let mut out = BufWriter::new(rt.alloc(), rt.stdout())?;
+    let mut out = rt.stdout();
     let none: [u8; 0] = [];
     judged(&mut out, &none)?;
     judged(&mut out, &[1, 0])?;
@@ -104,6 +104,5 @@ fn main(rt: HostRuntime) -> io::Result<()> {
     judged(&mut out, &[0; TOO_LONG])?;
     judged_under(&mut out, &NO_GOAL, &[1, 0, 1, 0])?;
     judged_under(&mut out, &none, &[1, 0, 1, 0])?;
-    judged_under(&mut out, &[1], &[1, 0, 1])?;
-    out.flush()
+    judged_under(&mut out, &[1], &[1, 0, 1])
 }

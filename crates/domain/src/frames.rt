@@ -9,7 +9,7 @@ use index::part;
 use line::{FrameAt, frame_at};
 
 // "stands over the store and hands out frame after frame". The refusal is 0 where it stands over an accepted domain.
-#[derive(Drop)]
+#[derive(Clone, Copy)]
 pub struct FrameReader<'a> {
     pub store: &'a [u8],
     pub at: usize,

@@ -26,9 +26,9 @@ use Rattle.law.specs.Evaluate.{history_of, Meant, malformed, gives, at_position,
 use Rattle.law.specs.declared.eval.Evaluated.{Evaluated}
 use Rattle.law.specs.declared.eval.Evaluated.TheVariants as value_as
 use Rattle.law.specs.declared.eval.Judged.{Judged}
-use Rattle.law.specs.declared.eval.Judged.TheVariants as truth-as
+use Rattle.law.specs.declared.eval.Judged.TheVariants as truth_as
 use Rattle.number.specs.declared.Value.{Value}
-use Rattle.number.specs.declared.Value.TheVariants as number-as
+use Rattle.number.specs.declared.Value.TheVariants as number_as
 use Rattle.number.specs.declared.Truth.{Truth}
 use Rattle.number.specs.Answer.{valued_of, truth_of}
 use mir.Syntax.{w32}
@@ -70,10 +70,10 @@ truth_told d held p l h history j {at} w e seen =
     rw (le-leb j most_steps seen.within, read) (ap (λ (v : Valued Bool). gives v (at + s.used)) (con_seen d (asks_of l) h history j seen (con_of l) s.fit))
 
 -- the same, of an answer that gives something, and of one that does not
-pub judged_given : {r : Judged} {t : Truth} {k : ℕ} {m : Meant (Valued Bool)} {v : Valued Bool} {n : ℕ} → judged r ≡ m → r ≡ truth-as.Gives t k → m ≡ gives v n → (truth_of t ≡ v) × (k ≡ n)
+pub judged_given : {r : Judged} {t : Truth} {k : ℕ} {m : Meant (Valued Bool)} {v : Valued Bool} {n : ℕ} → judged r ≡ m → r ≡ truth_as.Gives t k → m ≡ gives v n → (truth_of t ≡ v) × (k ≡ n)
 judged_given {r} {t} {k} {m} {v} {n} e q w = let z : gives (truth_of t) k ≡ gives v n = sym (ap judged q) ∙ (e ∙ w) in ((cc), (cc))
 
-pub judged_malformed : {r : Judged} {m : Meant (Valued Bool)} {v : Valued Bool} {n : ℕ} → judged r ≡ m → r ≡ truth-as.Malformed → m ≡ gives v n → ⊥
+pub judged_malformed : {r : Judged} {m : Meant (Valued Bool)} {v : Valued Bool} {n : ℕ} → judged r ≡ m → r ≡ truth_as.Malformed → m ≡ gives v n → ⊥
 judged_malformed {r} {m} {v} {n} e q w = let z : malformed ≡ gives v n = sym (ap judged q) ∙ (e ∙ w) in let y : ◌≡◌ {A = ℕ} 0 1 = cc in omega arith
 
 pub setting_given : (f : ℕ) {r : Evaluated} {v : Value} {k : ℕ} {m : Meant (Valued ℤ)} → evaluated r ≡ m → r ≡ value_as.Gives v k → with1 (λ z. value (some (setting f z))) (valued_of v) ≡ setting_from f m
@@ -82,10 +82,10 @@ setting_given f {r} {v} {k} e q = ap (setting_from f) (sym (ap evaluated q) ∙ 
 pub setting_malformed : (f : ℕ) {r : Evaluated} {m : Meant (Valued ℤ)} → evaluated r ≡ m → r ≡ value_as.Malformed → no_value ZeroDivisor ≡ setting_from f m
 setting_malformed f {r} e q = ap (setting_from f) (sym (ap evaluated q) ∙ e)
 
-pub setting_number : (f : ℕ) {v : Value} {z : ℤ} → v ≡ number-as.Number z → mag z < 2147483648 → value (some (setting f (to_z w32 (of_z w32 z)))) ≡ with1 (λ y. value (some (setting f y))) (valued_of v)
+pub setting_number : (f : ℕ) {v : Value} {z : ℤ} → v ≡ number_as.Number z → mag z < 2147483648 → value (some (setting f (to_z w32 (of_z w32 z)))) ≡ with1 (λ y. value (some (setting f y))) (valued_of v)
 setting_number f {v} {z} e h = ap (λ (y : ℤ). value (some (setting f y))) (back32 z h) ∙ sym (ap (λ (u : Value). with1 (λ y. value (some (setting f y))) (valued_of u)) e)
 
-pub setting_blank : (f : ℕ) {v : Value} {why : Reason} → v ≡ number-as.NoValue why → no_value why ≡ with1 (λ y. value (some (setting f y))) (valued_of v)
+pub setting_blank : (f : ℕ) {v : Value} {why : Reason} → v ≡ number_as.NoValue why → no_value why ≡ with1 (λ y. value (some (setting f y))) (valued_of v)
 setting_blank f {v} e = sym (ap (λ (u : Value). with1 (λ y. value (some (setting f y))) (valued_of u)) e)
 
 -- ---- an effect law

@@ -13,7 +13,7 @@ use Rattle.law.specs.declared.checks.Checked.TheVariants.{Next, Refused}
 use Rattle.law.specs.declared.eval.Evaluated.{Evaluated}
 use Rattle.law.specs.declared.eval.Evaluated.TheVariants as value_as
 use Rattle.law.specs.declared.eval.Judged.{Judged}
-use Rattle.law.specs.declared.eval.Judged.TheVariants as truth-as
+use Rattle.law.specs.declared.eval.Judged.TheVariants as truth_as
 use Rattle.law.specs.Check.{checked_of, end_of}
 use Rattle.law.specs.Evaluate.{evaluated, judged}
 
@@ -46,7 +46,7 @@ same_evaluated (value_as.Gives v m) value_as.Malformed e = cc
 same_evaluated (value_as.Gives v m) (value_as.Gives w n) e = let q : valued_of v ≡ valued_of w = cc in cc (same_value v w q)
 
 pub same_judged : (a b : Judged) → judged a ≡ judged b → a ≡ b
-same_judged truth-as.Malformed truth-as.Malformed e = refl
-same_judged truth-as.Malformed (truth-as.Gives w n) e = cc
-same_judged (truth-as.Gives v m) truth-as.Malformed e = cc
-same_judged (truth-as.Gives v m) (truth-as.Gives w n) e = let q : truth_of v ≡ truth_of w = cc in cc (same_truth v w q)
+same_judged truth_as.Malformed truth_as.Malformed e = refl
+same_judged truth_as.Malformed (truth_as.Gives w n) e = cc
+same_judged (truth_as.Gives v m) truth_as.Malformed e = cc
+same_judged (truth_as.Gives v m) (truth_as.Gives w n) e = let q : truth_of v ≡ truth_of w = cc in cc (same_truth v w q)

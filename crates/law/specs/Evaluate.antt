@@ -14,7 +14,7 @@ use Rattle.number.specs.Answer.{valued_of, truth_of}
 use Rattle.law.specs.declared.eval.Evaluated.{Evaluated}
 use Rattle.law.specs.declared.eval.Evaluated.TheVariants as value_as
 use Rattle.law.specs.declared.eval.Judged.{Judged}
-use Rattle.law.specs.declared.eval.Judged.TheVariants as truth-as
+use Rattle.law.specs.declared.eval.Judged.TheVariants as truth_as
 
 -- The history that the code is lent, in rows: the levels of state k, with room for the most fluents, and after them a mark for
 -- each entry that occurs in the step from it, which is step k + 1. What was never written is 0.
@@ -73,8 +73,8 @@ evaluated value_as.Malformed = malformed
 evaluated (value_as.Gives v n) = gives (valued_of v) n
 
 abbrev pub judged : Judged → Meant (Valued Bool)
-judged truth-as.Malformed = malformed
-judged (truth-as.Gives v n) = gives (truth_of v) n
+judged truth_as.Malformed = malformed
+judged (truth_as.Gives v n) = gives (truth_of v) n
 
 -- what the two bytes after a leaf's code give, by its row: a constant, or the level of a fluent at its lag
 abbrev pub leaf_of : ℕ → List ℤ → ℕ → ℕ → ℕ → Valued ℤ

@@ -34,7 +34,6 @@ use Rattle.bmap.specs.Plain.{either, if_else, any, those, flat, text}
 use Rattle.bmap.specs.Refusal.{got, number_of, Reading, read, refused_at, afterwards}
 use Rattle.bmap.specs.Line.{Line, lines_of, starts_with, starts, decode}
 use Rattle.bmap.specs.Domain.{Domain, Names, State}
-use Rattle.bmap.specs.Buffer.{over}
 use Rattle.bmap.specs.Sheet.{rows, steps_from}
 use Rattle.bmap.specs.Judge.{Judged, judge}
 use Rattle.bmap.specs.Program.{decimal, line_of, refused_text, Parts, split}

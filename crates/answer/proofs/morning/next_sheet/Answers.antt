@@ -1,13 +1,12 @@
 use Prim.Native.Nat.{ℕ, ◌+◌, ◌-◌, ◌*◌, ◌≤◌, ◌<◌}
 use mathlib.Core.Path.{◌≡◌, ap}
-use mathlib.Core.Bool.{true}
 use mathlib.Core.List.{List, [], ◌∷◌, ◌++◌}
 use native.Mathlib.Omega.{arith}
 use lib.IntN.{ℤ}
 use lib.ListN.{length, take, drop}
 use lib.Seq.{length-take-le}
 use Rattle.bmap.specs.Plain.{text}
-use Rattle.bmap.specs.Line.{starts_with, lines_of}
+use Rattle.bmap.specs.Line.{lines_of}
 use Rattle.bmap.specs.Limits.{most_input, most_sheets, most_fluents}
 use Rattle.bmap.specs.Refusal.{read}
 use Rattle.bmap.specs.declared.limits.Counts.{Counts}
@@ -17,7 +16,7 @@ use Rattle.bmap.specs.Supplement.{replaced}
 use Rattle.bmap.specs.Report.{sheet_begins}
 use Rattle.answer.specs.Cut.{CutIn, feeds_last}
 use Rattle.answer.specs.declared.morning.Morning.{Morning}
-use Rattle.answer.specs.Morning.{Underway, Ready, Kept, report_from}
+use Rattle.answer.specs.Morning.{Underway, Kept, report_from}
 use Rattle.sheet.specs.Step.{outcome}
 use Rattle.answer.proofs.ProgramLaws.{counts_speak}
 use Rattle.answer.proofs.MorningLaws as laws

@@ -1,10 +1,8 @@
-use borrow.Author.Rules.{rules}
-use mathlib.Core.Path.{◌∙◌}
 use native.Mathlib.Omega.{arith}
 use lib.IntN.{sub_ℕ}
 use lib.ListN.{length-set}
 use Rattle.bmap.specs.Program.{decimal_z}
-use Rattle.answer.proofs.PutLaws.{length_spaced, length_above, length_under, put_length, put_above, put_below}
+use Rattle.answer.proofs.PutLaws.{length_spaced, length_above, length_under, put_above, put_below}
 use Rattle.answer.proofs.print.put_signed.Goals as goal
 
 pub bounds-out-at : goal.bounds-out-at

@@ -1,6 +1,5 @@
 use native.Mathlib.Omega.{arith}
-use lib.ListN.{length-set}
-use Rattle.answer.proofs.PutLaws.{put_length, put_state_line}
+use Rattle.answer.proofs.PutLaws.{put_state_line}
 use Rattle.answer.proofs.print.put_state.Goals as goal
 
 pub returns : goal.returns

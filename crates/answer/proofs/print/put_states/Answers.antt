@@ -3,7 +3,7 @@ use native.Mathlib.Nat.{zero-mul}
 use native.Mathlib.Omega.{arith}
 use Rattle.bmap.specs.Sheet.{rows}
 use Rattle.bmap.specs.Program.{state_lines}
-use Rattle.answer.proofs.PutLaws.{put_nothing, put_length, states_more, states_whole, part_short, within, next_from}
+use Rattle.answer.proofs.PutLaws.{put_nothing, states_more, states_whole, next_from}
 use Rattle.answer.proofs.print.put_states.Goals as goal
 
 pub loop-k-init : goal.loop-k-init

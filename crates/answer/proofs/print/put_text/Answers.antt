@@ -1,6 +1,5 @@
-use Prim.Native.Nat.{◌-◌}
 use native.Mathlib.Omega.{arith}
-use Rattle.answer.proofs.PutLaws.{put_none, put_next, put_whole, put_length}
+use Rattle.answer.proofs.PutLaws.{put_next}
 use Rattle.answer.proofs.print.put_text.Goals as goal
 
 pub loop-i-preserved : goal.loop-i-preserved

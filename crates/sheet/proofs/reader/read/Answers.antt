@@ -1,5 +1,4 @@
 use Rattle.sheet.proofs.ReadLaws.{read_short, read_agents, read_lines}
-use Rattle.sheet.proofs.Agents.{known_agents}
 use Rattle.sheet.specs.Answer.{reading_of}
 use Rattle.sheet.specs.Step.{agents_allowed}
 use native.Mathlib.Omega.{arith}

@@ -1,9 +1,9 @@
 use Rattle.sheet.proofs.ReadLaws.{done_start, done_end, done_refused, done_more}
 use Rattle.sheet.specs.Step.{NextIs, LineStep}
-use Rattle.line.proofs.Lists.{part_to_end, length_back}
+use Rattle.line.proofs.Lists.{length_back}
 use native.Mathlib.Omega.{arith}
 use mathlib.Core.List.{◌++◌}
-use lib.ListN.{length, take, drop, length-drop}
+use lib.ListN.{length, take, drop}
 use mathlib.Core.Path.{◌≡◌, refl, subst, ◌∙◌}
 use Prim.Native.Nat.{◌-◌}
 use Rattle.sheet.proofs.reader.read_steps.Goals as goal

@@ -2,7 +2,7 @@ use Rattle.sheet.proofs.ReadLaws.{Done}
 use Rattle.bmap.specs.Limits.{most_steps}
 use lib.ListN.{length}
 use mathlib.Core.Path.{◌≡◌}
-use Prim.Native.Nat.{◌≤◌, ◌*◌, ◌-◌}
+use Prim.Native.Nat.{◌≤◌, ◌*◌}
 use Rattle.sheet.proofs.reader.read_steps.Given as goal
 
 abbrev pub invariant-loop-refusal : goal.invariant-loop-refusal

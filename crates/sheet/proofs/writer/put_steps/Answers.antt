@@ -1,10 +1,5 @@
-use Rattle.sheet.proofs.WriteLaws.{put_start, put_more, put_end, step_left}
-use Rattle.bmap.specs.Line.{line_size}
+use Rattle.sheet.proofs.WriteLaws.{put_more, put_end}
 use native.Mathlib.Omega.{arith}
-use lib.Seq.{length-take-le}
-use lib.ListN.{length}
-use mathlib.Core.Path.{sym}
-use Prim.Native.Nat.{◌≤◌, ◌+◌}
 use Rattle.sheet.proofs.writer.put_steps.Goals as goal
 
 pub loop-left-preserved : goal.loop-left-preserved

@@ -1,12 +1,7 @@
-use Rattle.sheet.proofs.WriteLaws.{total_most, whole_steps, write_agents, write_not_whole, write_too_long, write_no_room, write_done}
-use Rattle.sheet.proofs.Agents.{known_agents}
+use Rattle.sheet.proofs.WriteLaws.{write_agents, write_not_whole, write_too_long, write_no_room, write_done}
 use Rattle.sheet.specs.Step.{agents_allowed}
-use Rattle.bmap.specs.Limits.{most_agents}
-use native.Mathlib.Omega.{arith}
-use lib.ListN.{length}
 use mathlib.Core.Bool.{true}
-use mathlib.Core.Path.{◌≡◌, sym, subst, ◌∙◌}
-use Prim.Native.Nat.{◌≤◌, ◌<◌, ◌/◌, ◌*◌}
+use mathlib.Core.Path.{◌≡◌, sym, ◌∙◌}
 use Rattle.sheet.proofs.writer.write.Goals as goal
 
 pub returns-then-not-agents_known : goal.returns-then-not-agents_known

@@ -1,7 +1,6 @@
 use borrow.Author.Tests.{not-true, not-false}
 use native.Mathlib.Omega.{arith}
 use mathlib.Core.Path.{◌∙◌}
-use borrow.Author.Rules.{rules}
 use Rattle.desk.proofs.CountLaws.{counts_none, counts_sound, counts_told}
 use Rattle.desk.proofs.domains.waroth_counts.Goals as goal
 

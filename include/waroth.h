@@ -64,12 +64,12 @@ enum { WAROTH_REPORT_INPUT = WAROTH_INPUT + WAROTH_SHEETS * (5 + WAROTH_INPUT) +
 
 /* The most stack of a call, in bytes: what was measured, with room to spare. Measured by reference/beside/stack.c:
  *
- *   waroth_read_domain   6,864   waroth_read_supplement  9,648   waroth_judge        36,488   waroth_open    5,824
- *   waroth_write_domain  5,872   waroth_law              8,752   waroth_judge_under  36,504   waroth_enter  16,352
- *   waroth_counts        5,808   waroth_lay             10,960   waroth_answer       79,000   waroth_strike 16,352
- *   waroth_frame             8   waroth_read_sheet         312   waroth_low_water    93,144   waroth_amend  16,352
- *                                waroth_write_sheet         69   waroth_report      240,200   waroth_undo   17,360
- *                                                                waroth_verdict      44,696   waroth_redo   20,992 */
+ *   waroth_read_domain   6,848   waroth_read_supplement 11,504   waroth_judge        37,576   waroth_open    9,504
+ *   waroth_write_domain  5,856   waroth_law              8,704   waroth_judge_under  37,592   waroth_enter  16,288
+ *   waroth_counts        5,792   waroth_lay             10,960   waroth_answer       78,824   waroth_strike 16,256
+ *   waroth_frame             8   waroth_read_sheet         280   waroth_low_water    92,936   waroth_amend  16,304
+ *                                waroth_write_sheet         76   waroth_report      240,072   waroth_undo   20,880
+ *                                                                waroth_verdict      44,504   waroth_redo   21,952 */
 enum {
     WAROTH_STACK_TEXTS = 8192,        /* domains and sheets */
     WAROTH_STACK_SUPPLEMENTS = 16384, /* waroth_read_supplement, waroth_law, waroth_lay */

@@ -1,5 +1,5 @@
 -- Whole numbers with bounds: a value, or why there is none.
-use Rattle.std.specs.Prelude.{ℕ, zero, suc, ◌+◌, ◌*◌, ◌-◌, ◌/◌, ◌%◌, Bool, true, false, not, ltb, ℤ, pos, negsuc, neg_ℤ, nat_abs, ◌+ℤ◌, ◌-ℤ◌, ◌*ℤ◌}
+use Rattle.std.specs.Prelude.{ℕ, zero, suc, ◌+◌, ◌*◌, ◌-◌, ◌/◌, ◌%◌, Bool, true, false, not, ltb, ℤ, pos, negsuc, neg_ℤ, nat_abs, ◌+ℤ◌, ◌-ℤ◌, ◌*ℤ◌, Result, Ok, Err}
 use Rattle.std.specs.Int.Signed.{quot_z, rem_z, non_neg, lt_z, le_z}
 use Rattle.bmap.specs.Plain.{both, if_else}
 use Rattle.bmap.specs.Limits.{most_value}
@@ -15,9 +15,14 @@ use Rattle.bmap.specs.declared.Junction.{Junction}
 use Rattle.bmap.specs.declared.Junction.TheVariants.{And, Or}
 
 -- K2: "Say why a law had no value"
-pub data Valued (A : Type 0) : Type 0 where
-  value : A → Valued A
-  no_value : Reason → Valued A
+abbrev pub Valued : Type 0 → Type 0
+Valued A = Result A Reason
+
+pattern abbrev pub value : {A : Type 0} → A → Valued A
+value a = Ok a
+
+pattern abbrev pub no_value : {A : Type 0} → Reason → Valued A
+no_value why = Err why
 
 -- "Everything built on a part without value has none"; K2: "Operands are worked out left to right, each before its operation,
 -- and the first trouble found is the one given": the left one's, else the right one's, else the operation's own

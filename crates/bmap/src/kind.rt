@@ -1,5 +1,5 @@
 // The kinds of frames, each once, by the definitions' names (`Line.agents_kind` to `Line.step_kind`).
-#[derive(Clone, Copy)]
+#[derive(Clone, Copy, Debug, PartialEq, Eq)]
 pub struct Kind {}
 
 impl Kind {

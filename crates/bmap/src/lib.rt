@@ -13,18 +13,18 @@ pub use limits::{
     CHANGE, Context, Counts, DEPTH, FRAME, INPUT, LAG, LEVELS, Limits, PAYLOAD, REPORT_INPUT,
     SHEET_BEGINS, SHEETS, STORE, SUPPLEMENT, Sheet, every_limit,
 };
-pub use refusal::Refusal;
+pub use refusal::{ReadError, Refusal};
 pub use session::Session;
 
 // Why there is no value: "A zero divisor", or "a result beyond the number range".
-#[derive(Clone, Copy)]
+#[derive(Clone, Copy, Debug, PartialEq, Eq, Hash)]
 pub enum Reason {
     ZeroDivisor,
     OutOfRange,
 }
 
 // Codes 12 to 16: two expressions.
-#[derive(Clone, Copy)]
+#[derive(Clone, Copy, Debug, PartialEq, Eq, Hash)]
 pub enum Operation {
     Sum,
     Difference,
@@ -34,14 +34,14 @@ pub enum Operation {
 }
 
 // Codes 17 and 18: one expression.
-#[derive(Clone, Copy)]
+#[derive(Clone, Copy, Debug, PartialEq, Eq, Hash)]
 pub enum Single {
     Negation,
     Absolute,
 }
 
 // Codes 20 to 25: two expressions.
-#[derive(Clone, Copy)]
+#[derive(Clone, Copy, Debug, PartialEq, Eq, Hash)]
 pub enum Comparison {
     Equal,
     Unequal,
@@ -52,7 +52,7 @@ pub enum Comparison {
 }
 
 // Codes 26 and 27: two constraints.
-#[derive(Clone, Copy)]
+#[derive(Clone, Copy, Debug, PartialEq, Eq, Hash)]
 pub enum Junction {
     And,
     Or,

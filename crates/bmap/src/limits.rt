@@ -3,7 +3,7 @@ ghost use Rattle.std.specs.Prelude.{◌≡◌};
 ghost use Rattle.bmap.specs.Limits.{limits_of};
 
 // How many of each a domain has.
-#[derive(Clone, Copy)]
+#[derive(Clone, Copy, Debug, PartialEq, Eq)]
 pub struct Counts {
     pub agents: usize,
     pub fluents: usize,
@@ -25,7 +25,7 @@ impl Counts {
 }
 
 // What a law may: name so many fluents and entries, ask for occurrences, look back.
-#[derive(Clone, Copy)]
+#[derive(Clone, Copy, Debug, PartialEq, Eq)]
 pub struct Context {
     pub fluents: usize,
     pub entries: usize,
@@ -35,7 +35,7 @@ pub struct Context {
 
 // A sheet: the names step after step, one for each agent, zeros after.
 #[repr(C)]
-#[derive(Clone, Copy)]
+#[derive(Clone, Copy, Debug, PartialEq, Eq)]
 pub struct Sheet {
     pub steps: usize,
     pub names: [u8; Sheet::BYTES],
@@ -76,7 +76,7 @@ pub const SHEET_BEGINS: usize = 5;
 pub const REPORT_INPUT: usize = INPUT + SHEETS * (SHEET_BEGINS + INPUT) + SHEET_BEGINS;
 
 // Every limit, for the promise below.
-#[derive(Clone, Copy)]
+#[derive(Clone, Copy, Debug, PartialEq, Eq)]
 pub struct Limits {
     pub agents: usize,
     pub fluents: usize,

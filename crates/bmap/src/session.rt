@@ -2,7 +2,7 @@
 use crate::{Counts, Sheet};
 
 #[repr(C)]
-#[derive(Clone, Copy)]
+#[derive(Clone, Copy, Debug, PartialEq, Eq)]
 pub struct Session {
     pub agents: usize,
     pub sheet: Sheet,

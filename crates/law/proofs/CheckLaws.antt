@@ -1,16 +1,15 @@
 -- The checker's answer for a tree, by its answers for the operands.
 use mathlib.Core.Path.{◌≡◌, refl, sym, ap, ◌∙◌}
-use mathlib.Core.Bool.{Bool, true, false, not}
+use mathlib.Core.Bool.{Bool, true, false}
 use mathlib.Core.List.{List}
 use mathlib.Core.Option.{Option, none, some}
 use Prim.Native.Nat.{ℕ, zero, suc, ◌+◌, ◌-◌, ◌≤◌, ◌<◌}
 use native.Mathlib.Nat.{add_assoc}
-use native.Mathlib.Numerals.{add-one}
 use native.Mathlib.Omega.{arith}
-use borrow.Author.Tests.{ne_eqb, eqb-true, eqb-false}
+use borrow.Author.Tests.{eqb-true, eqb-false}
 use lib.Dec.{eqb}
-use lib.ListN.{length, take, drop, get_or, set}
-use lib.Seq.{drop-drop, length-take-le, get_or-take, take-suc, take-suc-set}
+use lib.ListN.{length, take, drop, get_or}
+use lib.Seq.{drop-drop, length-take-le, get_or-take}
 use Rattle.bmap.specs.declared.Operation.{Operation}
 use Rattle.bmap.specs.declared.Single.{Single}
 use Rattle.bmap.specs.declared.Comparison.{Comparison}
@@ -23,10 +22,10 @@ use Rattle.bmap.proofs.PlainLaws.{all_append}
 use Rattle.bmap.specs.Code.{Code, Parsed, Parser, code_of, made, second, operands, two_bytes, parse_e, parse_c}
 use Rattle.bmap.specs.Domain.{has}
 use Rattle.law.specs.declared.table.Node.TheVariants.{Expression, Constraint}
-use Rattle.law.specs.declared.table.Pair.TheVariants.{Bytes, Short}
+use Rattle.std.specs.Prelude.{Option as Maybe, None, Some, is_some}
 use Rattle.law.specs.Table.{opened, pair_of, follows_in, operator_in, looks_back_in, operation_at, single_at, comparison_at, junction_at, look_back_at}
 use Rattle.law.specs.Names.{names_only}
-use Rattle.law.specs.Check.{Test, allowed, in_mask, next_of, end_of, passes_e, passes_c, may_back, back_at, leaf_in}
+use Rattle.law.specs.Check.{Test, allowed, in_mask, checked_of, next_of, end_of, passes_e, passes_c, may_back, back_at, leaf_in}
 use Rattle.law.proofs.Trees.{at_constant, at_fluent, at_reified, at_one, at_two, at_truth, at_occurrence, at_negation, at_look_back, at_junction, at_comparison, pair_short, pair_long, no_pair, a_pair}
 
 -- A tree passes where its operands do.
@@ -123,10 +122,10 @@ no_tree ok at e = rw e
 
 -- The leaves.
 module _ {T : Type 0} (ok : T → Bool) (make : ℕ → ℕ → T) (s : List ℕ) (at : ℕ) where
-  pub leaf_short : Short ≡ pair_of (drop (at + 1) s) → refused 4 ≡ end_of ok at (two_bytes make (drop (at + 1) s))
+  pub leaf_short : None ≡ pair_of (drop (at + 1) s) → refused 4 ≡ end_of ok at (two_bytes make (drop (at + 1) s))
   leaf_short e = no_tree ok at (no_pair make (drop (at + 1) s) e)
 
-  module _ {a b : ℕ} (e : Bytes a b ≡ pair_of (drop (at + 1) s)) where
+  module _ {a b : ℕ} (e : Some (a, b) ≡ pair_of (drop (at + 1) s)) where
     pub leaf_passes : ok (make a b) ≡ true → next_of (at + 3) ≡ end_of ok at (two_bytes make (drop (at + 1) s))
     leaf_passes h = rw (a_pair make (drop (at + 1) s) e, h) (past at 3 (omega arith))
 
@@ -153,7 +152,7 @@ module _ (s : List ℕ) (n : ℕ) (le : n ≤ length s) where
     pair_ends h = leaf_short ok make (take n s) at (pair_short (take n s) at (rw as_long h))
 
     module _ (h : 3 ≤ n - at) where
-      bytes : Bytes (get_or s (at + 1) 0) (get_or s (at + 2) 0) ≡ pair_of (drop (at + 1) (take n s))
+      bytes : Some (get_or s (at + 1) 0, get_or s (at + 2) 0) ≡ pair_of (drop (at + 1) (take n s))
       bytes = rw (← get_or-take n s (at + 1) 0 (omega arith), ← get_or-take n s (at + 2) 0 (omega arith)) (pair_long (take n s) at (rw as_long h))
 
       pub pair_passes_lem : ok (make (get_or s (at + 1) 0) (get_or s (at + 2) 0)) ≡ true → next_of (at + 3) ≡ end_of ok at (two_bytes make (drop (at + 1) (take n s)))
@@ -161,10 +160,6 @@ module _ (s : List ℕ) (n : ℕ) (le : n ≤ length s) where
 
       pub pair_fails : ok (make (get_or s (at + 1) 0) (get_or s (at + 2) 0)) ≡ false → refused 4 ≡ end_of ok at (two_bytes make (drop (at + 1) (take n s)))
       pair_fails e = leaf_fails ok make (take n s) at bytes e
-
--- One more byte of a law is copied.
-pub copy_byte : (s b : List ℕ) (i : ℕ) → i < length s → i < length b → take i b ≡ take i s → take (i + 1) (set b i (get_or s i 0)) ≡ take (i + 1) s
-copy_byte s b i h k e = rw (add-one, take-suc-set b i (get_or s i 0) k, e, take-suc s i 0 h)
 
 -- The tree at a place, by its code.
 module _ (t : Test) (s : List ℕ) (at d : ℕ) (ne : d ≡ 0 → ⊥) (lt : at < length s) where
@@ -254,13 +249,13 @@ module _ (t : Test) (s : List ℕ) (at d : ℕ) (ne : d ≡ 0 → ⊥) (lt : at 
       check_first_c e = rw (at_junction s at d ne lt p q r m n) (first_refused (passes_c t) (passes_c t) (joined junction) (passes_joined t junction) (parse_c (d - 1)) s at e)
 
 -- What the place after a tree says of the fluents that it names.
-pub names_known : (mask at n : ℕ) (o : Option (Parsed Con)) → next_of n ≡ end_of (passes_c (in_mask mask)) at o → not (eqb n 0) ≡ names_only mask o
-names_known mask at zero none e = refl
-names_known mask at (suc n) none e = cc
-names_known mask at n (some p) e = go n (passes_c (in_mask mask) p.tree) e
+pub names_known : (mask at : ℕ) (r : Maybe ℕ) (o : Option (Parsed Con)) → checked_of r ≡ end_of (passes_c (in_mask mask)) at o → is_some r ≡ names_only mask o
+names_known mask at None none e = refl
+names_known mask at (Some n) none e = cc
+names_known mask at r (some p) e = go r (passes_c (in_mask mask) p.tree) e
   where
-    go : (n : ℕ) (b : Bool) → next_of n ≡ need b 4 (got (at + p.used)) → not (eqb n 0) ≡ b
-    go zero true e = cc
-    go zero false e = refl
-    go (suc n) true e = rw (ne_eqb (suc n) 0 (λ z. omega arith))
-    go (suc n) false e = cc
+    go : (r : Maybe ℕ) (b : Bool) → checked_of r ≡ need b 4 (got (at + p.used)) → is_some r ≡ b
+    go None true e = cc
+    go None false e = refl
+    go (Some n) true e = refl
+    go (Some n) false e = cc

@@ -3,48 +3,32 @@ use mathlib.Core.Path.{◌≡◌, refl, sym, ap, ◌∙◌}
 use mathlib.Core.Bool.{Bool, true, false, not}
 use mathlib.Core.List.{List, [], ◌∷◌}
 use mathlib.Core.Option.{Option, none, some}
-use Prim.Native.Nat.{ℕ, suc, ◌+◌, ◌-◌, ◌*◌, ◌≤◌, ◌<◌}
+use Prim.Native.Nat.{ℕ, zero, suc, ◌+◌, ◌-◌, ◌<◌}
 use native.Mathlib.Nat.{add_assoc}
 use native.Mathlib.Numerals.{add-one}
-use native.Mathlib.Omega.{arith}
 use native.Mathlib.Decide.{ℕ_discrete}
-use borrow.Author.Tests.{le-leb, lt-leb, eq-eqb, ne_eqb}
+use borrow.Author.Tests.{eq-eqb, ne_eqb}
 use lib.Dec.{leb}
-use lib.IntN.{ℤ, pos}
-use lib.ListN.{length, drop, get_or, get_or-eq_default}
+use lib.IntN.{ℤ}
+use lib.ListN.{length, drop, get_or}
 use lib.Seq.{drop-drop}
 use Rattle.bmap.specs.declared.Junction.{Junction}
 use Rattle.bmap.specs.Plain.{both}
-use Rattle.bmap.specs.Limits.{most_fluents}
 use Rattle.bmap.specs.Number.{Valued, value, with1, with2, operate, change, compare, join, flag, signed_word}
 use Rattle.bmap.specs.Tree.{Expr, Con, constant, fluent, two, one, reified, compared, joined, negated, occurs, look_back}
 use Rattle.bmap.specs.Meaning.{up_to, eval_e, eval_c}
 use Rattle.bmap.specs.Code.{Code, Parsed, Parser, code_of, made, second, operand, operands, two_bytes, parse_e, parse_c}
 use Rattle.law.specs.declared.table.Node.TheVariants.{Expression, Constraint}
 use Rattle.law.specs.Table.{opened, follows_in, operator_in, looks_back_in, operation_at, single_at, comparison_at, junction_at, look_back_at}
-use Rattle.law.specs.Evaluate.{Meant, malformed, gives, meant, onward, row_size, cell_at, marked, in_step, leaf_of, history_of, value_at, truth_at, so_far_at}
-use Rattle.law.specs.Packed.{end_in, truth_in, judged_in}
+use Rattle.law.specs.Evaluate.{Meant, malformed, gives, meant, onward, cell_at, in_step, leaf_of, history_of, value_at, truth_at, so_far_at}
+use Rattle.law.specs.Packed.{end_in, truth_in, placed, judged_in}
 use Rattle.law.proofs.PackedLaws.{placed_value}
-use Rattle.law.proofs.Trees.{at_constant, at_fluent, at_reified, at_one, at_two, at_truth, at_occurrence, at_negation, at_look_back, at_junction, at_comparison, pair_short, pair_long, no_pair, a_pair}
-
--- The history: what was never written, and the step that code 29 looks at.
-pub no_cell : (l : List ℤ) (k f : ℕ) → length l ≤ row_size * k + f → pos 0 ≡ cell_at l k f
-no_cell l k f h = sym (get_or-eq_default l (pos 0) h)
-
-module _ (l : List ℤ) (j e t : ℕ) where
-  pub before_steps : j < t → false ≡ both (leb t j) (in_step l e (j + 1 - t))
-  before_steps h = rw (lt-leb t j h)
-
-  pub at_step : t ≤ j → marked (cell_at l (j - t) (most_fluents + e)) ≡ both (leb t j) (in_step l e (j + 1 - t))
-  at_step h = let k : j + 1 - t - 1 ≡ j - t = omega arith in rw (le-leb t j h, k)
+use Rattle.law.proofs.Trees.{at_constant, at_fluent, at_reified, at_one, at_two, at_truth, at_occurrence, at_negation, at_look_back, at_junction, at_comparison, pair_short, no_pair}
 
 -- The leaves.
 module _ {A : Type 0} (make : ℕ → ℕ → A) (s : List ℕ) (at : ℕ) where
   pub leaf_none : length s - at < 3 → malformed ≡ meant (λ v. v) at (two_bytes make (drop (at + 1) s))
   leaf_none h = rw (no_pair make (drop (at + 1) s) (pair_short s at h))
-
-  pub leaf_gives : {v : A} → 3 ≤ length s - at → v ≡ make (get_or s (at + 1) 0) (get_or s (at + 2) 0) → gives v (at + 3) ≡ meant (λ v. v) at (two_bytes make (drop (at + 1) s))
-  leaf_gives h q = rw (a_pair make (drop (at + 1) s) (pair_long s at h), q)
 
 leaf_meant : {T A : Type 0} (f : T → A) (make : ℕ → ℕ → T) (at : ℕ) (l : List ℕ) → meant (λ v. v) at (two_bytes (λ a b. f (make a b)) l) ≡ meant f at (two_bytes make l)
 leaf_meant f make at [] = refl
@@ -60,13 +44,14 @@ leaf_same f g h at (a ∷ b ∷ l) = rw (h a b)
 pub nothing_there : {T A : Type 0} (f : T → A) (at : ℕ) {o : Option (Parsed T)} → o ≡ none → malformed ≡ meant f at o
 nothing_there f at e = rw e
 
--- One operand, and two.
-module _ {A B : Type 0} (op : A → B) {x : Meant A} where
-  pub onward_none : malformed ≡ x → malformed ≡ onward op x
-  onward_none e = ap (onward op) e
+-- What an operator makes of a value, placed where the value's tree ends.
+module _ {A B : Type 0} (op : A → B) where
+  onward_at : (v : A) (n : ℕ) → placed (op v) n ≡ onward op (placed v n)
+  onward_at v zero = refl
+  onward_at v (suc n) = refl
 
-  pub onward_gives : {v : A} {w : B} {n : ℕ} → gives v n ≡ x → w ≡ op v → gives w n ≡ onward op x
-  onward_gives {n = n} e q = ap (λ (y : B). gives y n) q ∙ ap (onward op) e
+  pub onward_placed : {v x : A} {w : B} {e n : ℕ} → w ≡ op x → x ≡ v → e ≡ n → placed w e ≡ onward op (placed v n)
+  onward_placed {v} {n = n} p q r = rw (p, q, r) (onward_at v n)
 
 onward_same : {A : Type 0} (m : Meant A) → onward (λ v. v) m ≡ m
 onward_same malformed = refl

@@ -1,5 +1,5 @@
 -- The checker of either sort of tree, by the row of its code.
-use mathlib.Core.Path.{◌≡◌, refl, sym, ap, ◌∙◌}
+use mathlib.Core.Path.{◌≡◌, refl, sym, ◌∙◌}
 use mathlib.Core.Bool.{Bool, true, false}
 use mathlib.Core.List.{List}
 use Prim.Native.Nat.{ℕ, ◌+◌, ◌-◌, ◌/◌, ◌≤◌, ◌<◌}
@@ -9,97 +9,58 @@ use lib.Dec.{eqb}
 use lib.ListN.{length, drop, get_or}
 use Rattle.bmap.specs.Refusal.{got, refused}
 use Rattle.bmap.specs.Tree.{occurs}
-use Rattle.bmap.specs.Code.{Code, expression, constraint, no_code, a_constant, a_fluent, of_two, of_one, a_reified, of_comparison, of_junction, a_negation, an_occurrence, a_truth, a_look_back, code_of}
+use Rattle.bmap.specs.Code.{Code, expression, constraint, no_code, code_of}
 use Rattle.law.specs.declared.table.Node.TheVariants.{Expression, Constraint}
-use Rattle.law.specs.declared.table.Pair.TheVariants.{Bytes, Short}
-use Rattle.law.specs.Table.{row_of, follows_in, sort_in, count_in, looks_back_in, opened, pair_of}
-use Rattle.law.specs.Check.{Test, next_of, passes_e, passes_c, may_back, back_at, leaf_in, tree_end, row_for, pair_passes}
-use Rattle.law.proofs.Trees.{deep_e, deep_c, end_e, end_c, no_expression, no_constraint, never_back}
-use Rattle.law.proofs.CheckLaws.{no_tree, leaf_short, leaf_passes, leaf_fails, check_leaf, check_reified, check_one, check_two, check_first}
+use Rattle.std.specs.Prelude.{None, Some}
+use Rattle.law.specs.Table.{follows_in, sort_in, count_in, looks_back_in, opened, pair_of}
+use Rattle.law.specs.Check.{Test, passes_e, passes_c, may_back, back_at, leaf_in, tree_end, row_for, pair_passes}
+use Rattle.law.proofs.Trees.{expression_by, constraint_by, deep_e, deep_c, end_e, end_c, no_expression, no_constraint, never_back}
+use Rattle.law.proofs.CheckLaws.{there, no_tree, leaf_short, leaf_passes, leaf_fails, check_leaf, check_reified, check_one, check_two, check_first}
 use Rattle.law.proofs.CheckLaws.{check_compared, check_first_e, check_occurrence, check_truth, check_negation, check_look_back, check_barred, check_junction, check_first_c}
 
-by_test : {A : Type 0} (b : Bool) → (b ≡ true → A) → (b ≡ false → A) → A
+pub by_test : {A : Type 0} (b : Bool) → (b ≡ true → A) → (b ≡ false → A) → A
 by_test true f g = f refl
 by_test false f g = g refl
 
 -- What the rows say beside what the tests of the code ask.
-module _ {row : ℕ} where
-  some_operands : (c : Code) → Expression row ≡ opened c → follows_in row ≡ 0 → ⊥
-  some_operands (expression a_constant) p n = let z : row ≡ row_of (expression a_constant) = cc in omega arith
-  some_operands (expression a_fluent) p n = let z : row ≡ row_of (expression a_fluent) = cc in omega arith
-  some_operands (expression (of_two o)) p n = let z : row ≡ row_of (expression (of_two o)) = cc in omega arith
-  some_operands (expression (of_one o)) p n = let z : row ≡ row_of (expression (of_one o)) = cc in omega arith
-  some_operands (expression a_reified) p n = let z : row ≡ row_of (expression a_reified) = cc in omega arith
-  some_operands (constraint c) p n = let z : ◌≡◌ {A = ℕ} 0 1 = cc in omega arith
-  some_operands no_code p n = let z : ◌≡◌ {A = ℕ} 0 1 = cc in omega arith
+module _ {row : ℕ} (c : Code) where
+  module _ (p : Expression row ≡ opened c) where
+    some_operands : follows_in row ≡ 0 → ⊥
+    some_operands m = expression_by c p (λ e f n. omega arith) (λ e f n. omega arith) (λ o e f n. omega arith) (λ o e f n. omega arith) (λ e f n. omega arith)
 
-  one_constraint : (c : Code) → Expression row ≡ opened c → sort_in row ≡ 3 → count_in row ≡ 1
-  one_constraint (expression a_constant) p q = let z : row ≡ row_of (expression a_constant) = cc in absurd (omega arith)
-  one_constraint (expression a_fluent) p q = let z : row ≡ row_of (expression a_fluent) = cc in absurd (omega arith)
-  one_constraint (expression (of_two o)) p q = let z : row ≡ row_of (expression (of_two o)) = cc in absurd (omega arith)
-  one_constraint (expression (of_one o)) p q = let z : row ≡ row_of (expression (of_one o)) = cc in absurd (omega arith)
-  one_constraint (expression a_reified) p q = let z : row ≡ row_of (expression a_reified) = cc in rw z
-  one_constraint (constraint c) p q = cc
-  one_constraint no_code p q = cc
+    one_constraint : sort_in row ≡ 3 → count_in row ≡ 1
+    one_constraint q = expression_by c p (λ e f n. absurd (omega arith)) (λ e f n. absurd (omega arith)) (λ o e f n. absurd (omega arith)) (λ o e f n. absurd (omega arith)) (λ e f n. omega arith)
 
-  one_expression : (c : Code) → Expression row ≡ opened c → (sort_in row ≡ 3 → ⊥) → count_in row ≡ 1 → follows_in row ≡ 6
-  one_expression (expression a_constant) p r n = let z : row ≡ row_of (expression a_constant) = cc in omega arith
-  one_expression (expression a_fluent) p r n = let z : row ≡ row_of (expression a_fluent) = cc in omega arith
-  one_expression (expression (of_two o)) p r n = let z : row ≡ row_of (expression (of_two o)) = cc in omega arith
-  one_expression (expression (of_one o)) p r n = let z : row ≡ row_of (expression (of_one o)) = cc in omega arith
-  one_expression (expression a_reified) p r n = let z : row ≡ row_of (expression a_reified) = cc in absurd (r (rw z))
-  one_expression (constraint c) p r n = cc
-  one_expression no_code p r n = cc
+    one_expression : (sort_in row ≡ 3 → ⊥) → count_in row ≡ 1 → follows_in row ≡ 6
+    one_expression r m = expression_by c p (λ e f n. absurd (omega arith)) (λ e f n. absurd (omega arith)) (λ o e f n. absurd (omega arith)) (λ o e f n. f) (λ e f n. absurd (r (omega arith)))
 
-  of_constraint : (c : Code) → Constraint row ≡ opened c → count_in row ≡ 1 → sort_in row ≡ 3
-  of_constraint (constraint (of_comparison o)) p n = let z : row ≡ row_of (constraint (of_comparison o)) = cc in omega arith
-  of_constraint (constraint (of_junction o)) p n = let z : row ≡ row_of (constraint (of_junction o)) = cc in omega arith
-  of_constraint (constraint a_negation) p n = let z : row ≡ row_of (constraint a_negation) = cc in omega arith
-  of_constraint (constraint an_occurrence) p n = let z : row ≡ row_of (constraint an_occurrence) = cc in omega arith
-  of_constraint (constraint a_truth) p n = let z : row ≡ row_of (constraint a_truth) = cc in omega arith
-  of_constraint (constraint (a_look_back o)) p n = let z : row ≡ row_of (constraint (a_look_back o)) = cc in omega arith
-  of_constraint (expression c) p n = cc
-  of_constraint no_code p n = cc
+  module _ (p : Constraint row ≡ opened c) where
+    of_constraint : count_in row ≡ 1 → sort_in row ≡ 3
+    of_constraint m = constraint_by c p (λ o e f n. absurd (omega arith)) (λ o e f n. absurd (omega arith)) (λ e f n. omega arith) (λ e f n. absurd (omega arith)) (λ e f n. absurd (omega arith)) (λ o e f n. omega arith)
 
-  of_expressions : (c : Code) → Constraint row ≡ opened c → (follows_in row ≡ 9 → ⊥) → (sort_in row ≡ 3 → ⊥) → (follows_in row ≡ 0 → ⊥) → follows_in row ≡ 10
-  of_expressions (constraint (of_comparison o)) p q r m = let z : row ≡ row_of (constraint (of_comparison o)) = cc in omega arith
-  of_expressions (constraint (of_junction o)) p q r m = let z : row ≡ row_of (constraint (of_junction o)) = cc in absurd (r (omega arith))
-  of_expressions (constraint a_negation) p q r m = let z : row ≡ row_of (constraint a_negation) = cc in absurd (r (omega arith))
-  of_expressions (constraint an_occurrence) p q r m = let z : row ≡ row_of (constraint an_occurrence) = cc in absurd (q (omega arith))
-  of_expressions (constraint a_truth) p q r m = let z : row ≡ row_of (constraint a_truth) = cc in absurd (m (omega arith))
-  of_expressions (constraint (a_look_back o)) p q r m = let z : row ≡ row_of (constraint (a_look_back o)) = cc in absurd (r (omega arith))
-  of_expressions (expression c) p q r m = cc
-  of_expressions no_code p q r m = cc
+    of_expressions : (follows_in row ≡ 9 → ⊥) → (sort_in row ≡ 3 → ⊥) → (follows_in row ≡ 0 → ⊥) → follows_in row ≡ 10
+    of_expressions q r m = constraint_by c p (λ o e f n. f) (λ o e f n. absurd (r (omega arith))) (λ e f n. absurd (r (omega arith))) (λ e f n. absurd (q f)) (λ e f n. absurd (m f)) (λ o e f n. absurd (r (omega arith)))
 
--- no row is 255
-no_row_e : (c : Code) (w : ℕ) → eqb w 3 ≡ false → row_for w (opened c) ≡ 255 → (x : ℕ) → opened c ≡ Expression x → ⊥
-no_row_e (expression a_constant) w f e = absurd (omega (arith, rw f at e))
-no_row_e (expression a_fluent) w f e = absurd (omega (arith, rw f at e))
-no_row_e (expression (of_two o)) w f e = absurd (omega (arith, rw f at e))
-no_row_e (expression (of_one o)) w f e = absurd (omega (arith, rw f at e))
-no_row_e (expression a_reified) w f e = absurd (omega (arith, rw f at e))
+-- the row of what opens such a tree, or none does
+no_row_e : (c : Code) (w : ℕ) → eqb w 3 ≡ false → None ≡ row_for w (opened c) → (x : ℕ) → opened c ≡ Expression x → ⊥
+no_row_e (expression c) w f e = λ x z. let q = rw f at e in cc
 no_row_e (constraint c) w f e = λ x z. cc
 no_row_e no_code w f e = λ x z. cc
 
-no_row_c : (c : Code) (w : ℕ) → eqb w 3 ≡ true → row_for w (opened c) ≡ 255 → (x : ℕ) → opened c ≡ Constraint x → ⊥
-no_row_c (constraint (of_comparison o)) w f e = absurd (omega (arith, rw f at e))
-no_row_c (constraint (of_junction o)) w f e = absurd (omega (arith, rw f at e))
-no_row_c (constraint a_negation) w f e = absurd (omega (arith, rw f at e))
-no_row_c (constraint an_occurrence) w f e = absurd (omega (arith, rw f at e))
-no_row_c (constraint a_truth) w f e = absurd (omega (arith, rw f at e))
-no_row_c (constraint (a_look_back o)) w f e = absurd (omega (arith, rw f at e))
+no_row_c : (c : Code) (w : ℕ) → eqb w 3 ≡ true → None ≡ row_for w (opened c) → (x : ℕ) → opened c ≡ Constraint x → ⊥
+no_row_c (constraint c) w f e = λ x z. let q = rw f at e in cc
 no_row_c (expression c) w f e = λ x z. cc
 no_row_c no_code w f e = λ x z. cc
 
-row_e : (c : Code) (w : ℕ) {row : ℕ} → eqb w 3 ≡ false → row ≡ row_for w (opened c) → (row ≡ 255 → ⊥) → Expression row ≡ opened c
-row_e (expression c) w f e n = ap Expression (rw f at e)
-row_e (constraint c) w f e n = absurd (n (rw f at e))
-row_e no_code w f e n = absurd (n e)
+row_e : (c : Code) (w : ℕ) {row : ℕ} → eqb w 3 ≡ false → Some row ≡ row_for w (opened c) → Expression row ≡ opened c
+row_e (expression c) w f e = let q = rw f at e in cc
+row_e (constraint c) w f e = let q = rw f at e in cc
+row_e no_code w f e = cc
 
-row_c : (c : Code) (w : ℕ) {row : ℕ} → eqb w 3 ≡ true → row ≡ row_for w (opened c) → (row ≡ 255 → ⊥) → Constraint row ≡ opened c
-row_c (constraint c) w f e n = ap Constraint (rw f at e)
-row_c (expression c) w f e n = absurd (n (rw f at e))
-row_c no_code w f e n = absurd (n e)
+row_c : (c : Code) (w : ℕ) {row : ℕ} → eqb w 3 ≡ true → Some row ≡ row_for w (opened c) → Constraint row ≡ opened c
+row_c (constraint c) w f e = let q = rw f at e in cc
+row_c (expression c) w f e = let q = rw f at e in cc
+row_c no_code w f e = cc
 
 module _ (w : ℕ) (t : Test) (s : List ℕ) (at d : ℕ) where
   pub long_deep : d ≡ 0 → refused 4 ≡ tree_end w t d s at
@@ -108,37 +69,37 @@ module _ (w : ℕ) (t : Test) (s : List ℕ) (at d : ℕ) where
   pub long_end : length s ≤ at → refused 4 ≡ tree_end w t d s at
   long_end h = by_test (eqb w 3) (λ f. rw f (no_tree (passes_c t) at (end_c s at d h))) (λ f. rw f (no_tree (passes_e t) at (end_e s at d h)))
 
-  module _ (ne : d ≡ 0 → ⊥) (lt : at < length s) {row : ℕ} (e : row ≡ row_for w (opened (code_of (get_or s at 0)))) where
+  module _ (ne : d ≡ 0 → ⊥) (lt : at < length s) where
     abbrev code : Code
     code = code_of (get_or s at 0)
 
-    pub long_none : row ≡ 255 → refused 4 ≡ tree_end w t d s at
-    long_none z = by_test (eqb w 3)
-        (λ f. rw f (no_tree (passes_c t) at (no_constraint s at d ne lt (opened code) refl (no_row_c code w f (sym e ∙ z)))))
-        (λ f. rw f (no_tree (passes_e t) at (no_expression s at d ne lt (opened code) refl (no_row_e code w f (sym e ∙ z)))))
+    pub long_none : None ≡ row_for w (opened (code_of (get_or s at 0))) → refused 4 ≡ tree_end w t d s at
+    long_none e = by_test (eqb w 3)
+        (λ f. rw f (no_tree (passes_c t) at (no_constraint s at d ne lt (opened code) refl (no_row_c code w f e))))
+        (λ f. rw f (no_tree (passes_e t) at (no_expression s at d ne lt (opened code) refl (no_row_e code w f e))))
 
-    module _ (is : row ≡ 255 → ⊥) where
+    module _ {row : ℕ} (e : Some row ≡ row_for w (opened (code_of (get_or s at 0)))) where
       con : eqb w 3 ≡ true → Constraint row ≡ opened code
-      con f = row_c code w f e is
+      con f = row_c code w f e
 
       expr : eqb w 3 ≡ false → Expression row ≡ opened code
-      expr f = row_e code w f e is
+      expr f = row_e code w f e
 
-      pub long_truth : follows_in row ≡ 0 → next_of (at + 1) ≡ tree_end w t d s at
-      long_truth n = by_test (eqb w 3) (λ f. rw f (check_truth t s at d ne lt (con f) n)) (λ f. absurd (some_operands code (expr f) n))
+      pub long_truth : follows_in row ≡ 0 → got (at + 1) ≡ tree_end w t d s at
+      long_truth n = by_test (eqb w 3) (λ f. rw f (there (at + 1) (λ z. omega arith) ∙ check_truth t s at d ne lt (con f) n)) (λ f. absurd (some_operands code (expr f) n))
 
       -- a leaf
       module _ (q : follows_in row ≡ 9) where
-        pub long_short : Short ≡ pair_of (drop (at + 1) s) → refused 4 ≡ tree_end w t d s at
+        pub long_short : None ≡ pair_of (drop (at + 1) s) → refused 4 ≡ tree_end w t d s at
         long_short p = by_test (eqb w 3)
             (λ f. rw f (leaf_short (passes_c t) occurs s at p ∙ check_occurrence t s at d ne lt (con f) q))
             (λ f. rw f (leaf_short (passes_e t) (leaf_in row) s at p ∙ check_leaf t s at d ne lt (expr f) q))
 
-        module _ {a b : ℕ} (p : Bytes a b ≡ pair_of (drop (at + 1) s)) where
-          pub long_passes : pair_passes w t row a b ≡ true → next_of (at + 3) ≡ tree_end w t d s at
+        module _ {a b : ℕ} (p : Some (a, b) ≡ pair_of (drop (at + 1) s)) where
+          pub long_passes : pair_passes w t row a b ≡ true → got (at + 3) ≡ tree_end w t d s at
           long_passes h = by_test (eqb w 3)
-              (λ f. rw f (leaf_passes (passes_c t) occurs s at p (rw f at h) ∙ check_occurrence t s at d ne lt (con f) q))
-              (λ f. rw f (leaf_passes (passes_e t) (leaf_in row) s at p (rw f at h) ∙ check_leaf t s at d ne lt (expr f) q))
+              (λ f. rw f (there (at + 3) (λ z. omega arith) ∙ leaf_passes (passes_c t) occurs s at p (rw f at h) ∙ check_occurrence t s at d ne lt (con f) q))
+              (λ f. rw f (there (at + 3) (λ z. omega arith) ∙ leaf_passes (passes_e t) (leaf_in row) s at p (rw f at h) ∙ check_leaf t s at d ne lt (expr f) q))
 
           pub long_fails : pair_passes w t row a b ≡ false → refused 4 ≡ tree_end w t d s at
           long_fails h = by_test (eqb w 3)

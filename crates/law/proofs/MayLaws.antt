@@ -6,7 +6,7 @@ use Prim.Native.Nat.{ℕ, zero, suc, ◌+◌, ◌-◌, ◌*◌, ◌/◌, ◌%◌
 use native.Mathlib.Nat.{eq-or-lt_of_le}
 use native.Mathlib.Decide.{dec_le}
 use native.Mathlib.Omega.{arith}
-use borrow.Author.Tests.{lt-ltb, le-ltb, le-leb, lt-leb, eq-eqb, ne_eqb, eqb-true}
+use borrow.Author.Tests.{lt-ltb, le-ltb, le-leb, eq-eqb, eqb-true}
 use lib.Dec.{T, eqb, leb, ltb}
 use Rattle.bmap.specs.Plain.{both, all, if_else}
 use Rattle.bmap.specs.Domain.{has}
@@ -171,41 +171,7 @@ asks_inside {may} t a = go (again_may may) refl
           again = rw w.back_in (sym e ∙ (a.again ∙ sym (same_again t)));
         }
 
--- what the code makes of it
-module _ (may : ℕ) {b : ℕ} (is : b ≡ back_in may) where
-  pub inside_again : b ≡ 2 → may ≡ inside_in may
-  inside_again e = rw (eq-eqb (back_in may) 2 (sym is ∙ e))
-
-  pub inside_once : (b ≡ 2 → ⊥) → may - 67_108_864 * b ≡ inside_in may
-  inside_once n = rw (is, ne_eqb (back_in may) 2 (λ e. n (is ∙ e)))
-
--- the tests of the code
-module _ (may f lag : ℕ) where
-  pub fluent_unknown : fluents_in may ≤ f → false ≡ fluent_may may f lag
-  unfolding fluent_may
-  fluent_unknown h = rw (le-ltb f (fluents_in may) h)
-
-  module _ (h : f < fluents_in may) where
-    pub fluent_late : lag_in may < lag → false ≡ fluent_may may f lag
-    unfolding fluent_may
-    fluent_late k = rw (lt-ltb f (fluents_in may) h, lt-leb lag (lag_in may) k)
-
-    pub fluent_bit : lag ≤ lag_in may → has (mask_in may) (f % 32) ≡ fluent_may may f lag
-    unfolding fluent_may
-    fluent_bit k = rw (lt-ltb f (fluents_in may) h, le-leb lag (lag_in may) k)
-
-  pub entry_unknown : entries_in may ≤ f → false ≡ entry_may may f lag
-  unfolding entry_may
-  entry_unknown h = rw (le-ltb f (entries_in may) h)
-
-  pub entry_lag : f < entries_in may → leb lag (lag_in may) ≡ entry_may may f lag
-  unfolding entry_may
-  entry_lag h = rw (lt-ltb f (entries_in may) h)
-
 -- a leaf
 module _ (t : Test) (row a b : ℕ) where
   pub leaf_constant : operator_in row ≡ 0 → true ≡ passes_e t (leaf_in row a b)
   leaf_constant e = rw (eq-eqb (operator_in row) 0 e) (sym (passes_constant t a b))
-
-  pub leaf_fluent : (operator_in row ≡ 0 → ⊥) → passes_e t (fluent a b) ≡ passes_e t (leaf_in row a b)
-  leaf_fluent h = rw (ne_eqb (operator_in row) 0 h)

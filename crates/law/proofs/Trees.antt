@@ -1,11 +1,10 @@
 -- The tree at a place of some bytes, by its code: what the table says of the code, and what the parser does after it.
-use mathlib.Core.Path.{◌≡◌, refl, ◌∙◌}
+use mathlib.Core.Path.{◌≡◌, refl, sym, ap, ◌∙◌}
 use mathlib.Core.Bool.{true, false}
 use mathlib.Core.List.{List, [], ◌∷◌}
 use mathlib.Core.Option.{none}
 use Prim.Native.Nat.{ℕ, zero, suc, ◌+◌, ◌-◌, ◌*◌, ◌≤◌, ◌<◌}
 use native.Mathlib.Numerals.{add-one}
-use native.Mathlib.Decide.{dec_le}
 use native.Mathlib.Omega.{arith}
 use borrow.Author.Tests.{leb-true, leb-false}
 use lib.ListN.{length, drop, get_or, length-drop, drop_of_length-le}
@@ -16,7 +15,7 @@ use Rattle.bmap.specs.Tree.{constant, fluent, two, one, reified, compared, joine
 use Rattle.bmap.specs.Code.{code_of, parsed, two_bytes, operand, operands, expr_after, con_after, parse_e, parse_c}
 use Rattle.law.specs.declared.table.Node.{Node}
 use Rattle.law.specs.declared.table.Node.TheVariants.{Expression, Constraint}
-use Rattle.law.specs.declared.table.Pair.TheVariants.{Bytes, Short}
+use Rattle.std.specs.Prelude.{None, Some}
 use Rattle.law.specs.Table.{sort_of, count_of, operator_of, row_of, follows_in, operator_in, looks_back_in, opened, pair_of}
 use Rattle.law.specs.Table.{operation_number, operation_at, single_number, single_at, comparison_number, comparison_at, junction_number, junction_at, look_back_number, look_back_at}
 use Rattle.bmap.specs.declared.Operation.{Operation}
@@ -35,33 +34,19 @@ read_follows s n o h k = omega arith
 read_operator : (s n o : ℕ) → s < 4 → n < 4 → operator_in (s + 4 * n + 16 * o) ≡ o
 read_operator s n o h k = omega arith
 
-few_sorts : (c : Code) → sort_of c < 4
-few_sorts (expression a_constant) = omega arith
-few_sorts (expression a_fluent) = omega arith
-few_sorts (expression (of_two o)) = omega arith
-few_sorts (expression (of_one o)) = omega arith
-few_sorts (expression a_reified) = omega arith
-few_sorts (constraint (of_comparison o)) = omega arith
-few_sorts (constraint (of_junction o)) = omega arith
-few_sorts (constraint a_negation) = omega arith
-few_sorts (constraint an_occurrence) = omega arith
-few_sorts (constraint a_truth) = omega arith
-few_sorts (constraint (a_look_back o)) = omega arith
-few_sorts no_code = omega arith
-
-few_operands : (c : Code) → count_of c < 4
-few_operands (expression a_constant) = omega arith
-few_operands (expression a_fluent) = omega arith
-few_operands (expression (of_two o)) = omega arith
-few_operands (expression (of_one o)) = omega arith
-few_operands (expression a_reified) = omega arith
-few_operands (constraint (of_comparison o)) = omega arith
-few_operands (constraint (of_junction o)) = omega arith
-few_operands (constraint a_negation) = omega arith
-few_operands (constraint an_occurrence) = omega arith
-few_operands (constraint a_truth) = omega arith
-few_operands (constraint (a_look_back o)) = omega arith
-few_operands no_code = omega arith
+few : (c : Code) → (sort_of c < 4) × (count_of c < 4)
+few (expression a_constant) = (omega arith, omega arith)
+few (expression a_fluent) = (omega arith, omega arith)
+few (expression (of_two o)) = (omega arith, omega arith)
+few (expression (of_one o)) = (omega arith, omega arith)
+few (expression a_reified) = (omega arith, omega arith)
+few (constraint (of_comparison o)) = (omega arith, omega arith)
+few (constraint (of_junction o)) = (omega arith, omega arith)
+few (constraint a_negation) = (omega arith, omega arith)
+few (constraint an_occurrence) = (omega arith, omega arith)
+few (constraint a_truth) = (omega arith, omega arith)
+few (constraint (a_look_back o)) = (omega arith, omega arith)
+few no_code = (omega arith, omega arith)
 
 record Reads (row : ℕ) (c : Code) : Type 0 where
   follows : follows_in row ≡ sort_of c + 4 * count_of c
@@ -69,8 +54,8 @@ record Reads (row : ℕ) (c : Code) : Type 0 where
 
 reads : (row : ℕ) (c : Code) → row ≡ row_of c → Reads row c
 reads row c e = record {
-  follows = rw e (read_follows (sort_of c) (count_of c) (operator_of c) (few_sorts c) (few_operands c));
-  operator = rw e (read_operator (sort_of c) (count_of c) (operator_of c) (few_sorts c) (few_operands c));
+  follows = rw e (read_follows (sort_of c) (count_of c) (operator_of c) (few c).0 (few c).1);
+  operator = rw e (read_operator (sort_of c) (count_of c) (operator_of c) (few c).0 (few c).1);
 }
 
 operation_back : (o : Operation) → operation_at (operation_number o) ≡ o
@@ -120,126 +105,49 @@ few_junctions : (o : Junction) → junction_number o < 8
 few_junctions And = omega arith
 few_junctions Or = omega arith
 
+past_few : (o : Junction) → 8 ≤ look_back_number o
+past_few And = omega arith
+past_few Or = omega arith
+
 look_back_back : (o : Junction) → look_back_at (look_back_number o) ≡ o
 look_back_back And = refl
 look_back_back Or = refl
 
 -- and they decide the code
-module _ {row : ℕ} where
-  is_constant : (c : Code) → Expression row ≡ opened c → follows_in row ≡ 9 → operator_in row ≡ 0 → c ≡ expression a_constant
-  is_constant (expression a_constant) p q r = refl
-  is_constant (expression a_fluent) p q r = let w = reads row (expression a_fluent) cc in absurd (omega (arith, w.operator, r))
-  is_constant (expression (of_two o)) p q r = let w = reads row (expression (of_two o)) cc in absurd (omega (arith, w.follows, q))
-  is_constant (expression (of_one o)) p q r = let w = reads row (expression (of_one o)) cc in absurd (omega (arith, w.follows, q))
-  is_constant (expression a_reified) p q r = let w = reads row (expression a_reified) cc in absurd (omega (arith, w.follows, q))
-  is_constant (constraint c) p q r = cc
-  is_constant no_code p q r = cc
+module _ {A : Type 0} {row : ℕ} where
+  pub expression_by : (c : Code) → Expression row ≡ opened c
+      → (c ≡ expression a_constant → follows_in row ≡ 9 → operator_in row ≡ 0 → A)
+      → (c ≡ expression a_fluent → follows_in row ≡ 9 → operator_in row ≡ 1 → A)
+      → ((o : Operation) → c ≡ expression (of_two o) → follows_in row ≡ 10 → operator_in row ≡ operation_number o → A)
+      → ((o : Single) → c ≡ expression (of_one o) → follows_in row ≡ 6 → operator_in row ≡ single_number o → A)
+      → (c ≡ expression a_reified → follows_in row ≡ 7 → operator_in row ≡ 0 → A) → A
+  expression_by (expression a_constant) p g h i j k = let w = reads row (expression a_constant) cc in g refl w.follows w.operator
+  expression_by (expression a_fluent) p g h i j k = let w = reads row (expression a_fluent) cc in h refl w.follows w.operator
+  expression_by (expression (of_two o)) p g h i j k = let w = reads row (expression (of_two o)) cc in i o refl w.follows w.operator
+  expression_by (expression (of_one o)) p g h i j k = let w = reads row (expression (of_one o)) cc in j o refl w.follows w.operator
+  expression_by (expression a_reified) p g h i j k = let w = reads row (expression a_reified) cc in k refl w.follows w.operator
+  expression_by (constraint c) p g h i j k = absurd (let z : ◌≡◌ {A = ℕ} 0 1 = cc in omega arith)
+  expression_by no_code p g h i j k = absurd (let z : ◌≡◌ {A = ℕ} 0 1 = cc in omega arith)
 
-  is_fluent : (c : Code) → Expression row ≡ opened c → follows_in row ≡ 9 → (operator_in row ≡ 0 → ⊥) → c ≡ expression a_fluent
-  is_fluent (expression a_constant) p q r = let w = reads row (expression a_constant) cc in absurd (r w.operator)
-  is_fluent (expression a_fluent) p q r = refl
-  is_fluent (expression (of_two o)) p q r = let w = reads row (expression (of_two o)) cc in absurd (omega (arith, w.follows, q))
-  is_fluent (expression (of_one o)) p q r = let w = reads row (expression (of_one o)) cc in absurd (omega (arith, w.follows, q))
-  is_fluent (expression a_reified) p q r = let w = reads row (expression a_reified) cc in absurd (omega (arith, w.follows, q))
-  is_fluent (constraint c) p q r = cc
-  is_fluent no_code p q r = cc
+  pub constraint_by : (c : Code) → Constraint row ≡ opened c
+      → ((o : Comparison) → c ≡ constraint (of_comparison o) → follows_in row ≡ 10 → operator_in row ≡ comparison_number o → A)
+      → ((o : Junction) → c ≡ constraint (of_junction o) → follows_in row ≡ 11 → operator_in row ≡ junction_number o → A)
+      → (c ≡ constraint a_negation → follows_in row ≡ 7 → operator_in row ≡ 0 → A)
+      → (c ≡ constraint an_occurrence → follows_in row ≡ 9 → operator_in row ≡ 0 → A)
+      → (c ≡ constraint a_truth → follows_in row ≡ 0 → operator_in row ≡ 0 → A)
+      → ((o : Junction) → c ≡ constraint (a_look_back o) → follows_in row ≡ 7 → operator_in row ≡ look_back_number o → A) → A
+  constraint_by (constraint (of_comparison o)) p g h i j k l = let w = reads row (constraint (of_comparison o)) cc in g o refl w.follows w.operator
+  constraint_by (constraint (of_junction o)) p g h i j k l = let w = reads row (constraint (of_junction o)) cc in h o refl w.follows w.operator
+  constraint_by (constraint a_negation) p g h i j k l = let w = reads row (constraint a_negation) cc in i refl w.follows w.operator
+  constraint_by (constraint an_occurrence) p g h i j k l = let w = reads row (constraint an_occurrence) cc in j refl w.follows w.operator
+  constraint_by (constraint a_truth) p g h i j k l = let w = reads row (constraint a_truth) cc in k refl w.follows w.operator
+  constraint_by (constraint (a_look_back o)) p g h i j k l = let w = reads row (constraint (a_look_back o)) cc in l o refl w.follows w.operator
+  constraint_by (expression c) p g h i j k l = absurd (let z : ◌≡◌ {A = ℕ} 0 1 = cc in omega arith)
+  constraint_by no_code p g h i j k l = absurd (let z : ◌≡◌ {A = ℕ} 0 1 = cc in omega arith)
 
-  is_reified : (c : Code) → Expression row ≡ opened c → follows_in row ≡ 7 → c ≡ expression a_reified
-  is_reified (expression a_constant) p q = let w = reads row (expression a_constant) cc in absurd (omega (arith, w.follows, q))
-  is_reified (expression a_fluent) p q = let w = reads row (expression a_fluent) cc in absurd (omega (arith, w.follows, q))
-  is_reified (expression (of_two o)) p q = let w = reads row (expression (of_two o)) cc in absurd (omega (arith, w.follows, q))
-  is_reified (expression (of_one o)) p q = let w = reads row (expression (of_one o)) cc in absurd (omega (arith, w.follows, q))
-  is_reified (expression a_reified) p q = refl
-  is_reified (constraint c) p q = cc
-  is_reified no_code p q = cc
-
-  is_one : (c : Code) → Expression row ≡ opened c → follows_in row ≡ 6 → c ≡ expression (of_one (single_at (operator_in row)))
-  is_one (expression a_constant) p q = let w = reads row (expression a_constant) cc in absurd (omega (arith, w.follows, q))
-  is_one (expression a_fluent) p q = let w = reads row (expression a_fluent) cc in absurd (omega (arith, w.follows, q))
-  is_one (expression (of_two o)) p q = let w = reads row (expression (of_two o)) cc in absurd (omega (arith, w.follows, q))
-  is_one (expression (of_one o)) p q = let w = reads row (expression (of_one o)) cc in rw (w.operator, single_back o)
-  is_one (expression a_reified) p q = let w = reads row (expression a_reified) cc in absurd (omega (arith, w.follows, q))
-  is_one (constraint c) p q = cc
-  is_one no_code p q = cc
-
-  is_two : (c : Code) → Expression row ≡ opened c → (follows_in row ≡ 9 → ⊥) → (follows_in row ≡ 7 → ⊥) → (follows_in row ≡ 6 → ⊥) → c ≡ expression (of_two (operation_at (operator_in row)))
-  is_two (expression a_constant) p q r n = let w = reads row (expression a_constant) cc in absurd (q w.follows)
-  is_two (expression a_fluent) p q r n = let w = reads row (expression a_fluent) cc in absurd (q w.follows)
-  is_two (expression (of_two o)) p q r n = let w = reads row (expression (of_two o)) cc in rw (w.operator, operation_back o)
-  is_two (expression (of_one o)) p q r n = let w = reads row (expression (of_one o)) cc in absurd (n w.follows)
-  is_two (expression a_reified) p q r n = let w = reads row (expression a_reified) cc in absurd (r w.follows)
-  is_two (constraint c) p q r n = cc
-  is_two no_code p q r n = cc
-
-  is_comparison : (c : Code) → Constraint row ≡ opened c → follows_in row ≡ 10 → c ≡ constraint (of_comparison (comparison_at (operator_in row)))
-  is_comparison (constraint (of_comparison o)) p q = let w = reads row (constraint (of_comparison o)) cc in rw (w.operator, comparison_back o)
-  is_comparison (constraint (of_junction o)) p q = let w = reads row (constraint (of_junction o)) cc in absurd (omega (arith, w.follows, q))
-  is_comparison (constraint a_negation) p q = let w = reads row (constraint a_negation) cc in absurd (omega (arith, w.follows, q))
-  is_comparison (constraint an_occurrence) p q = let w = reads row (constraint an_occurrence) cc in absurd (omega (arith, w.follows, q))
-  is_comparison (constraint a_truth) p q = let w = reads row (constraint a_truth) cc in absurd (omega (arith, w.follows, q))
-  is_comparison (constraint (a_look_back o)) p q = let w = reads row (constraint (a_look_back o)) cc in absurd (omega (arith, w.follows, q))
-  is_comparison (expression c) p q = cc
-  is_comparison no_code p q = cc
-
-  is_occurrence : (c : Code) → Constraint row ≡ opened c → follows_in row ≡ 9 → c ≡ constraint an_occurrence
-  is_occurrence (constraint (of_comparison o)) p q = let w = reads row (constraint (of_comparison o)) cc in absurd (omega (arith, w.follows, q))
-  is_occurrence (constraint (of_junction o)) p q = let w = reads row (constraint (of_junction o)) cc in absurd (omega (arith, w.follows, q))
-  is_occurrence (constraint a_negation) p q = let w = reads row (constraint a_negation) cc in absurd (omega (arith, w.follows, q))
-  is_occurrence (constraint an_occurrence) p q = refl
-  is_occurrence (constraint a_truth) p q = let w = reads row (constraint a_truth) cc in absurd (omega (arith, w.follows, q))
-  is_occurrence (constraint (a_look_back o)) p q = let w = reads row (constraint (a_look_back o)) cc in absurd (omega (arith, w.follows, q))
-  is_occurrence (expression c) p q = cc
-  is_occurrence no_code p q = cc
-
-  is_truth : (c : Code) → Constraint row ≡ opened c → follows_in row ≡ 0 → c ≡ constraint a_truth
-  is_truth (constraint (of_comparison o)) p n = let w = reads row (constraint (of_comparison o)) cc in absurd (omega (arith, w.follows, n))
-  is_truth (constraint (of_junction o)) p n = let w = reads row (constraint (of_junction o)) cc in absurd (omega (arith, w.follows, n))
-  is_truth (constraint a_negation) p n = let w = reads row (constraint a_negation) cc in absurd (omega (arith, w.follows, n))
-  is_truth (constraint an_occurrence) p n = let w = reads row (constraint an_occurrence) cc in absurd (omega (arith, w.follows, n))
-  is_truth (constraint a_truth) p n = refl
-  is_truth (constraint (a_look_back o)) p n = let w = reads row (constraint (a_look_back o)) cc in absurd (omega (arith, w.follows, n))
-  is_truth (expression c) p n = cc
-  is_truth no_code p n = cc
-
-  is_negation : (c : Code) → Constraint row ≡ opened c → follows_in row ≡ 7 → looks_back_in row ≡ false → c ≡ constraint a_negation
-  is_negation (constraint (of_comparison o)) p q b = let w = reads row (constraint (of_comparison o)) cc in absurd (omega (arith, w.follows, q))
-  is_negation (constraint (of_junction o)) p q b = let w = reads row (constraint (of_junction o)) cc in absurd (omega (arith, w.follows, q))
-  is_negation (constraint a_negation) p q b = refl
-  is_negation (constraint an_occurrence) p q b = let w = reads row (constraint an_occurrence) cc in absurd (omega (arith, w.follows, q))
-  is_negation (constraint a_truth) p q b = let w = reads row (constraint a_truth) cc in absurd (omega (arith, w.follows, q))
-  is_negation (constraint (a_look_back o)) p q b = let z : row ≡ row_of (constraint (a_look_back o)) = cc in absurd (omega (arith, leb-false 128 row b))
-  is_negation (expression c) p q b = cc
-  is_negation no_code p q b = cc
-
-  is_look_back : (c : Code) → Constraint row ≡ opened c → looks_back_in row ≡ true → c ≡ constraint (a_look_back (look_back_at (operator_in row)))
-  is_look_back (constraint (of_comparison o)) p b = let z : row ≡ row_of (constraint (of_comparison o)) = cc in absurd (omega (arith, leb-true 128 row b, few_comparisons o))
-  is_look_back (constraint (of_junction o)) p b = let z : row ≡ row_of (constraint (of_junction o)) = cc in absurd (omega (arith, leb-true 128 row b, few_junctions o))
-  is_look_back (constraint a_negation) p b = let z : row ≡ row_of (constraint a_negation) = cc in absurd (omega (arith, leb-true 128 row b))
-  is_look_back (constraint an_occurrence) p b = let z : row ≡ row_of (constraint an_occurrence) = cc in absurd (omega (arith, leb-true 128 row b))
-  is_look_back (constraint a_truth) p b = let z : row ≡ row_of (constraint a_truth) = cc in absurd (omega (arith, leb-true 128 row b))
-  is_look_back (constraint (a_look_back o)) p b = let w = reads row (constraint (a_look_back o)) cc in rw (w.operator, look_back_back o)
-  is_look_back (expression c) p b = cc
-  is_look_back no_code p b = cc
-
-  -- no expression looks back
-  pub never_back : (c : Code) → Expression row ≡ opened c → looks_back_in row ≡ true → ⊥
-  never_back (expression a_constant) p b = let z : row ≡ row_of (expression a_constant) = cc in omega (arith, leb-true 128 row b)
-  never_back (expression a_fluent) p b = let z : row ≡ row_of (expression a_fluent) = cc in omega (arith, leb-true 128 row b)
-  never_back (expression (of_two o)) p b = let z : row ≡ row_of (expression (of_two o)) = cc in omega (arith, leb-true 128 row b, few_operations o)
-  never_back (expression (of_one o)) p b = let z : row ≡ row_of (expression (of_one o)) = cc in omega (arith, leb-true 128 row b, few_singles o)
-  never_back (expression a_reified) p b = let z : row ≡ row_of (expression a_reified) = cc in omega (arith, leb-true 128 row b)
-  never_back (constraint c) p b = let z : ◌≡◌ {A = ℕ} 0 1 = cc in omega arith
-  never_back no_code p b = let z : ◌≡◌ {A = ℕ} 0 1 = cc in omega arith
-
-  is_junction : (c : Code) → Constraint row ≡ opened c → (follows_in row ≡ 10 → ⊥) → (follows_in row ≡ 9 → ⊥) → (follows_in row ≡ 0 → ⊥) → (follows_in row ≡ 7 → ⊥) → c ≡ constraint (of_junction (junction_at (operator_in row)))
-  is_junction (constraint (of_comparison o)) p q r m n = let w = reads row (constraint (of_comparison o)) cc in absurd (q w.follows)
-  is_junction (constraint (of_junction o)) p q r m n = let w = reads row (constraint (of_junction o)) cc in rw (w.operator, junction_back o)
-  is_junction (constraint a_negation) p q r m n = let w = reads row (constraint a_negation) cc in absurd (n w.follows)
-  is_junction (constraint an_occurrence) p q r m n = let w = reads row (constraint an_occurrence) cc in absurd (r w.follows)
-  is_junction (constraint a_truth) p q r m n = let w = reads row (constraint a_truth) cc in absurd (m w.follows)
-  is_junction (constraint (a_look_back o)) p q r m n = let w = reads row (constraint (a_look_back o)) cc in absurd (n w.follows)
-  is_junction (expression c) p q r m n = cc
-  is_junction no_code p q r m n = cc
+-- no expression looks back
+pub never_back : {row : ℕ} (c : Code) → Expression row ≡ opened c → looks_back_in row ≡ true → ⊥
+never_back {row} c p b = let h = leb-true 128 row b in expression_by c p (λ e f n. omega arith) (λ e f n. omega arith) (λ o e f n. omega (arith, few_operations o)) (λ o e f n. omega (arith, few_singles o)) (λ e f n. omega arith)
 
 -- No tree: too deep, past the end, or a byte that opens no tree of the sort.
 module _ (s : List ℕ) (at d : ℕ) where
@@ -301,63 +209,60 @@ module _ (s : List ℕ) (at d : ℕ) (ne : d ≡ 0 → ⊥) (lt : at < length s)
 
   module _ {row : ℕ} (p : Expression row ≡ opened code) where
     pub at_constant : follows_in row ≡ 9 → operator_in row ≡ 0 → parse_e d (drop at s) ≡ two_bytes (λ hi lo. constant (signed_word hi lo)) rest
-    at_constant q r = after_e (expression a_constant) (is_constant code p q r)
+    at_constant q r = after_e (expression a_constant) (expression_by code p (λ e f n. e) (λ e f n. absurd (omega arith)) (λ o e f n. absurd (omega arith)) (λ o e f n. absurd (omega arith)) (λ e f n. absurd (omega arith)))
 
     pub at_fluent : follows_in row ≡ 9 → (operator_in row ≡ 0 → ⊥) → parse_e d (drop at s) ≡ two_bytes fluent rest
-    at_fluent q r = after_e (expression a_fluent) (is_fluent code p q r)
+    at_fluent q r = after_e (expression a_fluent) (expression_by code p (λ e f n. absurd (r n)) (λ e f n. e) (λ o e f n. absurd (omega arith)) (λ o e f n. absurd (omega arith)) (λ e f n. absurd (omega arith)))
 
     pub at_reified : follows_in row ≡ 7 → parse_e d (drop at s) ≡ operand reified (parse_c (d - 1)) rest
-    at_reified q = after_e (expression a_reified) (is_reified code p q)
+    at_reified q = after_e (expression a_reified) (expression_by code p (λ e f n. absurd (omega arith)) (λ e f n. absurd (omega arith)) (λ o e f n. absurd (omega arith)) (λ o e f n. absurd (omega arith)) (λ e f n. e))
 
     pub at_one : follows_in row ≡ 6 → parse_e d (drop at s) ≡ operand (one (single_at (operator_in row))) (parse_e (d - 1)) rest
-    at_one q = after_e (expression (of_one (single_at (operator_in row)))) (is_one code p q)
+    at_one q = after_e (expression (of_one (single_at (operator_in row)))) (expression_by code p (λ e f n. absurd (omega arith)) (λ e f n. absurd (omega arith)) (λ o e f n. absurd (omega arith)) (λ o e f n. e ∙ rw (n, single_back o)) (λ e f n. absurd (omega arith)))
 
     pub at_two : (follows_in row ≡ 9 → ⊥) → (follows_in row ≡ 7 → ⊥) → (follows_in row ≡ 6 → ⊥) → parse_e d (drop at s) ≡ operands (two (operation_at (operator_in row))) (parse_e (d - 1)) rest
-    at_two q r n = after_e (expression (of_two (operation_at (operator_in row)))) (is_two code p q r n)
+    at_two q r m = after_e (expression (of_two (operation_at (operator_in row)))) (expression_by code p (λ e f n. absurd (q f)) (λ e f n. absurd (q f)) (λ o e f n. e ∙ rw (n, operation_back o)) (λ o e f n. absurd (m f)) (λ e f n. absurd (r f)))
 
   module _ {row : ℕ} (p : Constraint row ≡ opened code) where
     pub at_comparison : follows_in row ≡ 10 → parse_c d (drop at s) ≡ operands (compared (comparison_at (operator_in row))) (parse_e (d - 1)) rest
-    at_comparison q = after_c (constraint (of_comparison (comparison_at (operator_in row)))) (is_comparison code p q)
+    at_comparison q = after_c (constraint (of_comparison (comparison_at (operator_in row)))) (constraint_by code p (λ o e f n. e ∙ rw (n, comparison_back o)) (λ o e f n. absurd (omega arith)) (λ e f n. absurd (omega arith)) (λ e f n. absurd (omega arith)) (λ e f n. absurd (omega arith)) (λ o e f n. absurd (omega arith)))
 
     pub at_occurrence : follows_in row ≡ 9 → parse_c d (drop at s) ≡ two_bytes occurs rest
-    at_occurrence q = after_c (constraint an_occurrence) (is_occurrence code p q)
+    at_occurrence q = after_c (constraint an_occurrence) (constraint_by code p (λ o e f n. absurd (omega arith)) (λ o e f n. absurd (omega arith)) (λ e f n. absurd (omega arith)) (λ e f n. e) (λ e f n. absurd (omega arith)) (λ o e f n. absurd (omega arith)))
 
     pub at_truth : follows_in row ≡ 0 → parse_c d (drop at s) ≡ parsed always 1
-    at_truth n = after_c (constraint a_truth) (is_truth code p n)
+    at_truth q = after_c (constraint a_truth) (constraint_by code p (λ o e f n. absurd (omega arith)) (λ o e f n. absurd (omega arith)) (λ e f n. absurd (omega arith)) (λ e f n. absurd (omega arith)) (λ e f n. e) (λ o e f n. absurd (omega arith)))
 
     pub at_negation : follows_in row ≡ 7 → looks_back_in row ≡ false → parse_c d (drop at s) ≡ operand negated (parse_c (d - 1)) rest
-    at_negation q r = after_c (constraint a_negation) (is_negation code p q r)
+    at_negation q b = after_c (constraint a_negation) (let h = leb-false 128 row b in constraint_by code p (λ o e f n. absurd (omega arith)) (λ o e f n. absurd (omega arith)) (λ e f n. e) (λ e f n. absurd (omega arith)) (λ e f n. absurd (omega arith)) (λ o e f n. absurd (omega (arith, past_few o))))
 
     pub at_look_back : looks_back_in row ≡ true → parse_c d (drop at s) ≡ operand (look_back (look_back_at (operator_in row))) (parse_c (d - 1)) rest
-    at_look_back b = after_c (constraint (a_look_back (look_back_at (operator_in row)))) (is_look_back code p b)
+    at_look_back b = after_c (constraint (a_look_back (look_back_at (operator_in row)))) (let h = leb-true 128 row b in constraint_by code p (λ o e f n. absurd (omega (arith, few_comparisons o))) (λ o e f n. absurd (omega (arith, few_junctions o))) (λ e f n. absurd (omega arith)) (λ e f n. absurd (omega arith)) (λ e f n. absurd (omega arith)) (λ o e f n. e ∙ rw (n, look_back_back o)))
 
     pub at_junction : (follows_in row ≡ 10 → ⊥) → (follows_in row ≡ 9 → ⊥) → (follows_in row ≡ 0 → ⊥) → (follows_in row ≡ 7 → ⊥) → parse_c d (drop at s) ≡ operands (joined (junction_at (operator_in row))) (parse_c (d - 1)) rest
-    at_junction q r m n = after_c (constraint (of_junction (junction_at (operator_in row)))) (is_junction code p q r m n)
+    at_junction q r m k = after_c (constraint (of_junction (junction_at (operator_in row)))) (constraint_by code p (λ o e f n. absurd (q f)) (λ o e f n. e ∙ rw (n, junction_back o)) (λ e f n. absurd (k f)) (λ e f n. absurd (r f)) (λ e f n. absurd (m f)) (λ o e f n. absurd (k f)))
 
 -- The two bytes after a code.
-pub pair_short : (s : List ℕ) (at : ℕ) → length s - at < 3 → Short ≡ pair_of (drop (at + 1) s)
+pub pair_short : (s : List ℕ) (at : ℕ) → length s - at < 3 → None ≡ pair_of (drop (at + 1) s)
 pair_short s at h = go (drop (at + 1) s) (rw length-drop (omega arith))
   where
-    go : (l : List ℕ) → length l < 2 → Short ≡ pair_of l
+    go : (l : List ℕ) → length l < 2 → None ≡ pair_of l
     go [] h = refl
     go (a ∷ []) h = refl
     go (a ∷ b ∷ l) h = absurd (omega arith)
 
-pub pair_long : (s : List ℕ) (at : ℕ) → 3 ≤ length s - at → Bytes (get_or s (at + 1) 0) (get_or s (at + 2) 0) ≡ pair_of (drop (at + 1) s)
+pub pair_long : (s : List ℕ) (at : ℕ) → 3 ≤ length s - at → Some (get_or s (at + 1) 0, get_or s (at + 2) 0) ≡ pair_of (drop (at + 1) s)
 pair_long s at h =
     let e : suc (at + 1) ≡ at + 2 = omega arith in
     rw (drop-cons s (at + 1) 0 (omega arith), e, drop-cons s (at + 2) 0 (omega arith))
 
-pub pair_in : {a b : ℕ} (s : List ℕ) (at : ℕ) → Bytes a b ≡ pair_of (drop (at + 1) s) → at + 3 ≤ length s
-pair_in s at e = elim (dec_le (at + 3) (length s)) [ yes h ↦ h | no h ↦ absurd (let z : ◌≡◌ {A = ℕ} 0 1 = cc (pair_short s at (omega arith)) in omega arith) ]
-
 module _ {T : Type 0} (make : ℕ → ℕ → T) where
-  pub no_pair : (l : List ℕ) → Short ≡ pair_of l → two_bytes make l ≡ none
+  pub no_pair : (l : List ℕ) → None ≡ pair_of l → two_bytes make l ≡ none
   no_pair [] e = refl
   no_pair (a ∷ []) e = refl
   no_pair (a ∷ b ∷ l) e = cc
 
-  pub a_pair : {a b : ℕ} (l : List ℕ) → Bytes a b ≡ pair_of l → two_bytes make l ≡ parsed (make a b) 3
+  pub a_pair : {a b : ℕ} (l : List ℕ) → Some (a, b) ≡ pair_of l → two_bytes make l ≡ parsed (make a b) 3
   a_pair [] e = cc
   a_pair (a ∷ []) e = cc
-  a_pair (a ∷ b ∷ l) e = cc
+  a_pair {a} {b} (x ∷ y ∷ l) e = let q : ◌≡◌ {A = ℕ × ℕ} (a, b) (x, y) = cc in sym (ap (λ (p : ℕ × ℕ). parsed (make p.0 p.1) 3) q)

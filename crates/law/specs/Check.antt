@@ -1,23 +1,21 @@
 -- What the checker answers, what a tree may name, and whether it may look back.
-use Rattle.std.specs.Prelude.{ℕ, zero, suc, ◌+◌, ◌-◌, ◌*◌, ◌/◌, ◌%◌, ◌≤◌, ◌<◌, Bool, true, not, List, ◌≡◌, eqb, leb, ltb, length, drop, get_or}
+use Rattle.std.specs.Prelude.{ℕ, zero, suc, ◌+◌, ◌-◌, ◌*◌, ◌/◌, ◌%◌, ◌≤◌, ◌<◌, Bool, true, not, Option as Maybe, None, Some, List, ◌≡◌, eqb, leb, ltb, drop, get_or}
 use Rattle.std.proofs.Math.Option.{Option}
 use Rattle.bmap.specs.Plain.{all, both, if_else}
 use Rattle.bmap.specs.Refusal.{Answer, got, refused, need, known, then}
 use Rattle.bmap.specs.Number.{signed_word}
 use Rattle.bmap.specs.Tree.{Expr, Con, constant, fluent, occurs, allowed_e, allowed_c, named_e, named_c, looking_back}
-use Rattle.bmap.specs.Code.{Parsed, code_of, parse_e, parse_c}
+use Rattle.bmap.specs.Code.{Parsed, two_bytes, code_of, parse_e, parse_c}
 use Rattle.bmap.specs.Domain.{has}
 use Rattle.bmap.specs.declared.limits.Context.{Context}
-use Rattle.law.specs.declared.checks.Checked.{Checked}
-use Rattle.law.specs.declared.checks.Checked.TheVariants.{Next, Refused}
 use Rattle.law.specs.declared.table.Node.{Node}
 use Rattle.law.specs.declared.table.Node.TheVariants as node
 use Rattle.law.specs.Table.{follows_in, operator_in, opened}
 
--- the code's type: a place, or refusal 4, "payload not as described"
-abbrev pub checked_of : Checked → Answer ℕ
-checked_of (Next n) = got n
-checked_of Refused = refused 4
+-- the code's answer: a place, or refusal 4, "payload not as described"
+abbrev pub checked_of : Maybe ℕ → Answer ℕ
+checked_of (Some n) = got n
+checked_of None = refused 4
 
 -- the same by a number: at place 0 no tree ends
 abbrev pub next_of : ℕ → Answer ℕ
@@ -113,10 +111,6 @@ leaf_in row a b = if_else (eqb (operator_in row) 0) (constant (signed_word a b))
 abbrev pub law_size : ℕ
 law_size = 128
 
-pub record LawIn (s : List ℕ) (n : ℕ) : Type 0 where
-  pub room : length s ≡ law_size
-  pub few : n ≤ law_size
-
 -- an expression that holds others stands there, with its row
 pub record Inner (s : List ℕ) (n at depth row : ℕ) : Type 0 where
   pub deep : 1 ≤ depth
@@ -135,12 +129,16 @@ con_end t depth s at = end_of (passes_c t) at (parse_c depth (drop at s))
 abbrev pub tree_end : ℕ → Test → ℕ → List ℕ → ℕ → Answer ℕ
 tree_end wanted t depth s at = if_else (eqb wanted 3) (con_end t depth s at) (expr_end t depth s at)
 
--- the row of what opens such a tree; 255 where it opens none
-abbrev pub row_for : ℕ → Node → ℕ
-row_for wanted (node.Expression row) = if_else (eqb wanted 3) 255 row
-row_for wanted (node.Constraint row) = if_else (eqb wanted 3) row 255
-row_for wanted node.Refused = 255
+-- the row of what opens such a tree
+abbrev pub row_for : ℕ → Node → Maybe ℕ
+row_for wanted (node.Expression row) = if_else (eqb wanted 3) None (Some row)
+row_for wanted (node.Constraint row) = if_else (eqb wanted 3) (Some row) None
+row_for wanted node.Refused = None
 
 -- whether the two bytes after such a leaf's code pass
 abbrev pub pair_passes : ℕ → Test → ℕ → ℕ → ℕ → Bool
 pair_passes wanted t row a b = if_else (eqb wanted 3) (passes_c t (occurs a b)) (passes_e t (leaf_in row a b))
+
+-- the place just after such a leaf
+abbrev pub leaf_end : ℕ → Test → ℕ → ℕ → List ℕ → Answer ℕ
+leaf_end wanted t row at l = if_else (eqb wanted 3) (end_of (passes_c t) at (two_bytes occurs l)) (end_of (passes_e t) at (two_bytes (leaf_in row) l))

@@ -1,5 +1,5 @@
 -- What the evaluator answers.
-use Rattle.std.specs.Prelude.{ℕ, ◌+◌, ◌-◌, ◌*◌, ◌≤◌, ◌<◌, Bool, List, ℤ, pos, ◌≡◌, length, drop, get_or, eqb, leb}
+use Rattle.std.specs.Prelude.{ℕ, ◌+◌, ◌-◌, ◌*◌, ◌≤◌, ◌<◌, Bool, Option as Maybe, None, Some, List, ℤ, pos, ◌≡◌, drop, get_or, eqb, leb}
 use Rattle.std.proofs.Math.Option.{Option, none, some}
 use Rattle.bmap.specs.Limits.{most_fluents, most_entries, most_laws, most_steps, frame_size}
 use Rattle.bmap.specs.Plain.{if_else}
@@ -10,11 +10,6 @@ use Rattle.bmap.specs.Code.{Parsed, code_of, parse_e, parse_c}
 use Rattle.std.specs.Int.Signed.{le_z}
 use Rattle.law.specs.declared.table.Node.TheVariants.{Expression}
 use Rattle.law.specs.Table.{opened, follows_in, operator_in}
-use Rattle.number.specs.Answer.{valued_of, truth_of}
-use Rattle.law.specs.declared.eval.Evaluated.{Evaluated}
-use Rattle.law.specs.declared.eval.Evaluated.TheVariants as value_as
-use Rattle.law.specs.declared.eval.Judged.{Judged}
-use Rattle.law.specs.declared.eval.Judged.TheVariants as truth_as
 
 -- The history that the code is lent, in rows: the levels of state k, with room for the most fluents, and after them a mark for
 -- each entry that occurs in the step from it, which is step k + 1. What was never written is 0.
@@ -43,12 +38,6 @@ history_of history = record {
 abbrev pub held_size : ℕ
 held_size = most_laws * frame_size
 
--- the lengths of what is lent, and a position within it
-pub record Lent (s : List ℕ) (history : List ℤ) (j : ℕ) : Type 0 where
-  pub held : length s ≡ held_size
-  pub rows : length history ≡ history_size
-  pub position : j ≤ most_steps
-
 -- what a tree at a place means, with the place just after the tree; or no tree stands there
 pub data Meant (A : Type 0) : Type 0 where
   malformed : Meant A
@@ -67,14 +56,10 @@ onward op (gives a n) = gives (op a) n
 abbrev pub at_position : {A : Type 0} → ℕ → Meant A → Meant A
 at_position j m = if_else (leb j most_steps) m malformed
 
--- the code's two types
-abbrev pub evaluated : Evaluated → Meant (Valued ℤ)
-evaluated value_as.Malformed = malformed
-evaluated (value_as.Gives v n) = gives (valued_of v) n
-
-abbrev pub judged : Judged → Meant (Valued Bool)
-judged truth_as.Malformed = malformed
-judged (truth_as.Gives v n) = gives (truth_of v) n
+-- the code's answer
+abbrev pub evaluated : {A : Type 0} → Maybe (A × ℕ) → Meant A
+evaluated None = malformed
+evaluated (Some (v, n)) = gives v n
 
 -- what the two bytes after a leaf's code give, by its row: a constant, or the level of a fluent at its lag
 abbrev pub leaf_of : ℕ → List ℤ → ℕ → ℕ → ℕ → Valued ℤ

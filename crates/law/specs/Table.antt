@@ -1,5 +1,5 @@
 -- The operand table: for each code the sort of its operands, how many there are, and which operator is made of them.
-use Rattle.std.specs.Prelude.{ℕ, ◌+◌, ◌*◌, ◌/◌, ◌%◌, Bool, List, [], ◌∷◌, map, eqb, leb}
+use Rattle.std.specs.Prelude.{ℕ, ◌+◌, ◌*◌, ◌/◌, ◌%◌, Bool, Option as Maybe, None, Some, List, [], ◌∷◌, map, eqb, leb}
 use Rattle.bmap.specs.Plain.{if_else, numbers}
 use Rattle.bmap.specs.Code.{Code, expression, constraint, no_code, a_constant, a_fluent, of_two, of_one, a_reified, of_comparison, of_junction, a_negation, an_occurrence, a_truth, a_look_back, code_of}
 use Rattle.bmap.specs.declared.Operation.{Operation}
@@ -10,8 +10,6 @@ use Rattle.bmap.specs.declared.Comparison.{Comparison}
 use Rattle.bmap.specs.declared.Comparison.TheVariants.{Equal, Unequal, Less, AtMost, Greater, AtLeast}
 use Rattle.bmap.specs.declared.Junction.{Junction}
 use Rattle.bmap.specs.declared.Junction.TheVariants.{And, Or}
-use Rattle.law.specs.declared.table.Pair.{Pair}
-use Rattle.law.specs.declared.table.Pair.TheVariants.{Bytes, Short}
 use Rattle.law.specs.declared.table.Node.{Node}
 use Rattle.law.specs.declared.table.Node.TheVariants.{Expression, Constraint, Refused}
 
@@ -134,7 +132,7 @@ opened (constraint c) = Constraint (row_of (constraint c))
 opened no_code = Refused
 
 -- the first two bytes
-abbrev pub pair_of : List ℕ → Pair
-pair_of [] = Short
-pair_of (a ∷ []) = Short
-pair_of (a ∷ b ∷ rest) = Bytes a b
+abbrev pub pair_of : List ℕ → Maybe (ℕ × ℕ)
+pair_of [] = None
+pair_of (a ∷ []) = None
+pair_of (a ∷ b ∷ rest) = Some (a, b)

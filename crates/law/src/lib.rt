@@ -14,6 +14,6 @@ mod names;
 mod packed;
 mod table;
 
-pub use checks::{Checked, check_constraint, check_expression};
-pub use eval::{Evaluated, HELD, HISTORY, Judged, ROW, constraint_at, expression_at};
+pub use checks::{check_constraint, check_expression};
+pub use eval::{HELD, HISTORY, ROW, constraint_at, expression_at};
 pub use names::names_only;

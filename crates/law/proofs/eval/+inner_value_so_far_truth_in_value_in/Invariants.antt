@@ -1,6 +1,6 @@
 -- `value_in` calls `inner_value`, and `so_far` calls `truth_in` at each position, with the same depth left; all other calls are with
 -- one level less.
-use Rattle.std.proofs.Common.{◌≡◌, ◌+◌, ◌-◌, ◌*◌, ◌≤◌}
+use Rattle.std.proofs.Common.{◌≡◌, ◌+◌, ◌*◌}
 use Rattle.law.specs.Table.{look_back_at}
 use Rattle.law.specs.Evaluate.{so_far_at}
 use Rattle.law.specs.Packed.{judged_in}
@@ -20,7 +20,4 @@ decreases-value_in l = 2 * l.depth + 1
 
 -- the positions up to i are joined
 abbrev pub invariant-so_far-loop-i : goal.invariant-so_far-loop-i
-invariant-so_far-loop-i l = (l.i ≤ l.j) × (judged_in l.all ≡ so_far_at (look_back_at l.n) l.depth l.s l.at l.history l.i)
-
-abbrev pub decreases-so_far-loop-i : goal.decreases-so_far-loop-i
-decreases-so_far-loop-i l = l.j - l.i
+invariant-so_far-loop-i l = judged_in l.all ≡ so_far_at (look_back_at l.n) l.depth l.s l.at l.history l.i

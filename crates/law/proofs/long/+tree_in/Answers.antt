@@ -1,7 +1,6 @@
 -- The tree at a place, by the row of its code.
-use Rattle.std.proofs.Common.{sym, ◌∙◌, subst, ℕ}
-use Rattle.law.specs.Check.{Asks, back_at}
-use Rattle.law.proofs.CheckLaws.{nowhere, there}
+use Rattle.std.proofs.Common.{sym, ap, ◌∙◌, subst, ℕ}
+use Rattle.law.specs.Check.{Asks, back_at, checked_of}
 use Rattle.law.proofs.MayLaws.{asks_inside}
 use Rattle.law.proofs.LongLaws.{long_deep, long_end, long_none, long_truth, long_short, long_passes, long_fails, long_back, long_barred, long_one, long_two, long_first}
 use Rattle.law.proofs.long.+tree_in.Goals as goal
@@ -16,59 +15,59 @@ returns-then-s-at t c = λ g asks.
     let a = c.args in
     long_end a.wanted g a.s.now a.at a.depth c.if-s-at.true
 
-pub returns-then-row : goal.returns-then-row
-returns-then-row t c = λ g asks.
+pub returns-in_err-row : goal.returns-in_err-row
+returns-in_err-row t c = λ g asks.
     let a = c.args in
-    long_none a.wanted g a.s.now a.at a.depth c.if-depth-eq0.false c.if-s-at.false c.row_for-row.ensures c.if-row.true
+    ap checked_of c.from_residual.ensures ∙ long_none a.wanted g a.s.now a.at a.depth c.if-depth-eq0.false c.if-s-at.false c.in_err-row.ensures
 
 pub returns-then-follows-eq-NOTHING : goal.returns-then-follows-eq-NOTHING
 returns-then-follows-eq-NOTHING t c = λ g asks.
     let a = c.args in
-    long_truth a.wanted g a.s.now a.at a.depth c.if-depth-eq0.false c.if-s-at.false c.row_for-row.ensures c.if-row.false (sym c.follows.ensures ∙ c.if-follows-eq-NOTHING.true)
+    long_truth a.wanted g a.s.now a.at a.depth c.if-depth-eq0.false c.if-s-at.false c.in_ok-row.ensures (sym c.follows.ensures ∙ c.if-follows-eq-NOTHING.true)
 
-pub returns-in_default : goal.returns-in_default
-returns-in_default t c = λ g asks.
+pub returns-in_err-a : goal.returns-in_err-a
+returns-in_err-a t c = λ g asks.
     let a = c.args in
-    long_short a.wanted g a.s.now a.at a.depth c.if-depth-eq0.false c.if-s-at.false c.row_for-row.ensures c.if-row.false (sym c.follows-2.ensures ∙ c.if-follows-eq-PAIR.true) c.in_default.ensures
+    ap checked_of c.from_residual-in_err-a.ensures ∙ long_short a.wanted g a.s.now a.at a.depth c.if-depth-eq0.false c.if-s-at.false c.in_ok-row.ensures (sym c.follows-2.ensures ∙ c.if-follows-eq-PAIR.true) c.in_err-a.ensures
 
-pub returns-then-pair_passes : goal.returns-then-pair_passes
-returns-then-pair_passes t c = λ g asks.
+pub returns-then-leaf_passes : goal.returns-then-leaf_passes
+returns-then-leaf_passes t c = λ g asks.
     let a = c.args in
-    long_passes a.wanted g a.s.now a.at a.depth c.if-depth-eq0.false c.if-s-at.false c.row_for-row.ensures c.if-row.false (sym c.follows-2.ensures ∙ c.if-follows-eq-PAIR.true) c.in-Bytes.ensures (sym (c.if-pair_passes.ensures g asks))
+    long_passes a.wanted g a.s.now a.at a.depth c.if-depth-eq0.false c.if-s-at.false c.in_ok-row.ensures (sym c.follows-2.ensures ∙ c.if-follows-eq-PAIR.true) c.in_ok-a.ensures (sym (c.if-leaf_passes.ensures g asks))
 
 pub returns-then-follows-eq-PAIR : goal.returns-then-follows-eq-PAIR
 returns-then-follows-eq-PAIR t c = λ g asks.
     let a = c.args in
-    long_fails a.wanted g a.s.now a.at a.depth c.if-depth-eq0.false c.if-s-at.false c.row_for-row.ensures c.if-row.false (sym c.follows-2.ensures ∙ c.if-follows-eq-PAIR.true) c.in-Bytes.ensures (sym (c.if-pair_passes.ensures g asks))
+    long_fails a.wanted g a.s.now a.at a.depth c.if-depth-eq0.false c.if-s-at.false c.in_ok-row.ensures (sym c.follows-2.ensures ∙ c.if-follows-eq-PAIR.true) c.in_ok-a.ensures (sym (c.if-leaf_passes.ensures g asks))
 
 pub returns-then-back_passes : goal.returns-then-back_passes
 returns-then-back_passes t c = λ g asks.
     let a = c.args in
     c.tree_in.ensures (back_at g) (subst (λ (m : ℕ). Asks m (back_at g)) (sym c.inside.ensures) (asks_inside g asks))
-    ∙ long_back a.wanted g a.s.now a.at a.depth c.if-depth-eq0.false c.if-s-at.false c.row_for-row.ensures c.if-row.false (sym c.if-looks_back.ensures) (sym asks.back ∙ sym c.if-back_passes.ensures)
+    ∙ long_back a.wanted g a.s.now a.at a.depth c.if-depth-eq0.false c.if-s-at.false c.in_ok-row.ensures (sym c.if-looks_back.ensures) (sym asks.back ∙ sym c.if-back_passes.ensures)
 
 pub returns-then-looks_back : goal.returns-then-looks_back
 returns-then-looks_back t c = λ g asks.
     let a = c.args in
-    long_barred a.wanted g a.s.now a.at a.depth c.if-depth-eq0.false c.if-s-at.false c.row_for-row.ensures c.if-row.false (sym c.if-looks_back.ensures) (sym asks.back ∙ sym c.if-back_passes.ensures)
+    long_barred a.wanted g a.s.now a.at a.depth c.if-depth-eq0.false c.if-s-at.false c.in_ok-row.ensures (sym c.if-looks_back.ensures) (sym asks.back ∙ sym c.if-back_passes.ensures)
 
 pub returns-then-count-eq1 : goal.returns-then-count-eq1
 returns-then-count-eq1 t c = λ g asks.
     let a = c.args in
     c.tree_in-middle.ensures g asks
-    ∙ long_one a.wanted g a.s.now a.at a.depth c.if-depth-eq0.false c.if-s-at.false c.row_for-row.ensures c.if-row.false c.sort-operands.ensures (sym c.if-looks_back.ensures) (sym c.count.ensures ∙ c.if-count-eq1.true)
+    ∙ long_one a.wanted g a.s.now a.at a.depth c.if-depth-eq0.false c.if-s-at.false c.in_ok-row.ensures c.sort-operands.ensures (sym c.if-looks_back.ensures) (sym c.count.ensures ∙ c.if-count-eq1.true)
 
-pub returns-then-middle-eq-REFUSED : goal.returns-then-middle-eq-REFUSED
-returns-then-middle-eq-REFUSED t c = λ g asks.
+pub returns-in_err-middle : goal.returns-in_err-middle
+returns-in_err-middle t c = λ g asks.
     let a = c.args in
-    long_first a.wanted g a.s.now a.at a.depth c.if-depth-eq0.false c.if-s-at.false c.row_for-row.ensures c.if-row.false c.sort-operands.ensures
+    ap checked_of c.from_residual-in_err-middle.ensures ∙ long_first a.wanted g a.s.now a.at a.depth c.if-depth-eq0.false c.if-s-at.false c.in_ok-row.ensures c.sort-operands.ensures
     (λ e. c.if-follows-eq-NOTHING.false (c.follows.ensures ∙ e)) (λ e. c.if-follows-eq-PAIR.false (c.follows-2.ensures ∙ e)) (λ e. c.if-count-eq1.false (c.count.ensures ∙ e))
-    (nowhere c.if-middle-eq-REFUSED.true ∙ c.tree_in-middle.ensures g asks)
+    (c.in_err-middle.ensures g asks)
 
 pub returns : goal.returns
 returns t c = λ g asks.
     let a = c.args in
     c.tree_in-2.ensures g asks
-    ∙ long_two a.wanted g a.s.now a.at a.depth c.if-depth-eq0.false c.if-s-at.false c.row_for-row.ensures c.if-row.false c.sort-operands.ensures
+    ∙ long_two a.wanted g a.s.now a.at a.depth c.if-depth-eq0.false c.if-s-at.false c.in_ok-row.ensures c.sort-operands.ensures
     (λ e. c.if-follows-eq-NOTHING.false (c.follows.ensures ∙ e)) (λ e. c.if-follows-eq-PAIR.false (c.follows-2.ensures ∙ e)) (λ e. c.if-count-eq1.false (c.count.ensures ∙ e))
-    (there _ c.if-middle-eq-REFUSED.false ∙ c.tree_in-middle.ensures g asks)
+    (c.in_ok-middle.ensures g asks)

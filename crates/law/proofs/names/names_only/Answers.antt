@@ -1,3 +1,4 @@
+use mathlib.Core.Path.{◌∙◌}
 use lib.ListN.{drop}
 use Rattle.bmap.specs.Limits.{most_depth}
 use Rattle.bmap.specs.Code.{parse_c}
@@ -7,4 +8,4 @@ use Rattle.law.proofs.names.names_only.Goals as goal
 
 pub returns : goal.returns
 returns c =
-    names_known c.args.mask c.args.at c.constraint_end.result (parse_c most_depth (drop c.args.at c.args.s.now)) (c.constraint_end.ensures (in_mask c.args.mask) c.only_of.ensures)
+    c.is_some.ensures ∙ names_known c.args.mask c.args.at c.tree_end.result (parse_c most_depth (drop c.args.at c.args.s.now)) (c.tree_end.ensures (in_mask c.args.mask) c.only_of.ensures)

@@ -4,11 +4,11 @@ use Rattle.law.specs.Packed.{value_in}
 use Rattle.law.proofs.PackedLaws.{lowered, packed_none, packs}
 use Rattle.law.proofs.packed.with_value.Goals as goal
 
-pub returns-in-Number : goal.returns-in-Number
+pub returns-in-Ok : goal.returns-in-Ok
 unfolding value_in
-returns-in-Number c = packs {z = c.in-Number.z} (search rules) c.requires.0 ∙ rw c.in-Number.is
+returns-in-Ok c = packs {z = c.in-Ok.z} (search rules) c.args.end ∙ rw c.in-Ok.is
 
-pub returns-in-NoValue : goal.returns-in-NoValue
+pub returns-in-Err : goal.returns-in-Err
 unfolding value_in
-returns-in-NoValue c =
-    packed_none lowered c.args.end c.requires.0 c.in-NoValue.why c.reason_bits.ensures ∙ rw c.in-NoValue.is
+returns-in-Err c =
+    packed_none lowered c.args.end c.in-Err.why (search rules) ∙ rw c.in-Err.is

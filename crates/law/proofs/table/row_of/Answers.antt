@@ -7,4 +7,4 @@ use Rattle.law.proofs.table.row_of.Goals as goal
 
 pub returns : goal.returns
 returns c =
-    ap (λ (l : List ℕ). get_or l (c.args.code - 0x10) 0) c.requires.0 ∙ row_at c.args.code c.requires.1.0 c.requires.1.1
+    ap (λ (l : List ℕ). get_or l (c.args.code - 0x10) 0) c.requires.whole ∙ row_at c.args.code c.requires.from_first c.requires.to_last

@@ -7,19 +7,42 @@ use Rattle.bmap.specs.Tree.{always}
 use Rattle.bmap.specs.Domain.{Domain, Fluent, Knows, Entry, Law, must, static}
 use Rattle.bmap.specs.Payload.{law_in}
 use Rattle.index.specs.declared.Index.{Index}
+use Rattle.index.specs.declared.Fluent.{Fluent as FluentRow}
+use Rattle.index.specs.declared.Knowledge.{Knowledge as KnowledgeRow}
+use Rattle.index.specs.declared.Entry.{Entry as EntryRow}
 
 -- the frame at a place: as many bytes as its count says and the store has
 unfoldable pub frame_bytes : List ℕ → ℕ → List ℕ
 frame_bytes s at = take (get_or s (at + 1) 0 + 2) (drop at s)
 
+-- all zeros: what stands in an array after the last
+abbrev pub no_fluent : FluentRow
+no_fluent = record { lowest = pos 0; highest = pos 0; start = pos 0; limit = 0 }
+
+abbrev pub no_knowledge : KnowledgeRow
+no_knowledge = record { fluent = 0; knowers = 0 }
+
+abbrev pub no_entry : EntryRow
+no_entry = record { name = 0; crew = 0 }
+
+-- what the rows say
+abbrev pub fluent_said : FluentRow → Fluent
+fluent_said r = record { lowest = r.lowest; highest = r.highest; start = r.start; limit = r.limit }
+
+abbrev pub knowledge_said : KnowledgeRow → Knows
+knowledge_said r = record { fluent = r.fluent; mask = r.knowers }
+
+abbrev pub entry_said : EntryRow → Entry
+entry_said r = record { name = r.name; crew = r.crew }
+
 abbrev pub fluent_at : Index → ℕ → Fluent
-fluent_at x f = record { lowest = get_or x.lowest f (pos 0); highest = get_or x.highest f (pos 0); start = get_or x.start f (pos 0); limit = get_or x.limit f 0 }
+fluent_at x f = fluent_said (get_or x.fluents f no_fluent)
 
 abbrev pub knowledge_at : Index → ℕ → Knows
-knowledge_at x i = record { fluent = get_or x.known i 0; mask = get_or x.knowers i 0 }
+knowledge_at x i = knowledge_said (get_or x.knowledge i no_knowledge)
 
 abbrev pub entry_of : Index → ℕ → Entry
-entry_of x i = record { name = get_or x.names i 0; crew = get_or x.crews i 0 }
+entry_of x i = entry_said (get_or x.entries i no_entry)
 
 abbrev pub law_bytes : List ℕ → Index → ℕ → List ℕ
 law_bytes s x i = frame_bytes s (get_or x.laws i 0)

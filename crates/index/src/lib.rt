@@ -3,28 +3,44 @@
 // is handed out of a store is cut here, so that its place is promised once.
 #![tactic(auto)]
 
-ghost use Rattle.std.specs.Prelude.{◌≡◌, ◌-◌, ◌≤◌, length, get_or, take, drop};
+ghost use Rattle.std.specs.Prelude.{◌≡◌, get_or, take, drop};
 ghost use Rattle.index.specs.Index.{frame_bytes};
 ghost use Rattle.index.specs.Place.{StandsAt};
 
 use bmap::Counts;
 
-#[derive(Clone, Copy)]
+#[derive(Clone, Copy, Debug, PartialEq, Eq)]
 pub struct Index {
     pub counts: Counts,
-    // A2: a fluent's range, its start value and the limit of its change in one step, 0 where it has none.
-    pub lowest: [i16; Counts::FLUENTS],
-    pub highest: [i16; Counts::FLUENTS],
-    pub start: [i16; Counts::FLUENTS],
-    pub limit: [u16; Counts::FLUENTS],
-    // A3: a fluent, and the mask of the agents who know it.
-    pub known: [u8; Counts::KNOWLEDGE],
-    pub knowers: [u16; Counts::KNOWLEDGE],
-    // A4: an action's name, and the mask of its crew.
-    pub names: [u8; Counts::ENTRIES],
-    pub crews: [u16; Counts::ENTRIES],
+    // A2 to A4, each kind in its order, zeros after.
+    pub fluents: [Fluent; Counts::FLUENTS],
+    pub knowledge: [Knowledge; Counts::KNOWLEDGE],
+    pub entries: [Entry; Counts::ENTRIES],
     // A5 to A9: the place of the law's frame in the store.
     pub laws: [u16; Counts::LAWS],
+}
+
+// A2: a fluent's range, its start value and the limit of its change in one step: 0 where it has none, as in `Domain.Fluent`.
+#[derive(Clone, Copy, Debug, PartialEq, Eq)]
+pub struct Fluent {
+    pub lowest: i16,
+    pub highest: i16,
+    pub start: i16,
+    pub limit: u16,
+}
+
+// A3: a fluent, and the mask of the agents who know it.
+#[derive(Clone, Copy, Debug, PartialEq, Eq)]
+pub struct Knowledge {
+    pub fluent: u8,
+    pub knowers: u16,
+}
+
+// A4: an action's name, and the mask of its crew.
+#[derive(Clone, Copy, Debug, PartialEq, Eq)]
+pub struct Entry {
+    pub name: u8,
+    pub crew: u16,
 }
 
 // The frame of law i as it stands in the store: its kind, its count and its payload. Whoever reads the law in force asks
@@ -33,45 +49,29 @@ pub struct Index {
 pub fn law_at<'a>(store: &'a [u8], laws: &[u16], i: usize) -> &'a [u8]
     ensures { StandsAt store.entry (get_or laws.now i 0) (frame_bytes store.now (get_or laws.now i 0)) result }
 {
-    if i >= laws.len() {
-        return frame_from(store, 0);
-    }
-    frame_from(store, laws[i] as usize)
+    let at = laws.get(i).copied().unwrap_or(0);
+    frame_from(store, at as usize)
 }
 
 // The bytes of the frame at a place: as many as its count says and the store has.
 pub fn frame_from<'a>(store: &'a [u8], at: usize) -> &'a [u8]
     ensures { StandsAt store.entry at (frame_bytes store.now at) result }
 {
-    if store.len() <= at {
-        return part(store, at, 0);
-    }
-    part(store, at, byte_at(store, at + 1) as usize + 2)
+    let count = byte_at(store, at.saturating_add(1));
+    part(store, at, count as usize + 2)
 }
 
 // So many bytes of a store from a place on, or as many as it has, where they stand: every part that is handed out is cut here.
 pub fn part<'a>(store: &'a [u8], at: usize, size: usize) -> &'a [u8]
     ensures { StandsAt store.entry at (take size (drop at store.now)) result }
 {
-    if store.len() <= at {
-        return &store[..0];
-    }
-    if store.len() - at < size {
-        return cut(store, at, store.len());
-    }
-    cut(store, at, at + size)
-}
-
-fn cut<'a>(store: &'a [u8], at: usize, end: usize) -> &'a [u8]
-    requires { (at ≤ end) × (end ≤ length store.now) }
-    ensures { StandsAt store.entry at (take (end - at) (drop at store.now)) result }
-{
-    &store[at..end]
+    let rest = &store[at.min(store.len())..];
+    &rest[..size.min(rest.len())]
 }
 
 // A byte of any bytes, 0 past their end.
 pub fn byte_at(bytes: &[u8], i: usize) -> u8
     ensures { result ≡ get_or bytes.now i 0 }
 {
-    if i < bytes.len() { bytes[i] } else { 0 }
+    bytes.get(i).copied().unwrap_or(0)
 }

@@ -3,6 +3,8 @@ use Prim.Native.Nat.{ℕ}
 use native.Mathlib.Omega.{arith}
 use mathlib.Core.Path.{◌≡◌, refl, ap}
 use mathlib.Core.Bool.{Bool, true, false}
+use Rattle.std.specs.Prelude.{Option as Maybe, None, Some, MatchOption}
+use Rattle.std.specs.Option.{is_some}
 use Rattle.bmap.specs.Refusal.{Answer, got, refused, need, then, Reading, read, at_line}
 
 module _ {A B C : Type 0} where
@@ -37,3 +39,12 @@ then_refused (refused m) f n q = let z : m ≡ n = cc in ap refused z
 pub at_line_read : {A B : Type 0} (n : ℕ) (y : Answer A) (k : A → Reading B) (x : B) → at_line n y k ≡ read x → (a : A) × (y ≡ got a) × (k a ≡ read x)
 at_line_read n (got a) k x e = (a, refl, e)
 at_line_read n (refused m) k x e = absurd (let z : ◌≡◌ {A = ℕ} 0 1 = cc in omega arith)
+
+-- what is said of an answer that is asked only whether it is there
+pub not_there : {A : Type 0} (o : Maybe A) (P : Type 0) (Q : A → Type 0) → is_some o ≡ false → MatchOption o P Q → P
+not_there None P Q e m = m
+not_there (Some x) P Q e m = absurd (let z : ◌≡◌ {A = ℕ} 0 1 = cc in omega arith)
+
+pub there : {A : Type 0} (o : Maybe A) (P : Type 0) (Q : A → Type 0) → is_some o ≡ true → MatchOption o P Q → (x : A) × Q x
+there None P Q e m = absurd (let z : ◌≡◌ {A = ℕ} 0 1 = cc in omega arith)
+there (Some x) P Q e m = (x, m)

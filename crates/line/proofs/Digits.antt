@@ -128,8 +128,9 @@ in_ranges c = go (leb 48 c) (leb c 57) (leb 65 c) (leb c 70) refl refl
 -- what the code subtracts from a digit
 pub record Shifted (c : ℕ) : Type 0 where
   pub least : 48 ≤ c
-  pub number : c < 58 → c - 48 ≡ worth (digit c)
-  pub letter : 58 ≤ c → c - 55 ≡ worth (digit c)
+  pub number : c ≤ 57 → c - 48 ≡ worth (digit c)
+  pub least_letter : 57 < c → 65 ≤ c
+  pub letter : 57 < c → c - 65 + 10 ≡ worth (digit c)
 
 known : (c : ℕ) → is_digit c ≡ true → (d : ℕ) × Digit c d
 unfolding is_digit
@@ -147,11 +148,11 @@ shifted c h = let (d, x) = known c h in go d x (ltb d 10) refl
     go d x true e =
         let l = ltb-true d 10 e in
         let k : d + 48 ≡ c = simp e at x.back in
-        record { least = omega arith; number = λ m. rw x.is (omega arith); letter = λ m. absurd (omega arith) }
+        record { least = omega arith; number = λ m. rw x.is (omega arith); least_letter = λ m. absurd (omega arith); letter = λ m. absurd (omega arith) }
     go d x false e =
         let l = ltb-false d 10 e in
         let k : d + 55 ≡ c = simp e at x.back in
-        record { least = omega arith; number = λ m. absurd (omega arith); letter = λ m. rw x.is (omega arith) }
+        record { least = omega arith; number = λ m. absurd (omega arith); least_letter = λ m. omega arith; letter = λ m. rw x.is (omega arith) }
 
 -- ---- a pair
 
@@ -210,6 +211,22 @@ pub pair_back : (x : ℕ) → x < 256 → pair (digit_for (x / 16)) (digit_for (
 pair_back x h =
     let e : x / 16 * 16 + x % 16 ≡ x = omega arith in
     simp (digit_back (x / 16) (omega arith), digit_back (x % 16) (omega arith), e)
+
+-- a byte's digits are the pair that spells it, and no other
+pub pair_of_digits : (x : ℕ) → x < 256 → pair_of (digit_for (x / 16)) (digit_for (x % 16)) ≡ x
+pair_of_digits x h = go (pair_is (digit_for (x / 16)) (digit_for (x % 16))) (pair_back x h)
+  where
+    go : ((y : ℕ) × Pair (digit_for (x / 16)) (digit_for (x % 16)) y) ⊎ NoPair (digit_for (x / 16)) (digit_for (x % 16)) → pair (digit_for (x / 16)) (digit_for (x % 16)) ≡ got x
+        → pair_of (digit_for (x / 16)) (digit_for (x % 16)) ≡ x
+    go (inl (y, p)) e = let q : got y ≡ got x = sym p.is ∙ e in let z : y ≡ x = cc in p.of ∙ z
+    go (inr p) e = absurd (let q : refused 1 ≡ got x = sym p.is ∙ e in let z : ◌≡◌ {A = ℕ} 0 1 = cc in omega arith)
+
+pub digits_of_pair : (a b x : ℕ) → x < 256 → pair_of a b ≡ x → (a ≡ digit_for (x / 16)) × (b ≡ digit_for (x % 16))
+digits_of_pair a b x h e = go (pair_is a b)
+  where
+    go : ((y : ℕ) × Pair a b y) ⊎ NoPair a b → (a ≡ digit_for (x / 16)) × (b ≡ digit_for (x % 16))
+    go (inl (y, p)) = let z : y ≡ x = sym p.of ∙ e in (sym p.high ∙ ap (λ (n : ℕ). digit_for (n / 16)) z, sym p.low ∙ ap (λ (n : ℕ). digit_for (n % 16)) z)
+    go (inr p) = absurd (omega (arith, p.of))
 
 -- ---- the bytes that pairs spell
 

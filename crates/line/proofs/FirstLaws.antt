@@ -14,7 +14,9 @@ use borrow.Author.Tests.{eqb-true, eqb-false, eq-eqb, ne_eqb, le-leb}
 use Rattle.bmap.specs.Refusal.{Answer, got, refused, need, then}
 use Rattle.bmap.specs.Line.{Frame, lines_of, bytes, framed, decode, stored}
 use Rattle.bmap.specs.Limits.{frame_size}
-use Rattle.line.specs.Read.{Taken, said, first_of, spelt}
+use Rattle.line.specs.Read.{first_of, spelt}
+use Rattle.line.specs.Write.{answer_of}
+use Rattle.line.specs.declared.read.FirstFrame.{FirstFrame}
 use Rattle.line.specs.Within.{Begins, frame_of}
 use Rattle.line.proofs.Digits.{spelt_most}
 use Rattle.line.proofs.Spelling.{beyond, passed, passed_on, stops, stops_anywhere}
@@ -26,7 +28,7 @@ use Rattle.line.proofs.HexLaws.{framed_long}
 abbrev pub decoded : List ℕ → Answer Frame
 decoded s = need (ends s) 1 (then (bytes (front s)) framed)
 
-abbrev pub size_in : List ℕ → Frame → Taken
+abbrev pub size_in : List ℕ → Frame → FirstFrame
 size_in s f = record { bytes = length (stored f); characters = suc (length (front s)) }
 
 pub first_is : (s : List ℕ) → 0 < length s → first_of (lines_of s) ≡ some (then (decoded s) (λ f. got (size_in s f)))
@@ -39,14 +41,14 @@ first_refused s n h e = sym (first_is s h ∙ rw e refl)
 
 -- what the bytes before a LF come to
 frame_said : (b : List ℕ) (count : ℕ) → length b ≤ frame_size → (2 ≤ length b → count ≡ get_or b 1 0)
-    → said (frame_of (length b) count) ≡ some (then (framed b) (λ f. got (record { bytes = length (stored f); characters = suc (2 * length b) })))
+    → some (answer_of (frame_of (length b) count)) ≡ some (then (framed b) (λ f. got (record { bytes = length (stored f); characters = suc (2 * length b) })))
 unfolding frame_of framed
 frame_said [] count h e = refl
 frame_said (k ∷ []) count h e = simp (ne_eqb (count + 2) 1 (λ z. omega arith))
 frame_said (k ∷ c ∷ p) count h e = rw (e (omega arith)) (go (eqb c (length p)) refl)
   where
     go : (t : Bool) → eqb c (length p) ≡ t
-        → said (frame_of (length (k ∷ c ∷ p)) c) ≡ some (then (framed (k ∷ c ∷ p)) (λ f. got (record { bytes = length (stored f); characters = suc (2 * length (k ∷ c ∷ p)) })))
+        → some (answer_of (frame_of (length (k ∷ c ∷ p)) c)) ≡ some (then (framed (k ∷ c ∷ p)) (λ f. got (record { bytes = length (stored f); characters = suc (2 * length (k ∷ c ∷ p)) })))
     go true q =
         let l : c ≡ length p = eqb-true c (length p) q in
         simp (q, le-leb c 120 (omega arith), ne_eqb (suc (suc (length p))) 0 (λ z. omega arith), eq-eqb (c + 2) (suc (suc (length p))) (omega arith), add-one)
@@ -54,7 +56,7 @@ frame_said (k ∷ c ∷ p) count h e = rw (e (omega arith)) (go (eqb c (length p
         simp (q, both_false, ne_eqb (suc (suc (length p))) 0 (λ z. omega arith), ne_eqb (c + 2) (suc (suc (length p))) (λ z. eqb-false c (length p) q (omega arith)))
 
 -- a LF follows the pairs
-pub line_ends : (s : List ℕ) (n count : ℕ) → Begins s n count → get_or s (2 * n) 0 ≡ 10 → said (frame_of n count) ≡ first_of (lines_of s)
+pub line_ends : (s : List ℕ) (n count : ℕ) → Begins s n count → get_or s (2 * n) 0 ≡ 10 → some (answer_of (frame_of n count)) ≡ first_of (lines_of s)
 line_ends s n count h e =
     let b = spelt frame_size s in
     let q = at_feed (beyond frame_size s) (get_or-drop (2 * length b) s 0 0 ∙ ap (λ (i : ℕ). get_or s i 0) (omega (arith, h.pairs)) ∙ e) in

@@ -3,7 +3,7 @@ use Prim.Native.Nat.{ℕ, suc, ◌+◌, ◌≤◌, ◌<◌}
 use native.Mathlib.Omega.{arith}
 use mathlib.Core.Path.{◌≡◌, refl}
 use mathlib.Core.Bool.{true, false}
-use mathlib.Core.Option.{none, some}
+use Rattle.std.specs.Prelude.{None, Some}
 use mathlib.Core.List.{List}
 use lib.ListN.{length, get_or, take, drop, length-drop}
 use lib.Seq.{length-take-le}
@@ -14,23 +14,23 @@ use Rattle.bmap.proofs.PlainLaws.{both_false}
 use Rattle.line.specs.Frame.{frame_size_at}
 
 module _ (s : List ℕ) (at : ℕ) where
-  no_frame : stands_at s at ≡ false → none ≡ frame_size_at s at
+  no_frame : stands_at s at ≡ false → None ≡ frame_size_at s at
   unfolding frame_size_at frame_at
   no_frame e = rw e refl
 
-  pub no_head : length s < at + 2 → none ≡ frame_size_at s at
+  pub no_head : length s < at + 2 → None ≡ frame_size_at s at
   unfolding stands_at
   no_head h = no_frame (simp (lt-leb (at + 2) (length s) h))
 
-  pub no_kind : get_or s at 0 ≡ 0 → none ≡ frame_size_at s at
+  pub no_kind : get_or s at 0 ≡ 0 → None ≡ frame_size_at s at
   unfolding stands_at
   no_kind e = no_frame (simp (eq-eqb (get_or s at 0) 0 e, both_false))
 
-  pub long_count : most_payload < get_or s (at + 1) 0 → none ≡ frame_size_at s at
+  pub long_count : most_payload < get_or s (at + 1) 0 → None ≡ frame_size_at s at
   unfolding stands_at
   long_count h = no_frame (simp (lt-leb (get_or s (at + 1) 0) most_payload h, both_false))
 
-  pub no_payload : length s < at + 2 + get_or s (at + 1) 0 → none ≡ frame_size_at s at
+  pub no_payload : length s < at + 2 + get_or s (at + 1) 0 → None ≡ frame_size_at s at
   unfolding stands_at
   no_payload h = no_frame (simp (lt-leb (at + 2 + get_or s (at + 1) 0) (length s) h, both_false))
 
@@ -46,7 +46,7 @@ module _ (s : List ℕ) (at : ℕ) where
       )
 
   pub frame_stands : (get_or s at 0 ≡ 0 → ⊥) → get_or s (at + 1) 0 ≤ most_payload → at + 2 + get_or s (at + 1) 0 ≤ length s
-      → some (get_or s (at + 1) 0 + 2) ≡ frame_size_at s at
+      → Some (get_or s (at + 1) 0 + 2) ≡ frame_size_at s at
   unfolding frame_size_at frame_at
   frame_stands k c p =
       let l : length (take (get_or s (at + 1) 0) (drop (at + 2) s)) ≡ get_or s (at + 1) 0

@@ -14,7 +14,8 @@ use Rattle.bmap.specs.Limits.{most_payload, frame_size}
 use Rattle.bmap.specs.Refusal.{Answer, got, refused, then}
 use Rattle.bmap.specs.Line.{Line, Frame, line_feed, lines_of, decode, stored, hex, line_for}
 use Rattle.bmap.specs.Buffer.{over}
-use Rattle.line.specs.Read.{Taken, first_of, line_read, bytes_read, spelt}
+use Rattle.line.specs.declared.read.FirstFrame.{FirstFrame}
+use Rattle.line.specs.Read.{first_of, line_read, bytes_read, spelt}
 use Rattle.line.specs.Within.{Begins, Whole}
 use Rattle.line.proofs.Digits.{spelt_most}
 use Rattle.line.proofs.Spelling.{spelt_all}
@@ -68,7 +69,7 @@ module _ (text out p : List ℕ) (n : ℕ) (room : frame_size ≤ length out) (c
         ∙ get_or-append (spelt frame_size text) (drop (length (spelt frame_size text)) out) 0 1 (omega (arith, count, ap length spelt_size));
   }
 
-  pub read_done : (answer : Option (Answer Taken)) → answer ≡ first_of (lines_of text)
+  pub read_done : (answer : Option (Answer FirstFrame)) → answer ≡ first_of (lines_of text)
       → (answer ≡ line_read text out) × (p ++ drop frame_size out ≡ bytes_read text out)
   read_done answer e = (e ∙ sym (read_in_room text out room), at_front ∙ sym (bytes_in_room text out room))
 
@@ -135,8 +136,8 @@ took s out exit n k h e x =
     let j : then (decoded s) (λ f. got (size_in s f)) ≡ got (record { bytes = n; characters = k }) = cc (first_is s h) in
     let (f, ef, et) = then_got_inv (decoded s) (λ f. got (size_in s f)) (record { bytes = n; characters = k }) j in
     let q : size_in s f ≡ record { bytes = n; characters = k } = cc in
-    let en : length (stored f) ≡ n = ap (λ (t : Taken). t.bytes) q in
-    let ek : suc (length (front s)) ≡ k = ap (λ (t : Taken). t.characters) q in
+    let en : length (stored f) ≡ n = ap (λ (t : FirstFrame). t.bytes) q in
+    let ek : suc (length (front s)) ≡ k = ap (λ (t : FirstFrame). t.characters) q in
     let d = decodes (first_line s) f ef in
     let fr : front s ≡ hex (stored f) = hex_bytes (front s) (stored f) d.spells in
     let lf : length (front s) ≡ 2 * n = ap length fr ∙ length_hex (stored f) ∙ omega arith in

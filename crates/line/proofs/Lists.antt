@@ -1,19 +1,18 @@
 -- Laws of lists: zeros after a front, a part to the end, what is written over a front, what is asked of every element.
-use Prim.Native.Nat.{ℕ, min, zero, suc, ◌+◌, ◌-◌, ◌≤◌, ◌<◌}
+use Prim.Native.Nat.{ℕ, zero, suc, ◌+◌, ◌-◌, ◌≤◌, ◌<◌}
 use native.Mathlib.Nat.{le_of_suc-le-suc, not-suc-le-zero}
 use native.Mathlib.Numerals.{add-one}
 use native.Mathlib.Omega.{arith}
-use mathlib.Core.Path.{◌≡◌, refl, sym, ap, ◌∙◌}
+use mathlib.Core.Path.{◌≡◌, refl, ap, ◌∙◌}
 use mathlib.Core.Bool.{Bool, true, false, ◌&&◌}
-use mathlib.Core.List.{List, [], ◌∷◌, ◌++◌, append-nil, append_assoc}
+use mathlib.Core.List.{List, [], ◌∷◌, ◌++◌}
 use lib.Dec.{T, eqb, ltb}
 use lib.Bits.{bit_or, or_add_and, and_le_l, and_le_r}
-use lib.ListN.{length, get_or, take, drop, set, replicate, drop_of_length-le, length-drop, length-append, length-take, length-replicate, take-append-drop, replicate-append-replicate}
-use lib.Seq.{drop-cons, take_all, length-take-le, set_at, get_or-drop}
+use lib.ListN.{length, get_or, take, drop, replicate, drop_of_length-le, length-drop, length-append}
+use lib.Seq.{drop-cons, take_all, length-take-le, get_or-drop}
 use borrow.Author.Tests.{ltb-true, eqb-true, eqb-false, eq-eqb, ne_eqb}
 use Rattle.bmap.specs.Plain.{both, all}
 use Rattle.bmap.proofs.PlainLaws.{both_true, both_assoc, both_end}
-use Rattle.bmap.specs.Buffer.{padded}
 use Rattle.bmap.specs.Store.{zeros}
 use Rattle.bmap.specs.Theorems.{AreBytes}
 
@@ -51,31 +50,6 @@ bytes_take (suc n) (x ∷ s) h (suc i) = bytes_take n s (λ j. h (suc j)) i
 
 pub bytes_drop : (n : ℕ) (s : List ℕ) → Bytes s → Bytes (drop n s)
 bytes_drop n s h i = rw (get_or-drop n s i 0) (h (n + i))
-
--- ---- zeros from a place
-
--- the zeros from `at` have come as far as i
-abbrev pub zeroing : List ℕ → ℕ → ℕ → List ℕ
-zeroing b at i = take at b ++ (replicate (i - at) 0 ++ drop i b)
-
-pub zero_start : (b : List ℕ) (at : ℕ) → b ≡ zeroing b at at
-zero_start b at = let z : at - at ≡ 0 = omega arith in rw z (sym (take-append-drop at b))
-
-pub zero_more : (b : List ℕ) (at i : ℕ) → at ≤ i → i < length b → set (zeroing b at i) i 0 ≡ zeroing b at (i + 1)
-zero_more b at i h k =
-    let n : i + 1 - at ≡ (i - at) + 1 = omega arith in
-    let z : List ℕ = replicate (i - at) 0 in
-    let l : length (take at b ++ z) ≡ i = length-append (take at b) z ∙ omega (arith, length-take-le at b (omega arith), length-replicate {A = ℕ} (i - at) 0) in
-    rw (n, add-one i, drop-cons b i 0 k, ← append_assoc (take at b) z (get_or b i 0 ∷ drop (suc i) b))
-    (set_at (take at b ++ z) (get_or b i 0) (drop (suc i) b) 0 i l
-    ∙ append_assoc (take at b) z (0 ∷ drop (suc i) b)
-    ∙ ap (λ (x : List ℕ). take at b ++ x) (sym (append_assoc z (0 ∷ []) (drop (suc i) b)))
-    ∙ ap (λ (x : List ℕ). take at b ++ (x ++ drop (suc i) b)) (replicate-append-replicate (i - at) 1 0))
-
-pub zero_end : (b : List ℕ) (at i : ℕ) → at ≤ i → i - at ≤ length b - at → length b ≤ i → zeroing b at i ≡ padded (length b) (take at b)
-zero_end b at i h k e =
-    let n : i - at ≡ length b - min at (length b) = omega arith in
-    rw (drop_of_length-le b e, append-nil, length-take at b, n)
 
 -- ---- every element is asked, and none ends the asking
 

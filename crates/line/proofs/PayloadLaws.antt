@@ -1,28 +1,31 @@
 -- A payload that is decoded and asked for at once: block after block, byte by byte, and the line that it stands in.
-use Prim.Native.Nat.{ℕ, zero, suc, ◌+◌, ◌-◌, ◌*◌, ◌≤◌, ◌<◌}
+use Prim.Native.Nat.{ℕ, zero, suc, ◌+◌, ◌-◌, ◌*◌, ◌/◌, ◌%◌, ◌≤◌, ◌<◌}
 use native.Mathlib.Numerals.{add-one}
 use native.Mathlib.Omega.{arith}
 use mathlib.Core.Path.{◌≡◌, refl, sym, ap, subst, ◌∙◌}
 use mathlib.Core.Logic.{◌⊎◌, inl, inr}
 use mathlib.Core.Bool.{Bool, true, false}
 use mathlib.Core.Option.{Option, none, some}
-use mathlib.Core.List.{List, [], ◌∷◌, ◌++◌, append-nil, append_assoc}
+use mathlib.Core.List.{List, [], ◌∷◌, ◌++◌, append_assoc}
+use Rattle.std.specs.List.{starts_with}
+use Rattle.std.proofs.lemmas.Bool.Decides.{Decides-eqb}
+use Rattle.std.proofs.lemmas.Slice.Eq.{starts_is}
 use lib.Dec.{eqb, ltb}
-use lib.ListN.{length, get_or, take, drop, set, replicate, length-drop, drop_of_length-le}
+use lib.ListN.{length, get_or, take, drop, set, replicate, length-drop, take-append-drop}
 use lib.Seq.{get_or-drop, take_at, drop_at, take-length, take-suc-set}
 use borrow.Author.Tests.{ltb-true, ltb-false, eqb-true, eq-eqb}
 use Rattle.bmap.specs.Plain.{both, if_else, all, maybe}
 use Rattle.bmap.specs.Limits.{most_payload, frame_size}
 use Rattle.bmap.specs.Refusal.{Answer, got, refused, then}
-use Rattle.bmap.specs.Line.{Line, Frame, line_feed, lines_of, decode, line_size, line_for, hex, stored}
-use Rattle.bmap.specs.Buffer.{padded, over}
+use Rattle.bmap.specs.Line.{Line, Frame, line_feed, lines_of, decode, line_size, line_for, digit_for, hex, stored}
+use Rattle.bmap.specs.Buffer.{over}
 use Rattle.line.specs.Read.{first_of, such_payload, first_such, first_payload, PayloadRead, and_then, spelt}
 use Rattle.line.specs.Within.{pair_of, is_digit, Spells, Spelt, SpeltIf, PayloadIf, Whole}
-use Rattle.line.proofs.Lists.{part_to_end, length_back}
-use Rattle.line.proofs.Digits.{Pair, NoPair, pair_is, pair_digits, spelt_more, two_suc}
+use Rattle.line.proofs.Lists.{part_to_end}
+use Rattle.line.proofs.Digits.{pair_of_digits, digits_of_pair, Pair, NoPair, pair_is, spelt_more}
 use Rattle.line.proofs.HexLaws.{length_hex}
 use Rattle.line.proofs.Lines.{after, first_line, lines_first}
-use Rattle.line.proofs.WholeLaws.{spells_on, spells_part, spelt_full, spelt_join, feed_within, whole_said, whole_spelt}
+use Rattle.line.proofs.WholeLaws.{digits_spell, spells_part, spelt_full, spelt_join, feed_within, whole_said, whole_spelt}
 use Rattle.line.proofs.LineLaws.{Takes, took}
 
 -- a part to the end, as it is lent
@@ -68,85 +71,58 @@ spells_of (suc m) (suc n) (a ∷ b ∷ s) h = go (pair_is a b) (spells_of m n s)
         subst (Spells (a ∷ b ∷ s)) e (spells_join (a ∷ b ∷ s) 1 n (spells_one (a ∷ b ∷ s) 0 (omega arith) (omega (arith, p.of, p.small))) (r (omega arith)))
     go (inr p) r = absurd (omega (arith, h, ap (λ (y : Answer ℕ). length (and_then y (spelt m s))) p.is))
 
--- and each of their characters is a digit
-pub spells_digits : (n : ℕ) (s : List ℕ) → Spells s n → all is_digit (take (2 * n) s) ≡ true
-unfolding all
-spells_digits zero s w = refl
-spells_digits (suc n) [] w = absurd (omega (arith, w.within))
-spells_digits (suc n) (a ∷ []) w = absurd (omega (arith, w.within))
-spells_digits (suc n) (a ∷ b ∷ s) w =
-    let d = pair_digits a b (w.pairs 0 (omega arith)) in
-    rw (two_suc n, d.0, d.1) (spells_digits n s (spells_on (a ∷ b ∷ s) (suc n) 1 n (omega arith) w))
-
 -- ---- so far
 
--- n bytes are decoded, and all were digits
-pub record SoFar (text out : List ℕ) (n : ℕ) : Type 0 where
-  pub pairs : Spells text n
-  pub bytes : take n out ≡ spelt n text
-
-pub so_far_start : (text out : List ℕ) → SoFar text out 0
+pub spelt_start : (text out : List ℕ) → Spelt text out 0
 unfolding spelt
-so_far_start text out = record { pairs = record { within = omega arith; pairs = λ i h. absurd (omega arith) }; bytes = refl }
+spelt_start text out = record { pairs = record { within = omega arith; pairs = λ i h. absurd (omega arith) }; bytes = refl }
 
-module _ (text out : List ℕ) (at : ℕ) (d : SoFar text out at) where
-  with_next : (n : ℕ) → spelt (at + n) text ≡ spelt at text ++ spelt n (drop (2 * at) text)
-  with_next n = spelt_join at n text (spelt_full at text d.pairs)
+-- more of them, in a part of the buffer that was lent
+pub spelt_on : (text out : List ℕ) (at : ℕ) (d : Spelt text out at) (n : ℕ) (p : List ℕ) → Spelt (part text (2 * at)) p n
+    → Spelt text (take at out ++ (p ++ drop (length out - at) (drop at out))) (at + n)
+spelt_on text out at d n p w =
+    let w' : Spelt (drop (2 * at) text) p n = rw (part_to_end text (2 * at)) at w in
+    let all = spells_join text at n d.pairs w'.pairs in
+    let b = spelt n (drop (2 * at) text) in
+    let rest = drop n p ++ drop (length out - at) (drop at out) in
+    let q : p ≡ b ++ drop n p = sym (take-append-drop n p) ∙ ap (λ (l : List ℕ). l ++ drop n p) w'.bytes in
+    let laid : take at out ++ (p ++ drop (length out - at) (drop at out)) ≡ spelt (at + n) text ++ rest
+    = ap (λ (l : List ℕ). take at out ++ (l ++ drop (length out - at) (drop at out))) q
+    ∙ rw (d.bytes, append_assoc b (drop n p) (drop (length out - at) (drop at out)), ← append_assoc (spelt at text) b rest, spelt_join at n text (spelt_full at text d.pairs)) refl in
+    record { pairs = all; bytes = ap (take (at + n)) laid ∙ take_at (spelt (at + n) text) rest (at + n) (spelt_full (at + n) text all) }
 
-  -- a byte more
-  pub so_far_byte : (x : ℕ) → at < length out → 2 * at + 1 < length text → x ≤ 255 → x ≡ pair_of (get_or text (2 * at) 0) (get_or text (2 * at + 1) 0)
-      → SoFar text (set out at x) (at + 1)
-  unfolding spelt
-  so_far_byte x h k l e =
-      let p : pair_of (get_or text (2 * at) 0) (get_or text (2 * at + 1) 0) ≤ 255 = omega arith in
-      let one : at + 1 - at ≡ 1 = omega arith in
-      let none : at + 1 - (at + 1) ≡ 0 = omega arith in
-      let m = rw (one, none) at (spelt_more (at + 1) text at (omega arith) k p) in
-      record {
-        pairs = spells_join text at 1 d.pairs (spells_one text at k p);
-        bytes = rw (add-one at, take-suc-set out at x h, d.bytes, e) (rw (← add-one at) (sym (with_next 1 ∙ ap (λ (l : List ℕ). spelt at text ++ l) m)));
-      }
+-- digits in a part of the text
+pub digits_in_part : (s : List ℕ) (at n : ℕ) → 2 * (at + n) ≤ length s → all is_digit (take (2 * n) (part s (2 * at))) ≡ true → Spells (part s (2 * at)) n
+digits_in_part s at n h e = digits_spell (part s (2 * at)) n (rw (part_to_end s (2 * at), length-drop (2 * at) s) (omega arith)) e
 
-  -- a block more, in a part of the buffer that was lent
-  pub so_far_block : (n : ℕ) (p : List ℕ) → Spells (part text (2 * at)) n
-      → p ≡ over (spelt n (part text (2 * at))) (part out at)
-      → SoFar text (take at out ++ (p ++ drop (length out - at) (drop at out))) (at + n)
-  so_far_block n p w e =
-      let b = spelt n (drop (2 * at) text) in
-      let kept = drop (length b) (part out at) in
-      let after = drop (length out - at) (drop at out) in
-      let w' : Spells (drop (2 * at) text) n = rw (part_to_end text (2 * at)) at w in
-      let all = spells_join text at n d.pairs w' in
-      let q : p ≡ b ++ kept = rw (part_to_end text (2 * at)) at e in
-      let laid : take at out ++ (p ++ after) ≡ spelt (at + n) text ++ (kept ++ after)
-      = rw (d.bytes, q, append_assoc b kept after, ← append_assoc (spelt at text) b (kept ++ after), with_next n) refl in
-      record { pairs = all; bytes = ap (take (at + n)) laid ∙ take_at (spelt (at + n) text) (kept ++ after) (at + n) (spelt_full (at + n) text all) }
+-- a block of them, at the front of a buffer
+pub spelt_block : (n : ℕ) (text entry p : List ℕ) → Spells text n → p ≡ over (spelt n text) entry → Spelt text p n
+spelt_block n text entry p w e = record { pairs = w; bytes = rw e (take_at _ _ _ (spelt_full n text w)) }
 
-  -- and the rest of them
-  pub so_far_rest : (p : List ℕ) → at ≤ length out → length p ≡ length (part out at) → Spelt (part text (2 * at)) p
-      → Spelt text (take at out ++ (p ++ drop (length out - at) (drop at out)))
-  so_far_rest p h l w =
-      let w' : Spelt (drop (2 * at) text) p = rw (part_to_end text (2 * at)) at w in
-      let all = spells_join text at (length p) d.pairs w'.pairs in
-      let none : drop (length out - at) (drop at out) ≡ [] = drop_of_length-le (drop at out) {i = length out - at} (rw (length-drop at out) (omega arith)) in
-      let laid : take at out ++ (p ++ drop (length out - at) (drop at out)) ≡ spelt (at + length p) text
-      = rw (none, append-nil, d.bytes) (ap (λ (x : List ℕ). spelt at text ++ x) w'.bytes ∙ sym (with_next (length p))) in
-      let size : length (spelt (at + length p) text) ≡ at + length p = spelt_full (at + length p) text all in
-      rw laid (record { pairs = rw size all; bytes = rw size refl })
+-- a byte more
+pub spelt_byte : (text out : List ℕ) (at : ℕ) (d : Spelt text out at) (x : ℕ) → at < length out → 2 * at + 1 < length text
+    → pair_of (get_or text (2 * at) 0) (get_or text (2 * at + 1) 0) ≤ 255 → x ≡ pair_of (get_or text (2 * at) 0) (get_or text (2 * at + 1) 0)
+    → Spelt text (set out at x) (at + 1)
+unfolding spelt
+spelt_byte text out at d x h k p e =
+    let one : at + 1 - at ≡ 1 = omega arith in
+    let none : at + 1 - (at + 1) ≡ 0 = omega arith in
+    let m = rw (one, none) at (spelt_more (at + 1) text at (omega arith) k p) in
+    record {
+      pairs = spells_join text at 1 d.pairs (spells_one text at k p);
+      bytes = rw (add-one at, take-suc-set out at x h, d.bytes, e) (rw (← add-one at) (sym (spelt_join at 1 text (spelt_full at text d.pairs) ∙ ap (λ (l : List ℕ). spelt at text ++ l) m)));
+    }
 
-  -- whatever is said of them; those so far are digits
-  pub so_far_if : (p : List ℕ) (r : Bool) → at ≤ length out → length p ≡ length (part out at)
-      → SpeltIf (part text (2 * at)) p r → SpeltIf text (take at out ++ (p ++ drop (length out - at) (drop at out))) r
-  so_far_if p true h l w = so_far_rest p h l w
-  so_far_if p false h l w = λ v.
-      let e : length p ≡ length out - at = l ∙ ap length (part_to_end out at) ∙ length-drop at out in
-      w (spells_part text (length (take at out ++ (p ++ drop (length out - at) (drop at out)))) at (length p) (omega (arith, e, length_back out p at h l)) v)
-
-pub so_far_all : (text out : List ℕ) (n : ℕ) → n ≡ length out → SoFar text out n → Spelt text out
-so_far_all text out n e d = record {
-  pairs = subst (Spells text) e d.pairs;
-  bytes = sym (take-length out) ∙ subst (λ (k : ℕ). take k out ≡ spelt k text) e d.bytes;
-}
+-- and what is said of the rest is said of all m
+pub spelt_rest : (text out : List ℕ) (at m : ℕ) → length out ≡ m → Spelt text out at → at ≤ length out → (p : List ℕ) → length p ≡ length (part out at) → (r : Bool)
+    → SpeltIf (length (part out at)) (part text (2 * at)) p r → SpeltIf m text (take at out ++ (p ++ drop (length out - at) (drop at out))) r
+spelt_rest text out at m whole d h p l r w =
+    let size : at + length (part out at) ≡ m = omega (arith, ap length (part_to_end out at) ∙ length-drop at out) in
+    go r size w
+  where
+    go : (r : Bool) → at + length (part out at) ≡ m → SpeltIf (length (part out at)) (part text (2 * at)) p r → SpeltIf m text (take at out ++ (p ++ drop (length out - at) (drop at out))) r
+    go true size w = subst (Spelt text (take at out ++ (p ++ drop (length out - at) (drop at out)))) size (spelt_on text out at d (length (part out at)) p w)
+    go false size w = λ v. w (spells_part text m at (length (part out at)) (omega arith) v)
 
 -- ---- the line
 
@@ -266,6 +242,40 @@ payload_asked s p kind count e =
       pairs = spells_part s (2 + count) 2 count (omega arith) w;
     }
 
+-- the digits of kind and count come first
+module _ (kind count : ℕ) (k : kind < 256) (n : count < 256) where
+  pub head_spells : (s : List ℕ) → s ≡ hex (kind ∷ count ∷ []) ++ drop 4 s → (pair_of (get_or s 0 0) (get_or s 1 0) ≡ kind) × (pair_of (get_or s 2 0) (get_or s 3 0) ≡ count)
+  unfolding hex
+  head_spells s e =
+      let x : get_or s 0 0 ≡ digit_for (kind / 16) = ap (λ (l : List ℕ). get_or l 0 0) e in
+      let y : get_or s 1 0 ≡ digit_for (kind % 16) = ap (λ (l : List ℕ). get_or l 1 0) e in
+      let z : get_or s 2 0 ≡ digit_for (count / 16) = ap (λ (l : List ℕ). get_or l 2 0) e in
+      let w : get_or s 3 0 ≡ digit_for (count % 16) = ap (λ (l : List ℕ). get_or l 3 0) e in
+      (rw (x, y) (pair_of_digits kind k), rw (z, w) (pair_of_digits count n))
+
+  pub spells_head : (s : List ℕ) → 4 ≤ length s → pair_of (get_or s 0 0) (get_or s 1 0) ≡ kind → pair_of (get_or s 2 0) (get_or s 3 0) ≡ count → s ≡ hex (kind ∷ count ∷ []) ++ drop 4 s
+  unfolding hex
+  spells_head [] h f g = absurd (omega arith)
+  spells_head (a ∷ []) h f g = absurd (omega arith)
+  spells_head (a ∷ b ∷ []) h f g = absurd (omega arith)
+  spells_head (a ∷ b ∷ c ∷ []) h f g = absurd (omega arith)
+  spells_head (a ∷ b ∷ c ∷ d ∷ s) h f g =
+      let p = digits_of_pair a b kind k f in
+      let q = digits_of_pair c d count n g in
+      λ i. p.0 i ∷ p.1 i ∷ q.0 i ∷ q.1 i ∷ s
+
+  -- and are what the text is asked to start with
+  pub no_head : (s p : List ℕ) → p ≡ hex (kind ∷ count ∷ []) → false ≡ starts_with eqb s p → Asked s kind count → ⊥
+  no_head s p e t a =
+      let w = spells_head s (omega (arith, feed_within s (2 * count + 4) a.feed)) a.first a.second in
+      let f : false ≡ true = (starts_is Decides-eqb s p false t).1 (drop 4 s) (w ∙ ap (λ (l : List ℕ). l ++ drop 4 s) (sym e)) in
+      absurd (let z : ◌≡◌ {A = ℕ} 0 1 = cc in omega arith)
+
+  pub a_head : (s p : List ℕ) → p ≡ hex (kind ∷ count ∷ []) → true ≡ starts_with eqb s p → (pair_of (get_or s 0 0) (get_or s 1 0) ≡ kind) × (pair_of (get_or s 2 0) (get_or s 3 0) ≡ count)
+  a_head s p e t =
+      let four : length p ≡ 4 = ap length e ∙ length_hex (kind ∷ count ∷ []) in
+      head_spells s ((starts_is Decides-eqb s p true t).0 refl ∙ ap (λ (l : List ℕ). l ++ drop (length p) s) e ∙ ap (λ (n : ℕ). hex (kind ∷ count ∷ []) ++ drop n s) four)
+
 -- so there is none where it does not hold
 pub no_payload : (s : List ℕ) (kind count : ℕ) → (Asked s kind count → ⊥) → first_payload kind count s ≡ none
 no_payload s kind count h = go (first_payload kind count s) refl
@@ -276,27 +286,14 @@ no_payload s kind count h = go (first_payload kind count s) refl
 
 -- what the payload's digits say, they say of the line
 pub payload_if : (s p : List ℕ) (kind count : ℕ) (r : Bool) → kind ≤ 255 → length p ≡ count → (Spells (part s 4) count → Asked s kind count)
-    → SpeltIf (part s 4) p r → PayloadIf kind s p r
+    → SpeltIf count (part s 4) p r → PayloadIf kind s p r
 payload_if s p kind count true byte e a w =
-    let v : Spelt (drop 4 s) p = rw (part_to_end s 4) at w in
-    asked_payload s p kind byte (subst (λ (k : ℕ). Spells (part s 4) k → Asked s kind k) (sym e) a w.pairs) v.bytes
-payload_if s p kind count false byte e a w = no_payload s kind (length p) (λ q. w q.pairs)
+    let v : take count p ≡ spelt count (drop 4 s) = rw (part_to_end s 4) at w.bytes in
+    let k : p ≡ spelt (length p) (drop 4 s) = sym (take-length p) ∙ rw (← e) at v in
+    asked_payload s p kind byte (subst (λ (k : ℕ). Spells (part s 4) k → Asked s kind k) (sym e) a (subst (Spells (part s 4)) (sym e) w.pairs)) k
+payload_if s p kind count false byte e a w = no_payload s kind (length p) (λ q. w (subst (Spells (part s 4)) e q.pairs))
 
--- ---- what is left
-
-module _ (s out p : List ℕ) (kind : ℕ) (l : length p ≡ length out) where
-  pub payload_left : PayloadIf kind s p true → PayloadRead kind s out p true
-  payload_left e =
-      let q : first_payload kind (length out) s ≡ some p = rw l at e in
-      record { answer = rw q refl; left = rw q refl }
-
-  pub zeros_left : (z : List ℕ) → PayloadIf kind s p false → z ≡ padded (length p) (take 0 p) → PayloadRead kind s out z false
-  zeros_left z e x =
-      let q : first_payload kind (length out) s ≡ none = rw l at e in
-      let n : length p - 0 ≡ length out = omega arith in
-      record { answer = rw q refl; left = rw q (x ∙ ap (λ (k : ℕ). replicate k 0) n) }
-
--- and what it says to a caller
+-- what it says to a caller
 pub payload_told : (s out p : List ℕ) (kind : ℕ) (r : Bool) → PayloadRead kind s out p r → first_payload kind (length out) s ≡ if_else r (some p) none
 payload_told s out p kind r w = go (first_payload kind (length out) s) w.answer w.left
   where

@@ -1,15 +1,14 @@
 -- A line that is whole and right by its own count: what is seen of it, and its bytes decoded block after block.
 use Prim.Native.Nat.{ℕ, zero, suc, ◌+◌, ◌-◌, ◌*◌, ◌≤◌, ◌<◌}
 use native.Mathlib.Nat.{zero-add, suc-add, le_of_lt}
-use native.Mathlib.Numerals.{add-one}
 use native.Mathlib.Omega.{arith}
-use mathlib.Core.Path.{◌≡◌, refl, sym, ap, ◌∙◌}
+use mathlib.Core.Path.{◌≡◌, refl, sym, ap, subst, ◌∙◌}
 use mathlib.Core.Logic.{◌⊎◌, inl, inr}
-use mathlib.Core.Bool.{true}
+use mathlib.Core.Bool.{true, false}
 use mathlib.Core.Option.{some}
 use mathlib.Core.List.{List, [], ◌∷◌, ◌++◌, append-nil, append_assoc}
-use lib.ListN.{length, get_or, take, drop, set, drop_of_length-le, length-drop}
-use lib.Seq.{take-length, length-take-le, get_or-take, get_or-drop, take_at, paste-suc}
+use lib.ListN.{length, get_or, take, drop, drop_of_length-le, length-drop}
+use lib.Seq.{take-length, length-take-le, get_or-take, get_or-drop, take_at}
 use borrow.Author.Tests.{eq-eqb, ne_eqb}
 use Rattle.bmap.specs.Plain.{all}
 use Rattle.bmap.specs.Refusal.{Answer, got, refused}
@@ -19,7 +18,7 @@ use Rattle.bmap.specs.Buffer.{over}
 use Rattle.line.specs.Read.{first_of, pair, and_then, spelt}
 use Rattle.line.specs.Within.{pair_of, is_digit, Spells, Whole, Begins, frame_of}
 use Rattle.line.proofs.Lists.{part_to_end, all_at}
-use Rattle.line.proofs.Digits.{Pair, NoPair, pair_is, digits_pair, two_suc, spelt_more}
+use Rattle.line.proofs.Digits.{Pair, NoPair, pair_is, digits_pair, pair_digits, two_suc, spelt_more}
 use Rattle.line.proofs.FirstLaws.{line_ends}
 
 -- ---- pairs that spell bytes
@@ -43,6 +42,19 @@ module _ (s : List ℕ) (n : ℕ) where
 
   pub spells_part : (a m : ℕ) → a + m ≤ n → Spells s n → Spells (take (length s - 2 * a) (drop (2 * a) s)) m
   spells_part a m h w = rw (part_to_end s (2 * a)) (spells_on a m h w)
+
+-- and each of their characters is a digit
+pub spells_digits : (n : ℕ) (s : List ℕ) → Spells s n → all is_digit (take (2 * n) s) ≡ true
+unfolding all
+spells_digits zero s w = refl
+spells_digits (suc n) [] w = absurd (omega (arith, w.within))
+spells_digits (suc n) (a ∷ []) w = absurd (omega (arith, w.within))
+spells_digits (suc n) (a ∷ b ∷ s) w =
+    let d = pair_digits a b (w.pairs 0 (omega arith)) in
+    rw (two_suc n, d.0, d.1) (spells_digits n s (spells_on (a ∷ b ∷ s) (suc n) 1 n (omega arith) w))
+
+pub no_digits : (s : List ℕ) (n : ℕ) → all is_digit (take (2 * n) s) ≡ false → Spells s n → ⊥
+no_digits s n a w = absurd (let d : true ≡ false = sym (spells_digits n s w) ∙ a in let z : ◌≡◌ {A = ℕ} 0 1 = cc in omega arith)
 
 -- so many bytes
 pub spelt_full : (n : ℕ) (s : List ℕ) → Spells s n → length (spelt n s) ≡ n
@@ -76,18 +88,6 @@ unfolding spelt
 each_done m s out n e h q =
     let z : m - n ≡ 0 = omega arith in
     sym (q ∙ rw (z, e, take-length out) (append-nil out))
-
--- ---- a copy to the front
-
--- i of them are copied
-abbrev pub copied : List ℕ → List ℕ → ℕ → List ℕ
-copied s d i = take i s ++ drop i d
-
-pub copy_more : (s d : List ℕ) (i : ℕ) → i < length s → i < length d → set (copied s d i) i (get_or s i 0) ≡ copied s d (i + 1)
-copy_more s d i h k = rw (add-one i) (rw (zero-add i, zero-add (suc i)) at (paste-suc d 0 s i 0 (rw (zero-add i) k) h))
-
-pub copy_done : (s d : List ℕ) (i : ℕ) → i ≡ length s → copied s d i ≡ over s d
-copy_done s d i e = rw (e, take-length s) refl
 
 -- ---- block after block
 
@@ -138,7 +138,7 @@ feed_within [] i e = absurd (omega arith)
 feed_within (c ∷ s) zero e = omega arith
 feed_within (c ∷ s) (suc i) e = let h = feed_within s i e in omega arith
 
--- what the code asks of it
+-- what the code asks of it, and that where it does not hold the line is not whole
 pub whole_is : (s : List ℕ) (count : ℕ) → count ≡ pair_of (get_or s 2 0) (get_or s 3 0) → count ≤ most_payload → get_or s (2 * (count + 2)) 0 ≡ line_feed
     → all is_digit (take (2 * (count + 2)) s) ≡ true → Whole s (count + 2)
 whole_is s count e h f a = record {
@@ -147,6 +147,11 @@ whole_is s count e h f a = record {
   count = ap (λ (k : ℕ). k + 2) (sym e);
   size = omega arith;
 }
+
+pub not_whole : (s : List ℕ) (count : ℕ) → count ≡ pair_of (get_or s 2 0) (get_or s 3 0) → all is_digit (take (2 * (count + 2)) s) ≡ false → (n : ℕ) → Whole s n → ⊥
+not_whole s count e a n w =
+    let k : count + 2 ≡ n = omega (arith, w.count) in
+    no_digits s n (subst (λ (i : ℕ). all is_digit (take (2 * i) s) ≡ false) k a) w.spells
 
 module _ (s : List ℕ) (n : ℕ) (w : Whole s n) where
   -- it spells its bytes and no more

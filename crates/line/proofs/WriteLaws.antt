@@ -54,13 +54,10 @@ module _ (kind : ℕ) (p out : List ℕ) where
   unfolding line_written
   put_short h k = simp (le-leb (length p) most_payload h, length_line kind p, lt-leb (2 * length p + 5) (length out) k) (refl, refl)
 
-  put_all : length p ≤ most_payload → 2 * length p + 5 ≤ length out
+  pub put_all : length p ≤ most_payload → 2 * length p + 5 ≤ length out
       → (got (2 * length p + 5) ≡ (line_written kind p out).answer) × (over (line_for (record { kind = kind; payload = p })) out ≡ (line_written kind p out).buffer)
   unfolding line_written
   put_all h k = simp (le-leb (length p) most_payload h, length_line kind p, le-leb (2 * length p + 5) (length out) k) (refl, refl)
-
-  pub put_in_room : length p ≤ most_payload → 2 * length p + 5 ≤ length out → (line_written kind p out).buffer ≡ over (line_for (record { kind = kind; payload = p })) out
-  put_in_room h k = sym (put_all h k).1
 
   -- the head's digits, the payload's digits after them, and the LF
   line_laid : (a b : List ℕ) → 2 * length p + 5 ≤ length out → a ≡ over (hex (kind ∷ length p ∷ [])) out → b ≡ over (hex p) (take (length a - 4) (drop 4 a))

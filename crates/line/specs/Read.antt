@@ -1,35 +1,37 @@
 -- What reading the line at the front of a text answers, and the bytes that it leaves.
-use Rattle.std.specs.Prelude.{ℕ, zero, suc, ◌+◌, ◌*◌, ◌≡◌, Bool, true, false, List, [], ◌∷◌, eqb, leb, length, replicate}
+use Rattle.std.specs.Prelude.{ℕ, zero, suc, ◌+◌, ◌*◌, ◌≡◌, Bool, true, false, Option as Maybe, None, Some, Result, Ok, Err, List, [], ◌∷◌, eqb, leb, length, replicate}
 use Rattle.std.proofs.Math.Option.{Option, none, some}
 use Rattle.bmap.specs.Plain.{both, if_else, maybe}
 use Rattle.bmap.specs.Limits.{frame_size}
-use Rattle.bmap.specs.Refusal.{Answer, got, refused, then, number_of}
+use Rattle.bmap.specs.Refusal.{Answer, got, refused, then, number_of, Reading, read, refused_at}
 use Rattle.bmap.specs.Line.{Line, Frame, lines_of, digit, decode, stored}
 use Rattle.bmap.specs.Buffer.{over}
-use Rattle.line.specs.declared.read.FirstLine.{FirstLine}
-use Rattle.line.specs.declared.read.FirstLine.TheVariants as first
-
--- of a line that decodes: its frame's bytes, and its characters with the LF
-pub record Taken : Type 0 where
-  pub bytes : ℕ
-  pub characters : ℕ
+use Rattle.bmap.specs.declared.refusal.Refusal.{Refusal}
+use Rattle.bmap.specs.declared.refusal.ReadError.{ReadError}
+use Rattle.line.specs.declared.read.FirstFrame.{FirstFrame}
 
 -- what an answer says: no line, the refusal's number, or what was taken
-abbrev pub said : FirstLine → Option (Answer Taken)
-said first.Nothing = none
-said (first.Refused r) = some (refused (number_of r))
-said (first.Frame bytes characters) = some (got (record { bytes = bytes; characters = characters }))
+abbrev pub said : Result (Maybe FirstFrame) Refusal → Option (Answer FirstFrame)
+said (Ok None) = none
+said (Ok (Some f)) = some (got f)
+said (Err r) = some (refused (number_of r))
 
-abbrev pub taken : Line → Answer Taken
+-- of a line that decodes: its frame's bytes, and its characters with the LF
+abbrev pub taken : Line → Answer FirstFrame
 taken l = then (decode l) (λ f. got (record { bytes = length (stored f); characters = suc (length l.digits) }))
 
-abbrev pub first_of : List Line → Option (Answer Taken)
+abbrev pub first_of : List Line → Option (Answer FirstFrame)
 first_of [] = none
 first_of (l ∷ lines) = some (taken l)
 
 -- 10 where a frame might have no room
-unfoldable pub line_read : List ℕ → List ℕ → Option (Answer Taken)
+unfoldable pub line_read : List ℕ → List ℕ → Option (Answer FirstFrame)
 line_read text out = if_else (leb frame_size (length out)) (first_of (lines_of text)) (some (refused 10))
+
+-- what a reader of lines answers: how much it read, or the refusal's number and its line
+abbrev pub reading_of : Result ℕ ReadError → Reading ℕ
+reading_of (Ok n) = read n
+reading_of (Err e) = refused_at (number_of e.refusal) e.line
 
 -- a frame's payload, if the frame is of this kind and its payload has so many bytes
 abbrev pub such_payload : ℕ → ℕ → Answer Frame → Option (List ℕ)

@@ -1,15 +1,14 @@
 -- What the functions within `read_line` and `read_payload` promise each other.
-use Rattle.std.specs.Prelude.{ℕ, ◌+◌, ◌*◌, ◌<◌, ◌≤◌, ◌≡◌, Bool, true, false, List, eqb, ltb, length, get_or}
+use Rattle.std.specs.Prelude.{ℕ, ◌+◌, ◌*◌, ◌<◌, ◌≤◌, ◌≡◌, Bool, true, false, Result, Ok, Err, List, eqb, ltb, length, get_or, take}
 use Rattle.std.proofs.Math.Option.{none, some}
 use Rattle.bmap.specs.Plain.{if_else}
 use Rattle.bmap.specs.Refusal.{Answer, got, refused}
 use Rattle.bmap.specs.Line.{digit, line_feed}
+use Rattle.bmap.specs.declared.refusal.Refusal.{Refusal}
 use Rattle.bmap.specs.declared.refusal.Refusal.TheVariants.{BadLine, BadCount}
 use Rattle.bmap.specs.Limits.{frame_size}
-use Rattle.bmap.specs.Buffer.{over}
 use Rattle.line.specs.Read.{first_payload, spelt}
-use Rattle.line.specs.declared.read.FirstLine.{FirstLine}
-use Rattle.line.specs.declared.read.FirstLine.TheVariants.{Refused, Frame}
+use Rattle.line.specs.declared.read.FirstFrame.{FirstFrame}
 
 -- a digit's value, 256 where the character is none
 abbrev pub worth : Answer ℕ → ℕ
@@ -28,20 +27,20 @@ pub record Spells (text : List ℕ) (n : ℕ) : Type 0 where
   pub within : 2 * n ≤ length text
   pub pairs : (i : ℕ) → i < n → pair_of (get_or text (2 * i) 0) (get_or text (2 * i + 1) 0) ≤ 255
 
--- they spell just these bytes
-pub record Spelt (text out : List ℕ) : Type 0 where
-  pub pairs : Spells text (length out)
-  pub bytes : out ≡ spelt (length out) text
+-- they spell the first n bytes of `out`
+pub record Spelt (text out : List ℕ) (n : ℕ) : Type 0 where
+  pub pairs : Spells text n
+  pub bytes : take n out ≡ spelt n text
 
--- whether they spell as many bytes as `out` has, which then has them
-abbrev pub SpeltIf : List ℕ → List ℕ → Bool → Type 0
-SpeltIf text out true = Spelt text out
-SpeltIf text out false = Spells text (length out) → ⊥
+-- whether they do, or spell none
+abbrev pub SpeltIf : ℕ → List ℕ → List ℕ → Bool → Type 0
+SpeltIf n text out true = Spelt text out n
+SpeltIf n text out false = Spells text n → ⊥
 
--- the same of so many bytes, to the front of a buffer
-abbrev pub BlockIf : ℕ → List ℕ → List ℕ → List ℕ → Bool → Type 0
-BlockIf size text entry exit true = Spells text size × (exit ≡ over (spelt size text) entry)
-BlockIf size text entry exit false = Spells text size → ⊥
+-- so many bytes are spelt, and there is room for them
+pub record SpeltTo (text out : List ℕ) (n : ℕ) : Type 0 where
+  pub within : n ≤ length out
+  pub spelt : Spelt text out n
 
 -- whether the first line has a payload of this kind of as many bytes as `out` has, which then are these
 abbrev pub PayloadIf : ℕ → List ℕ → List ℕ → Bool → Type 0
@@ -61,5 +60,6 @@ pub record Begins (text : List ℕ) (n count : ℕ) : Type 0 where
   pub second : 2 ≤ n → count ≡ get_or (spelt frame_size text) 1 0
 
 -- what n bytes before a LF come to, of which the second says how many follow it
-unfoldable pub frame_of : ℕ → ℕ → FirstLine
-frame_of n count = if_else (eqb n 0) (Refused BadLine) (if_else (eqb (count + 2) n) (Frame n (2 * n + 1)) (Refused BadCount))
+unfoldable pub frame_of : ℕ → ℕ → Result FirstFrame Refusal
+frame_of n count =
+    if_else (eqb n 0) (Err BadLine) (if_else (eqb (count + 2) n) (Ok (record { bytes = n; characters = 2 * n + 1 })) (Err BadCount))

@@ -7,10 +7,8 @@ ghost use Rattle.bmap.specs.Store.{zeros};
 pub fn zero_from(buffer: &mut [u8], at: usize)
     ensures { buffer.new ≡ padded (length buffer.old) (take at buffer.old) }
 {
-    let mut i = at;
-    while i < buffer.len() {
-        buffer[i] = 0;
-        i += 1;
+    if at < buffer.len() {
+        buffer[at..].fill(0);
     }
 }
 
@@ -19,11 +17,10 @@ pub fn zero_from(buffer: &mut [u8], at: usize)
 pub fn is_zero_from(buffer: &[u8], at: usize) -> bool
     ensures { result ≡ zeros (drop at buffer.now) }
 {
-    let mut joined: u8 = 0;
-    let mut i = at;
-    while i < buffer.len() {
-        joined = joined | buffer[i];
-        i += 1;
+    let rest = &buffer[at.min(buffer.len())..];
+    let mut joined = 0;
+    for &b in rest {
+        joined |= b;
     }
     joined == 0
 }

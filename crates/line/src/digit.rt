@@ -1,38 +1,42 @@
 // The characters of a line: its digits, each with its value, and its LF.
-ghost use Rattle.std.specs.Prelude.{◌≡◌, true, ◌/◌, ◌%◌, ◌<◌, ◌≤◌, eqb, get_or};
+ghost use Rattle.std.specs.Prelude.{◌≡◌, true, ◌<◌, ◌≤◌, MatchOption, IfSome, eqb, get_or};
 ghost use Rattle.bmap.specs.Line.{digit, digit_for, line_feed};
 ghost use Rattle.line.specs.Within.{pair_of, worth, is_digit};
 
-pub(crate) const LINE_FEED: u8 = 10;
+pub(crate) const LINE_FEED: u8 = b'\n';
 
-// The byte that two digits spell; above 255 where one is no digit.
-pub(crate) fn pair(high: u8, low: u8) -> u16
-    ensures { result ≡ pair_of high low }
+// The byte that two digits spell.
+#[inline(always)]
+#[tactic(auto, using(crate::proofs::Digits::worth_most), unfolding(crate::specs::Within::pair_of))]
+pub(crate) fn pair(high: u8, low: u8) -> Option<u8>
+    ensures { MatchOption result (255 < pair_of high low) (λ b. (pair_of high low ≤ 255) × (b ≡ pair_of high low)) }
 {
-    value(high) * 16 + value(low)
+    u8::try_from(value(high) * 16 + value(low)).ok()
 }
 
-// The value of a digit, 256 for what is none. A `match` on single numbers is compiled to a table that only is read.
+// The value of a digit, 256 for what is none, as it stands in the table that a `match` on single characters is compiled to. A
+// pair is then tested once: with an `Option` here each character would be, and three bytes would take half as long again.
+#[tactic(auto, using(crate::proofs::Digits::no_digit), unfolding(bmap::specs::Line::digit))]
 fn value(c: u8) -> u16
     ensures { result ≡ worth (digit c) }
 {
     match c {
-        48 => 0,
-        49 => 1,
-        50 => 2,
-        51 => 3,
-        52 => 4,
-        53 => 5,
-        54 => 6,
-        55 => 7,
-        56 => 8,
-        57 => 9,
-        65 => 10,
-        66 => 11,
-        67 => 12,
-        68 => 13,
-        69 => 14,
-        70 => 15,
+        b'0' => 0,
+        b'1' => 1,
+        b'2' => 2,
+        b'3' => 3,
+        b'4' => 4,
+        b'5' => 5,
+        b'6' => 6,
+        b'7' => 7,
+        b'8' => 8,
+        b'9' => 9,
+        b'A' => 10,
+        b'B' => 11,
+        b'C' => 12,
+        b'D' => 13,
+        b'E' => 14,
+        b'F' => 15,
         _ => 256,
     }
 }
@@ -41,7 +45,7 @@ fn value(c: u8) -> u16
 pub(crate) fn is_digit(c: u8) -> bool
     ensures { result ≡ is_digit c }
 {
-    ((48 <= c) & (c <= 57)) | ((65 <= c) & (c <= 70))
+    ((b'0' <= c) & (c <= b'9')) | ((b'A' <= c) & (c <= b'F'))
 }
 
 // The byte that two characters spell that are known to be digits. It reads no table, so that a loop makes many at a time.
@@ -56,41 +60,25 @@ fn digit_value(c: u8) -> u8
     requires { is_digit c ≡ true }
     ensures { result ≡ worth (digit c) }
 {
-    if c < 58 {
-        return c - 48;
-    }
-    c - 55
+    if c <= b'9' { c - b'0' } else { c - b'A' + 10 }
 }
 
 // Whether a LF stands at a place.
 pub(crate) fn feed_at(text: &[u8], at: usize) -> bool
     ensures { result ≡ eqb (get_or text.now at 0) line_feed }
 {
-    if at >= text.len() {
-        return false;
-    }
-    text[at] == LINE_FEED
+    text.get(at) == Some(&LINE_FEED)
 }
 
-// The two digits of a byte.
-pub(crate) fn high_digit(b: u8) -> u8
-    ensures { result ≡ digit_for (b / 16) }
-{
-    digit_for(b / 16)
-}
-
-pub(crate) fn low_digit(b: u8) -> u8
-    ensures { result ≡ digit_for (b % 16) }
-{
-    digit_for(b % 16)
-}
-
-fn digit_for(value: u8) -> u8
+// The digit of a value below 16.
+#[tactic(auto, unfolding(bmap::specs::Line::digit_for))]
+pub(crate) fn digit_for(value: u8) -> u8
     requires { value < 16 }
     ensures { result ≡ digit_for value }
 {
     if value < 10 {
-        return value + 48;
+        value + b'0'
+    } else {
+        value - 10 + b'A'
     }
-    value + 55
 }

@@ -1,36 +1,30 @@
 // The frame at a place of a store.
 ghost use Rattle.std.specs.Prelude.{◌≡◌};
-ghost use Rattle.line.specs.Frame.{size_of, frame_size_at};
+ghost use Rattle.line.specs.Frame.{frame_size_at};
 
 use bmap::PAYLOAD;
 
-#[derive(Clone, Copy)]
-pub enum FrameAt {
-    Nothing,
-    // So many bytes: kind, count and payload.
-    Frame(usize),
-}
-
-// The frame at a place, which may lie anywhere: a kind other than 00, a count up to the limit, and the whole payload.
-pub fn frame_at(store: &[u8], at: usize) -> FrameAt
-    ensures { size_of result ≡ frame_size_at store.now at }
+// How many bytes the frame at a place has, which may lie anywhere: a kind other than 00, a count up to the limit, and the whole
+// payload.
+pub fn frame_at(store: &[u8], at: usize) -> Option<usize>
+    ensures { result ≡ frame_size_at store.now at }
 {
     if at >= store.len() {
-        return FrameAt::Nothing;
+        return None;
     }
     let left = store.len() - at;
     if left < 2 {
-        return FrameAt::Nothing;
+        return None;
     }
     if store[at] == 0 {
-        return FrameAt::Nothing;
+        return None;
     }
     let count = store[at + 1] as usize;
     if count > PAYLOAD {
-        return FrameAt::Nothing;
+        return None;
     }
     if count + 2 > left {
-        return FrameAt::Nothing;
+        return None;
     }
-    FrameAt::Frame(count + 2)
+    Some(count + 2)
 }

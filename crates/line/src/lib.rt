@@ -12,7 +12,7 @@ mod whole;
 mod write;
 
 pub use buffer::{is_zero_from, zero_from};
-pub use frame::{FrameAt, frame_at};
+pub use frame::frame_at;
 pub use payload::read_payload;
-pub use read::{FirstLine, read_line};
-pub use write::{Written, put_line};
+pub use read::{FirstFrame, read_line};
+pub use write::put_line;

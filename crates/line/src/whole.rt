@@ -1,6 +1,6 @@
 // A line that is whole and right by its own count: seen at one look, and decoded many bytes at a time. Nothing is written before
 // all of it is known to be right.
-ghost use Rattle.std.specs.Prelude.{◌≡◌, ◌<◌, ◌≤◌, length};
+ghost use Rattle.std.specs.Prelude.{◌≡◌, ℕ, ◌≤◌, MatchOption, length};
 ghost use Rattle.bmap.specs.Plain.{all};
 ghost use Rattle.bmap.specs.Buffer.{over};
 ghost use Rattle.line.specs.Read.{spelt};
@@ -12,25 +12,25 @@ use bmap::PAYLOAD;
 // How many bytes are decoded at a time.
 pub(crate) const BLOCK: usize = 16;
 
-// The bytes of the first line of a text, if so many digits as its count says stand before a LF; else 0.
-pub(crate) fn whole_line(text: &[u8]) -> usize
-    ensures { 0 < result → Whole text.now result }
+// How many bytes the first line of a text spells, if so many digits as its count says stand before a LF.
+pub(crate) fn whole_line(text: &[u8]) -> Option<usize>
+    ensures { MatchOption result ((n : ℕ) → Whole text.now n → ⊥) (Whole text.now) }
 {
     if text.len() < 4 {
-        return 0;
+        return None;
     }
-    let count = pair(text[2], text[3]) as usize;
+    let count = pair(text[2], text[3])? as usize;
     if count > PAYLOAD {
-        return 0;
+        return None;
     }
     let n = count + 2;
     let end = 2 * n;
     if feed_at(text, end) {
         if all_digits(&text[..end]) {
-            return n;
+            return Some(n);
         }
     }
-    0
+    None
 }
 
 // Whether all characters are digits. The loop has no exit, so that it asks many at a time.
@@ -38,10 +38,8 @@ pub(crate) fn all_digits(text: &[u8]) -> bool
     ensures { result ≡ all is_digit text.now }
 {
     let mut so_far = true;
-    let mut i: usize = 0;
-    while i < text.len() {
-        so_far = so_far & is_digit(text[i]);
-        i += 1;
+    for &c in text {
+        so_far &= is_digit(c);
     }
     so_far
 }
@@ -52,43 +50,33 @@ pub(crate) fn decode(text: &[u8], out: &mut [u8])
     requires { Spells text.now (length out.old) }
     ensures { out.new ≡ spelt (length out.old) text.now }
 {
-    let mut at: usize = 0;
+    let mut at = 0;
+    // By place: of a buffer that is written through `chunks_exact_mut` only its length is known.
     while at + BLOCK <= out.len() {
-        decode_block(&text[2 * at..], &mut out[at..]);
+        decode_block::<BLOCK>(&text[2 * at..], &mut out[at..]);
         at += BLOCK;
     }
     decode_each(&text[2 * at..], &mut out[at..]);
 }
 
-// A block by way of an array of its own, which no store to `out` can change: so the compiler takes it as one.
-fn decode_block(text: &[u8], out: &mut [u8])
-    requires { Spells text.now 16 × (16 ≤ length out.old) }
-    ensures { out.new ≡ over (spelt 16 text.now) out.old }
+// N of them by way of an array of their own, which no store to `out` can change: so the compiler takes them as one.
+#[inline(always)]
+pub(crate) fn decode_block<const N: usize>(text: &[u8], out: &mut [u8])
+    requires spells { Spells text.now N }
+    requires room { N ≤ length out.old }
+    ensures { out.new ≡ over (spelt N text.now) out.old }
 {
-    let mut bytes = [0u8; BLOCK];
+    let mut bytes = [0; N];
     decode_each(text, &mut bytes);
-    copy(&bytes, out);
+    out[..N].copy_from_slice(&bytes);
 }
 
 // Byte by byte.
-pub(crate) fn decode_each(text: &[u8], out: &mut [u8])
+fn decode_each(text: &[u8], out: &mut [u8])
     requires { Spells text.now (length out.old) }
     ensures { out.new ≡ spelt (length out.old) text.now }
 {
-    let mut n: usize = 0;
-    while n < out.len() {
+    for n in 0..out.len() {
         out[n] = byte_of(text[2 * n], text[2 * n + 1]);
-        n += 1;
-    }
-}
-
-pub(crate) fn copy(bytes: &[u8], out: &mut [u8])
-    requires { length bytes.now ≤ length out.old }
-    ensures { out.new ≡ over bytes.now out.old }
-{
-    let mut i: usize = 0;
-    while i < bytes.len() {
-        out[i] = bytes[i];
-        i += 1;
     }
 }

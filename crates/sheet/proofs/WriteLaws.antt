@@ -16,7 +16,7 @@ use Rattle.bmap.specs.Buffer.{over, written}
 use Rattle.bmap.specs.Sheet.{rows, sheet_of, step_line, write_sheet}
 use Rattle.line.specs.Write.{line_written}
 use Rattle.line.proofs.Lists.{part_to_end}
-use Rattle.line.proofs.WriteLaws.{length_line, put_in_room}
+use Rattle.line.proofs.WriteLaws.{length_line, put_all}
 use Rattle.sheet.specs.Step.{agents_allowed, lines_in}
 
 -- ---- the lines
@@ -46,65 +46,89 @@ length_lines agents (suc n) s e =
 -- ---- the loop
 
 -- the lines so far stand at the front of the text, and those of the steps left go on from them; nothing after is touched
-pub record Put (agents : ℕ) (sheet text₀ text rest : List ℕ) (steps left used : ℕ) : Type 0 where
+pub record Put (agents steps : ℕ) (sheet text₀ text rest : List ℕ) (used : ℕ) : Type 0 where
+  pub left : ℕ
   pub laid : lines_in agents steps sheet ≡ take used text ++ lines_in agents left rest
   pub kept : drop used text ≡ drop used text₀
   pub whole : length rest ≡ left * agents
   pub room : used + left * line_size agents ≤ length text
-  pub size : length text ≡ length text₀
 
 module _ (agents steps : ℕ) (sheet text₀ : List ℕ) where
-  pub put_start : length sheet ≡ steps * agents → steps * line_size agents ≤ length text₀ → Put agents sheet text₀ text₀ sheet steps steps 0
-  put_start e h = record { laid = refl; kept = refl; whole = e; room = omega arith; size = refl }
+  pub put_start : (rest : List ℕ) → rest ≡ sheet → length sheet ≡ steps * agents → steps * line_size agents ≤ length text₀ → Put agents steps sheet text₀ text₀ rest 0
+  put_start rest s e h = record { left = steps; laid = rw s refl; kept = refl; whole = ap length s ∙ e; room = omega arith }
 
-  module _ (text rest : List ℕ) (left used : ℕ) (p : Put agents sheet text₀ text rest steps left used) where
-    pub put_end : left ≡ 0 → text ≡ over (lines_in agents steps sheet) text₀
+  module _ (text rest : List ℕ) (used : ℕ) (p : Put agents steps sheet text₀ text rest used) where
+    pub put_end : length rest < agents → text ≡ over (lines_in agents steps sheet) text₀
     unfolding lines_in rows flat
-    put_end e =
-        let l : lines_in agents steps sheet ≡ take used text = p.laid ∙ rw e (append-nil (take used text)) in
-        let u : length (take used text) ≡ used = length-take-le used text (omega (arith, p.room)) in
-        rw (l, u, ← p.kept) (sym (take-append-drop used text))
+    put_end h = go p.left p.laid p.whole p.room
+      where
+        go : (left : ℕ) → lines_in agents steps sheet ≡ take used text ++ lines_in agents left rest → length rest ≡ left * agents → used + left * line_size agents ≤ length text
+            → text ≡ over (lines_in agents steps sheet) text₀
+        go zero laid whole room =
+            let l : lines_in agents steps sheet ≡ take used text = laid ∙ append-nil (take used text) in
+            let u : length (take used text) ≡ used = length-take-le used text (omega arith) in
+            rw (l, u, ← p.kept) (sym (take-append-drop used text))
+        go (suc n) laid whole room = absurd (omega (arith, product_suc n agents))
 
-    -- there is a step left, and room for its line
-    pub step_left : 0 < left → (agents ≤ length rest) × (used + line_size agents ≤ length text)
-    step_left h = (omega (arith, p.whole, product_less left agents h), omega (arith, p.room, product_less left (line_size agents) h))
+    module _ (names next : List ℕ) (cut : rest ≡ names ++ next) (count : length names ≡ agents) (few : agents ≤ most_agents) (some : 0 < agents) where
+      -- a step is left
+      one : 0 < p.left
+      one = go p.left p.whole
+        where
+          go : (left : ℕ) → length rest ≡ left * agents → 0 < left
+          go zero w = absurd (omega (arith, ap length cut, length-append names next))
+          go (suc n) w = omega arith
 
-    pub put_more : (q : List ℕ) (size : ℕ) → size ≡ line_size agents → agents ≤ most_agents → 0 < left → q ≡ (line_written 0xB1 (take agents rest) (take (length text - used) (drop used text))).buffer
-        → Put agents sheet text₀ (take used text ++ (q ++ drop (length text - used) (drop used text))) (take (length rest - agents) (drop agents rest)) steps (left - 1) (used + size)
-    put_more q size es ha h eq =
-        let line = step_line (take agents rest) in
-        let a = take used text in
-        let fits = step_left h in
-        let la : length a ≡ used = length-take-le used text (omega (arith, fits.1)) in
-        let lr : length (take agents rest) ≡ agents = length-take-le agents rest fits.0 in
-        let ll : length line ≡ line_size agents = length_line 0xB1 (take agents rest) ∙ rw lr refl in
-        let none : drop (length text - used) (drop used text) ≡ [] = drop_of_length-le (drop used text) {i = length text - used} (simp length-drop (omega arith)) in
-        let q_is : q ≡ line ++ drop (line_size agents) (drop used text)
-        = eq
-        ∙ put_in_room 0xB1 (take agents rest) (take (length text - used) (drop used text)) (omega arith) (rw (part_to_end text used, length-drop used text) (omega (arith, fits.1)))
-        ∙ rw (part_to_end text used, ll) refl in
-        let split : a ++ (q ++ drop (length text - used) (drop used text)) ≡ (a ++ line) ++ drop (line_size agents) (drop used text)
-        = rw (none, append-nil, q_is) (sym (append_assoc a line (drop (line_size agents) (drop used text)))) in
-        let lal : length (a ++ line) ≡ used + size = length-append a line ∙ omega arith in
-        let n : used + line_size agents ≡ used + size = omega arith in
-        let tail = drop (line_size agents) (drop used text) in
-        let lt : length tail ≡ length text - used - line_size agents = length-drop (line_size agents) (drop used text) ∙ ap (λ (x : ℕ). x - line_size agents) (length-drop used text) in
-        record {
-          laid =
-              p.laid
-              ∙ ap (λ (x : List ℕ). a ++ x) (lines_more agents left rest h)
-              ∙ sym (append_assoc a line (lines_in agents (left - 1) (drop agents rest)))
-              ∙ rw (split, take_at (a ++ line) tail (used + size) lal, part_to_end rest agents) refl;
-          kept =
-              rw split
-              (drop_at (a ++ line) tail (used + size) lal
-              ∙ ap (drop (line_size agents)) p.kept
-              ∙ drop-drop (line_size agents) used text₀
-              ∙ ap (λ (x : ℕ). drop x text₀) n);
-          whole = rw (part_to_end rest agents, length-drop agents rest) (omega (arith, p.whole, product_less left agents h));
-          room = rw (split, length-append (a ++ line) tail) (omega (arith, p.room, product_less left (line_size agents) h));
-          size = rw (split, length-append (a ++ line) tail) (omega (arith, p.size, fits.1));
-        }
+      -- and room for its line
+      pub line_room : used + line_size agents ≤ length text
+      line_room = omega (arith, p.room, product_less p.left (line_size agents) one)
+
+      abbrev pub lent : List ℕ
+      lent = take (length text - used) (drop used text)
+
+      wrote : (got (2 * length names + 5) ≡ (line_written 0xB1 names lent).answer) × (over (step_line names) lent ≡ (line_written 0xB1 names lent).buffer)
+      wrote = put_all 0xB1 names lent (omega arith) (rw (part_to_end text used, length-drop used text) (omega (arith, line_room)))
+
+      pub line_put : (size : ℕ) → got size ≡ (line_written 0xB1 names lent).answer → size ≡ line_size agents
+      line_put size e = let z : got size ≡ got (2 * length names + 5) = e ∙ sym wrote.0 in let y : size ≡ 2 * length names + 5 = cc in omega arith
+
+      pub line_fits : (n : ℕ) → refused n ≡ (line_written 0xB1 names lent).answer → ⊥
+      line_fits n e = let z : refused n ≡ got (2 * length names + 5) = e ∙ sym wrote.0 in let y : ◌≡◌ {A = ℕ} 0 1 = cc in omega arith
+
+      pub put_more : (q : List ℕ) (size : ℕ) → size ≡ line_size agents → q ≡ (line_written 0xB1 names lent).buffer
+          → Put agents steps sheet text₀ (take used text ++ (q ++ drop (length text - used) (drop used text))) next (used + size)
+      put_more q size es eq =
+          let line = step_line names in
+          let a = take used text in
+          let la : length a ≡ used = length-take-le used text (omega (arith, line_room)) in
+          let ll : length line ≡ line_size agents = length_line 0xB1 names ∙ rw count refl in
+          let front : take agents rest ≡ names = ap (take agents) cut ∙ take_at names next agents count in
+          let after : drop agents rest ≡ next = ap (drop agents) cut ∙ drop_at names next agents count in
+          let more : lines_in agents p.left rest ≡ line ++ lines_in agents (p.left - 1) next = rw (lines_more agents p.left rest one, front, after) refl in
+          let none : drop (length text - used) (drop used text) ≡ [] = drop_of_length-le (drop used text) {i = length text - used} (simp length-drop (omega arith)) in
+          let q_is : q ≡ line ++ drop (line_size agents) (drop used text) = eq ∙ sym wrote.1 ∙ rw (part_to_end text used, ll) refl in
+          let split : a ++ (q ++ drop (length text - used) (drop used text)) ≡ (a ++ line) ++ drop (line_size agents) (drop used text)
+          = rw (none, append-nil, q_is) (sym (append_assoc a line (drop (line_size agents) (drop used text)))) in
+          let lal : length (a ++ line) ≡ used + size = length-append a line ∙ omega arith in
+          let n : used + line_size agents ≡ used + size = omega arith in
+          let tail = drop (line_size agents) (drop used text) in
+          let lt : length tail ≡ length text - used - line_size agents = length-drop (line_size agents) (drop used text) ∙ ap (λ (x : ℕ). x - line_size agents) (length-drop used text) in
+          record {
+            left = p.left - 1;
+            laid =
+                p.laid
+                ∙ ap (λ (x : List ℕ). a ++ x) more
+                ∙ sym (append_assoc a line (lines_in agents (p.left - 1) next))
+                ∙ rw (split, take_at (a ++ line) tail (used + size) lal) refl;
+            kept =
+                rw split
+                (drop_at (a ++ line) tail (used + size) lal
+                ∙ ap (drop (line_size agents)) p.kept
+                ∙ drop-drop (line_size agents) used text₀
+                ∙ ap (λ (x : ℕ). drop x text₀) n);
+            whole = sym (ap length after) ∙ length-drop agents rest ∙ omega (arith, p.whole, product_less p.left agents one);
+            room = rw (split, length-append (a ++ line) tail) (omega (arith, p.room, product_less p.left (line_size agents) one));
+          }
 
 -- ---- the whole
 

@@ -1,15 +1,12 @@
 -- What the functions within `read` and `write` promise each other: the lines of a sheet one by one.
-use Rattle.std.specs.Prelude.{ℕ, ◌≤◌, ◌<◌, Bool, List, [], ◌∷◌, map, ◌≡◌, leb, length, take, drop}
-use Rattle.std.proofs.Math.Option.{none}
+use Rattle.std.specs.Prelude.{ℕ, ◌≤◌, ◌<◌, Bool, Option, None, Some, Result, Ok, Err, List, [], ◌∷◌, map, ◌≡◌, leb, length, take, drop}
 use Rattle.bmap.specs.Plain.{both, flat}
 use Rattle.bmap.specs.Limits.{most_agents, most_steps}
 use Rattle.bmap.specs.Refusal.{got, refused, then, number_of, Reading, read, refused_at, afterwards}
-use Rattle.bmap.specs.Line.{Line, lines_of, decode, step_kind}
+use Rattle.bmap.specs.declared.refusal.Refusal.{Refusal}
+use Rattle.bmap.specs.Line.{Line, lines_of, decode}
 use Rattle.bmap.specs.Domain.{Names}
-use Rattle.line.specs.Read.{first_payload}
 use Rattle.bmap.specs.Sheet.{step_of, steps_from, rows, step_line}
-use Rattle.sheet.specs.declared.reader.Next.{Next}
-use Rattle.sheet.specs.declared.reader.Next.TheVariants as next
 
 -- ---- the reader
 
@@ -46,14 +43,11 @@ pub record LineStep (agents steps : ℕ) (rest front : List ℕ) (characters : �
   pub some : 0 < characters
   pub within : characters ≤ length rest
 
-abbrev pub NextIs : ℕ → ℕ → List ℕ → List ℕ → Next → Type 0
-NextIs agents steps rest front next.End = lines_of rest ≡ []
-NextIs agents steps rest front (next.Refused r) = LineRefused agents steps rest (number_of r)
-NextIs agents steps rest front (next.Step characters) = LineStep agents steps rest front characters
-
--- there may be no further step, or the first line is none
-abbrev pub NoStep : ℕ → ℕ → List ℕ → Type 0
-NoStep agents steps rest = steps < most_steps → first_payload step_kind agents rest ≡ none
+-- what the first line is: none, a step or refused
+abbrev pub NextIs : ℕ → ℕ → List ℕ → List ℕ → Result (Option ℕ) Refusal → Type 0
+NextIs agents steps rest front (Ok None) = lines_of rest ≡ []
+NextIs agents steps rest front (Ok (Some characters)) = LineStep agents steps rest front characters
+NextIs agents steps rest front (Err r) = LineRefused agents steps rest (number_of r)
 
 -- ---- the writer
 

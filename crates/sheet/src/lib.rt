@@ -2,20 +2,20 @@
 #![tactic(auto)]
 
 mod reader;
+mod shown;
 mod writer;
 
 ghost use Rattle.std.specs.Prelude.{◌≡◌};
 ghost use Rattle.sheet.specs.Step.{agents_allowed};
 
-pub use reader::{ReadSheet, read};
+use bmap::Counts;
+pub use reader::read;
+pub use shown::texts;
 pub use writer::write;
 
 // May so many agents have a sheet.
 fn agents_known(agents: usize) -> bool
     ensures { result ≡ agents_allowed agents }
 {
-    if agents == 0 {
-        return false;
-    }
-    agents <= bmap::Counts::AGENTS
+    (1..=Counts::AGENTS).contains(&agents)
 }

@@ -1,53 +1,38 @@
 // The steps of a sheet, to its lines.
-ghost use Rattle.std.specs.Prelude.{◌≡◌, ◌*◌, ◌≤◌, length};
-ghost use Rattle.bmap.specs.Buffer.{over};
+ghost use Rattle.std.specs.Prelude.{◌≡◌, ◌≤◌};
 ghost use Rattle.bmap.specs.Limits.{most_agents};
 ghost use Rattle.bmap.specs.Line.{line_size};
 ghost use Rattle.bmap.specs.Sheet.{write_sheet};
 ghost use Rattle.line.specs.Write.{answer_of};
-ghost use Rattle.sheet.specs.Step.{lines_in};
 
 use crate::agents_known;
 use bmap::{Kind, Refusal, Sheet};
-use line::{Written, put_line};
+use line::put_line;
 
-// The lines of a sheet to the front of a text: its length is tested before anything is written.
-pub fn write(sheet: &[u8], agents: usize, text: &mut [u8]) -> Written
-    ensures { (answer_of result ≡ (write_sheet sheet.now agents text.old).answer) × (text.new ≡ (write_sheet sheet.now agents text.old).buffer) }
+// The lines of a sheet to the front of a text, and their size: the length of the text is tested before anything is written.
+pub fn write(sheet: &[u8], agents: usize, text: &mut [u8]) -> Result<usize, Refusal>
+    ensures answer { answer_of result ≡ (write_sheet sheet.now agents text.old).answer }
+    ensures buffer { text.new ≡ (write_sheet sheet.now agents text.old).buffer }
 {
     if !agents_known(agents) {
-        return Written::Refused(Refusal::BadPayload);
+        return Err(Refusal::BadPayload);
     }
     if sheet.len() % agents != 0 {
-        return Written::Refused(Refusal::NotWhole);
+        return Err(Refusal::NotWhole);
     }
     let steps = sheet.len() / agents;
     if steps > Sheet::STEPS {
-        return Written::Refused(Refusal::TooLong);
+        return Err(Refusal::TooLong);
     }
     let total = steps * line_size(agents);
     if text.len() < total {
-        return Written::Refused(Refusal::NoRoom);
+        return Err(Refusal::NoRoom);
     }
-    put_steps(sheet, agents, steps, text);
-    Written::Wrote(total)
-}
-
-// The lines of so many steps, to the front of a text that has room for them.
-fn put_steps(sheet: &[u8], agents: usize, steps: usize, text: &mut [u8])
-    requires { (agents ≤ most_agents) × (length sheet.now ≡ steps * agents) × (steps * line_size agents ≤ length text.old) }
-    ensures { text.new ≡ over (lines_in agents steps sheet.now) text.old }
-{
-    let line = line_size(agents);
-    let mut rest = sheet;
-    let mut left = steps;
-    let mut used: usize = 0;
-    while left > 0 {
-        put_line(Kind::STEP, &rest[..agents], &mut text[used..]);
-        used += line;
-        rest = &rest[agents..];
-        left -= 1;
+    let mut used = 0;
+    for names in sheet.chunks_exact(agents) {
+        used += put_line(Kind::STEP, names, &mut text[used..])?;
     }
+    Ok(total)
 }
 
 // The characters of a step's line: two digits a name, kind and count among them, and the LF.

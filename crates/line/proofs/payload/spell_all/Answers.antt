@@ -1,28 +1,21 @@
-use Prim.Native.Nat.{◌*◌}
-use mathlib.Core.Path.{refl, subst, ◌∙◌}
+use Prim.Native.Nat.{◌+◌, ◌≤◌}
+use mathlib.Core.Path.{ap, ◌∙◌}
+use lib.ListN.{length, length-drop}
 use native.Mathlib.Omega.{arith}
-use Rattle.line.proofs.Lists.{length_back}
-use Rattle.line.specs.Within.{BlockIf}
+use Rattle.line.proofs.Lists.{part_to_end, length_back}
 use Rattle.line.proofs.WholeLaws.{spells_part}
-use Rattle.line.proofs.PayloadLaws.{part, so_far_start, so_far_block, so_far_if}
+use Rattle.line.proofs.PayloadLaws.{spelt_on, spelt_rest}
 use Rattle.line.proofs.payload.spell_all.Goals as goal
 
-pub loop-at-init : goal.loop-at-init
-loop-at-init c = (refl, omega arith, so_far_start c.args.text.now c.args.out.now)
-
-pub returns-then-not-spell_block : goal.returns-then-not-spell_block
-returns-then-not-spell_block c w =
-    let size = length_back c.loop-at.out c.spell_block.new.out c.loop-at.at (omega arith) c.spell_block.auto.out in
-    subst (BlockIf 16 (part c.args.text.now (2 * c.loop-at.at)) (part c.loop-at.out c.loop-at.at) c.spell_block.new.out) c.if-not-spell_block.true c.spell_block.ensures (spells_part c.args.text.now _ c.loop-at.at 16 (omega (arith, size)) w)
-
-pub loop-at-preserved : goal.loop-at-preserved
-loop-at-preserved c =
-    let e = subst (BlockIf 16 (part c.args.text.now (2 * c.loop-at.at)) (part c.loop-at.out c.loop-at.at) c.spell_block.new.out) c.if-not-spell_block.false c.spell_block.ensures in (
-      length_back c.loop-at.out c.spell_block.new.out c.loop-at.at (omega arith) c.spell_block.auto.out ∙ c.loop-at.invariant.0,
-      omega arith,
-      so_far_block c.args.text.now c.loop-at.out c.loop-at.at c.loop-at.invariant.2 16 c.spell_block.new.out e.0 e.1,
-    )
+pub returns-in_default-spell_blocks : goal.returns-in_default-spell_blocks
+returns-in_default-spell_blocks c w =
+    let size = ap length (part_to_end c.spell_blocks.new.out c.in-Some.blocks) ∙ length-drop c.in-Some.blocks c.spell_blocks.new.out in
+    c.in_default-spell_blocks.ensures (spells_part c.args.text.now (length c.args.out.now) c.in-Some.blocks _ (omega (arith, size, c.in-Some.ensures.within, c.spell_blocks.auto.out)) w)
 
 pub returns : goal.returns
 returns c =
-    so_far_if c.args.text.now c.loop-at.out c.loop-at.at c.loop-at.invariant.2 c.spell_rest.new.out c.spell_rest.result (omega arith) c.spell_rest.auto.out c.spell_rest.ensures
+    let d = spelt_on c.args.text.now c.spell_blocks.new.out c.in-Some.blocks c.in-Some.ensures.spelt c.in-Some-spell_blocks.few c.spell_blocks-2.new.out c.in-Some-spell_blocks.ensures.spelt in
+    let back = length_back c.spell_blocks.new.out c.spell_blocks-2.new.out c.in-Some.blocks c.in-Some.ensures.within c.spell_blocks-2.auto.out in
+    let inside : c.in-Some.blocks + c.in-Some-spell_blocks.few ≤ length c.spell_blocks.new.out =
+    omega (arith, c.in-Some.ensures.within, c.in-Some-spell_blocks.ensures.within, c.spell_blocks-2.auto.out, ap length (part_to_end c.spell_blocks.new.out c.in-Some.blocks) ∙ length-drop c.in-Some.blocks c.spell_blocks.new.out) in
+    spelt_rest c.args.text.now _ _ _ (back ∙ c.spell_blocks.auto.out) d (omega (arith, inside, back)) c.spell_each.new.out c.spell_each.auto.out c.spell_each.result c.spell_each.ensures

@@ -1,11 +1,13 @@
 use Prim.Native.Nat.{ℕ, ◌-◌, ◌≤◌, ◌+◌, ◌*◌}
 use mathlib.Core.Path.{◌≡◌, sym, ap, ◌∙◌}
+use mathlib.Core.Option.{some}
 use mathlib.Core.List.{List}
 use lib.ListN.{length, take, drop, length-drop}
 use native.Mathlib.Omega.{arith}
 use borrow.Author.Tests.{eqb-true, eqb-false}
 use Rattle.bmap.specs.Limits.{frame_size}
-use Rattle.line.specs.Read.{spelt, said}
+use Rattle.line.specs.Read.{spelt}
+use Rattle.line.specs.Write.{answer_of}
 use Rattle.line.proofs.Lists.{part_to_end}
 use Rattle.line.proofs.Digits.{spelt_most, spelt_half}
 use Rattle.line.proofs.FirstLaws.{line_ends, line_stops, line_too_long, line_stops_late}
@@ -28,11 +30,11 @@ frame_of-requires c = omega (arith, c.requires.pairs, spelt_most frame_size c.ar
 
 pub returns-then-feed_at : goal.returns-then-feed_at
 returns-then-feed_at c =
-    ap said c.frame_of.ensures ∙ line_ends c.args.text.now c.args.n c.args.count c.requires (eqb-true _ _ (sym c.feed_at.ensures ∙ c.if-feed_at.true))
+    ap (λ y. some (answer_of y)) c.frame_of.ensures ∙ line_ends c.args.text.now c.args.n c.args.count c.requires (eqb-true _ _ (sym c.if-feed_at.ensures))
 
 pub returns-then-n-lt-FRAME : goal.returns-then-n-lt-FRAME
 returns-then-n-lt-FRAME c =
-    line_stops c.args.text.now c.args.n c.args.count c.requires (eqb-false _ _ (sym c.feed_at.ensures ∙ c.if-feed_at.false)) c.if-n-lt-FRAME.true
+    line_stops c.args.text.now c.args.n c.args.count c.requires (eqb-false _ _ (sym c.if-feed_at.ensures)) c.if-n-lt-FRAME.true
 
 pub slice_bounds-pairs-count : goal.slice_bounds-pairs-count
 slice_bounds-pairs-count c = omega (arith, c.requires.pairs, spelt_half frame_size c.args.text.now)
@@ -49,11 +51,11 @@ overflow_add-end c = omega (arith, (half c.args.text.now c.args.n c.pairs-more.r
 pub returns-then-feed_at-2 : goal.returns-then-feed_at-2
 returns-then-feed_at-2 c =
     line_too_long c.args.text.now c.args.n c.args.count c.pairs-more.result c.requires (omega arith)
-    (eqb-false _ _ (sym c.feed_at.ensures ∙ c.if-feed_at.false)) (half c.args.text.now c.args.n c.pairs-more.result c.requires.pairs c.pairs-more.ensures).2
-    (eqb-true _ _ (sym c.feed_at-2.ensures ∙ c.if-feed_at-2.true))
+    (eqb-false _ _ (sym c.if-feed_at.ensures)) (half c.args.text.now c.args.n c.pairs-more.result c.requires.pairs c.pairs-more.ensures).2
+    (eqb-true _ _ (sym c.if-feed_at-2.ensures))
 
 pub returns : goal.returns
 returns c =
     line_stops_late c.args.text.now c.args.n c.args.count c.pairs-more.result c.requires (omega arith)
-    (eqb-false _ _ (sym c.feed_at.ensures ∙ c.if-feed_at.false)) (half c.args.text.now c.args.n c.pairs-more.result c.requires.pairs c.pairs-more.ensures).2
-    (eqb-false _ _ (sym c.feed_at-2.ensures ∙ c.if-feed_at-2.false))
+    (eqb-false _ _ (sym c.if-feed_at.ensures)) (half c.args.text.now c.args.n c.pairs-more.result c.requires.pairs c.pairs-more.ensures).2
+    (eqb-false _ _ (sym c.if-feed_at-2.ensures))

@@ -1,6 +1,6 @@
 use mathlib.Core.Path.{refl, ap, ◌∙◌}
 use mathlib.Core.List.{◌++◌}
-use lib.ListN.{length, take, length-set}
+use lib.ListN.{length, take}
 use native.Mathlib.Omega.{arith}
 use Rattle.line.proofs.Digits.{spelt_more, spell_more}
 use Rattle.line.proofs.WholeLaws.{each_done}
@@ -10,9 +10,8 @@ pub loop-n-preserved : goal.loop-n-preserved
 loop-n-preserved c =
     let m = length c.args.out.now in
     let e = spelt_more m c.args.text.now c.loop-n.n (omega arith) (omega (arith, c.requires.within)) (c.requires.pairs c.loop-n.n (omega arith)) in
-    let t = spell_more m c.args.text.now c.loop-n.out c.loop-n.out c.loop-n.n c.byte_of.result (omega arith) (rw c.byte_of.ensures (c.loop-n.invariant.2 ∙ ap (λ x. take c.loop-n.n c.loop-n.out ++ x) e)) refl in
-    (simp length-set c.loop-n.invariant.0, omega arith, t.0)
+    (spell_more m c.args.text.now c.loop-n.out c.loop-n.out c.loop-n.n c.byte_of.result (omega arith) (rw c.byte_of.ensures (c.loop-n.invariant ∙ ap (λ x. take c.loop-n.n c.loop-n.out ++ x) e)) refl).0
 
 pub returns : goal.returns
 returns c =
-    each_done (length c.args.out.now) c.args.text.now c.loop-n.out c.loop-n.n (omega arith) (omega arith) c.loop-n.invariant.2
+    each_done (length c.args.out.now) c.args.text.now c.loop-n.out c.loop-n.n (omega arith) (omega arith) c.loop-n.invariant

@@ -1,4 +1,4 @@
-use Prim.Native.Nat.{◌≤◌, ◌-◌, ◌*◌}
+use Prim.Native.Nat.{◌-◌, ◌*◌}
 use mathlib.Core.Path.{◌≡◌}
 use mathlib.Core.List.{◌++◌}
 use lib.ListN.{length, take, drop}
@@ -6,8 +6,4 @@ use Rattle.line.specs.Read.{spelt}
 use Rattle.line.proofs.whole.decode_each.Given as goal
 
 abbrev pub invariant-loop-n : goal.invariant-loop-n
-invariant-loop-n l =
-    (length l.out ≡ length l.initial.out) × (l.n ≤ length l.initial.out) × (spelt (length l.initial.out) l.text ≡ take l.n l.out ++ spelt (length l.initial.out - l.n) (drop (2 * l.n) l.text))
-
-abbrev pub decreases-loop-n : goal.decreases-loop-n
-decreases-loop-n l = length l.initial.out - l.n
+invariant-loop-n l = spelt (length l.initial.out) l.text ≡ take l.n l.out ++ spelt (length l.initial.out - l.n) (drop (2 * l.n) l.text)

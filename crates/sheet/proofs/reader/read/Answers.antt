@@ -1,19 +1,28 @@
-use Rattle.sheet.proofs.ReadLaws.{read_short, read_agents, read_lines}
-use Rattle.sheet.specs.Answer.{reading_of}
-use Rattle.sheet.specs.Step.{agents_allowed}
+use mathlib.Core.Path.{sym, ap, refl, ◌∙◌}
 use native.Mathlib.Omega.{arith}
-use mathlib.Core.Bool.{true}
-use mathlib.Core.Path.{◌≡◌, sym, ◌∙◌}
+use Rattle.sheet.specs.Answer.{reading_of}
+use Rattle.sheet.proofs.Agents.{known_agents}
+use Rattle.sheet.proofs.ReadLaws.{names_fit, read_short, read_agents, read_lines, read_refused}
 use Rattle.sheet.proofs.reader.read.Goals as goal
 
 pub returns-then-buffer-lt-BYTES : goal.returns-then-buffer-lt-BYTES
 returns-then-buffer-lt-BYTES c =
-    read_short c.args.agents c.args.text.now c.args.buffer.now c.if-buffer-lt-BYTES.true
+    let (a, b) = read_short c.args.agents c.args.text.now c.args.buffer.now c.if-buffer-lt-BYTES.true in record { answer = a; buffer = b }
 
 pub returns-then-not-agents_known : goal.returns-then-not-agents_known
 returns-then-not-agents_known c =
-    read_agents c.args.agents c.args.text.now c.args.buffer.now c.zero_from.new.buffer (omega arith) (sym c.agents_known.ensures ∙ c.if-not-agents_known.true) c.zero_from.ensures
+    let (a, b) = read_agents c.args.agents c.args.text.now c.args.buffer.now _ (omega arith) (sym c.if-not-agents_known.ensures) (c.fill.ensures.after (λ y e. e)) in
+    record { answer = a; buffer = b }
 
-pub returns : goal.returns
-returns c =
-    read_lines c.args.agents c.args.text.now c.args.buffer.now (reading_of c.read_steps-steps.result.answer) c.read_steps-steps.new.buffer c.zero_from-2.new.buffer c.read_steps-steps.result.used (omega arith) ((let known : agents_allowed c.args.agents ≡ true = sym c.agents_known.ensures ∙ c.if-not-agents_known.false in known)) c.read_steps-steps.auto.buffer c.read_steps-steps.ensures.0 c.read_steps-steps.ensures.1 c.zero_from-2.ensures
+pub overflow_mul-steps : goal.overflow_mul-steps
+overflow_mul-steps c = omega (arith, names_fit c.args.agents c.in-Ok.steps (known_agents _ (sym c.if-not-agents_known.ensures)).1 c.in-Ok.ensures.most)
+
+pub returns-in-Ok : goal.returns-in-Ok
+returns-in-Ok c =
+    let (a, b) = read_lines c.args.agents c.args.text.now c.args.buffer.now _ (omega arith) _ (sym c.if-not-agents_known.ensures) c.in-Ok.ensures.answer (c.zero_from.ensures ∙ rw (c.in-Ok.ensures.names, c.read_steps-answer.auto.buffer) refl) in
+    record { answer = a; buffer = b }
+
+pub returns-in-Err : goal.returns-in-Err
+returns-in-Err c =
+    let (a, b) = read_refused c.args.agents c.args.text.now c.args.buffer.now _ (omega arith) _ _ (sym c.if-not-agents_known.ensures) c.in-Err.ensures.answer (c.fill-in-Err.ensures.after (λ y e. e) ∙ rw c.read_steps-answer.auto.buffer refl) in
+    record { answer = ap reading_of c.in-Err.is ∙ a; buffer = b }

@@ -1,13 +1,11 @@
-use Rattle.sheet.proofs.ReadLaws.{Done}
-use Rattle.bmap.specs.Limits.{most_steps}
+use Prim.Native.Nat.{◌≤◌}
 use lib.ListN.{length}
-use mathlib.Core.Path.{◌≡◌}
-use Prim.Native.Nat.{◌≤◌, ◌*◌}
+use Rattle.bmap.specs.Limits.{most_steps}
+use Rattle.sheet.proofs.ReadLaws.{Done}
 use Rattle.sheet.proofs.reader.read_steps.Given as goal
 
-abbrev pub invariant-loop-refusal : goal.invariant-loop-refusal
-invariant-loop-refusal l =
-    (length l.buffer ≡ length l.initial.buffer) × (l.steps ≤ most_steps) × (l.used ≤ 16 * l.steps) × Done l.agents l.text l.rest l.buffer l.steps l.used
+abbrev pub invariant-lines : goal.invariant-lines
+invariant-lines l = (l.steps ≤ most_steps) × Done l.agents l.text l.rest l.buffer l.steps
 
-abbrev pub decreases-loop-refusal : goal.decreases-loop-refusal
-decreases-loop-refusal l = length l.rest
+abbrev pub decreases-lines : goal.decreases-lines
+decreases-lines l = length l.rest

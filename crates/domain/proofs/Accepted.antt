@@ -3,26 +3,25 @@ use Prim.Native.Nat.{ℕ, zero, suc, ◌≤◌, ◌<◌}
 use native.Mathlib.Nat.{le_of_suc-le-suc, not-suc-le-zero}
 use native.Mathlib.Omega.{arith}
 use mathlib.Core.Path.{◌≡◌, refl, sym, ap, subst, ◌∙◌}
-use mathlib.Core.Bool.{true, false}
 use mathlib.Core.List.{List, [], ◌∷◌, map}
 use mathlib.Core.Option.{Option, none, some}
+use Rattle.std.specs.Prelude.{None, Some}
+use Rattle.std.proofs.lemmas.List.{length-map}
 use lib.Dec.{ltb}
-use lib.IntN.{ℤ, pos}
 use lib.ListN.{length, get_or}
 use borrow.Author.Tests.{ltb-true}
 use Rattle.bmap.specs.Plain.{maybe, numbers}
 use Rattle.bmap.specs.Limits.{frame_size}
 use Rattle.bmap.specs.Refusal.{Answer, got, refused, known, Reading, read, refused_at}
 use Rattle.bmap.specs.Line.{Frame}
-use Rattle.bmap.specs.Domain.{Domain, Fluent, Knows, Entry}
+use Rattle.bmap.specs.Domain.{Domain}
 use Rattle.bmap.specs.Accept.{nothing, counts_of, complete, taken}
 use Rattle.bmap.specs.Store.{frames_in, what_was_read, domain_in}
 use Rattle.bmap.proofs.PlainLaws.{both_true}
 use Rattle.index.specs.declared.Index.{Index}
-use Rattle.index.specs.Index.{frame_bytes, fluent_at, knowledge_at, entry_of, no_law, law_bytes, law_of, law_at, domain_of, Sound}
-use Rattle.domain.specs.declared.found.Found.{Found}
-use Rattle.domain.specs.Found.{law_places, index_with, nothing_found, found_of, found_in}
-use Rattle.domain.proofs.Rows.{length_mapped, row_at, row_back, numbers_all}
+use Rattle.index.specs.Index.{frame_bytes, no_fluent, no_knowledge, no_entry, fluent_said, knowledge_said, entry_said, fluent_at, knowledge_at, entry_of, no_law, law_bytes, law_of, law_at, domain_of, Sound}
+use Rattle.domain.specs.Found.{law_places, fluent_row, knowledge_row, entry_row, index_with, found_of, found_in}
+use Rattle.domain.proofs.Rows.{row_at, row_back, numbers_all}
 use Rattle.domain.proofs.Stands.{law_there, stands_first, Whole, whole}
 
 -- ---- the i-th of two lists that are read off each other
@@ -33,50 +32,24 @@ nth f g [] (y ∷ ys) d i e h = absurd (let z : ◌≡◌ {A = ℕ} 0 1 = cc in 
 nth f g (a ∷ l) (y ∷ ys) d zero e h = cc
 nth f g (a ∷ l) (y ∷ ys) d (suc i) e h = nth f g l ys d i (cc) (le_of_suc-le-suc h)
 
-no_fluent : Fluent
-no_fluent = record { lowest = pos 0; highest = pos 0; start = pos 0; limit = 0 }
-
-no_knowledge : Knows
-no_knowledge = record { fluent = 0; mask = 0 }
-
-no_entry : Entry
-no_entry = record { name = 0; crew = 0 }
-
 module _ (s : List ℕ) (d : Domain) (places : List ℕ) (w : Whole s d places) where
   abbrev index : Index
   index = index_with d places
 
   fluents_back : map (fluent_at index) (numbers 0 (length d.fluents)) ≡ d.fluents
-  unfolding index_with no_fluent
-  fluents_back =
-      let l = d.fluents in
-      numbers_all (fluent_at index) no_fluent l
-      (λ i h.
-      ap (λ (a : ℤ). record { lowest = a; highest = (fluent_at index i).highest; start = (fluent_at index i).start; limit = (fluent_at index i).limit }) (row_back (λ (x : Fluent). x.lowest) 32 l no_fluent i h)
-      ∙ ap (λ (a : ℤ). record { lowest = (get_or l i no_fluent).lowest; highest = a; start = (fluent_at index i).start; limit = (fluent_at index i).limit }) (row_back (λ (x : Fluent). x.highest) 32 l no_fluent i h)
-      ∙ ap (λ (a : ℤ). record { lowest = (get_or l i no_fluent).lowest; highest = (get_or l i no_fluent).highest; start = a; limit = (fluent_at index i).limit }) (row_back (λ (x : Fluent). x.start) 32 l no_fluent i h)
-      ∙ ap (λ (a : ℕ). record { lowest = (get_or l i no_fluent).lowest; highest = (get_or l i no_fluent).highest; start = (get_or l i no_fluent).start; limit = a }) (row_back (λ (x : Fluent). x.limit) 32 l no_fluent i h))
+  unfolding index_with
+  fluents_back = numbers_all (fluent_at index) (fluent_said no_fluent) d.fluents (λ i h. ap fluent_said (row_back fluent_row 32 d.fluents (fluent_said no_fluent) i h))
 
   knowledge_back : map (knowledge_at index) (numbers 0 (length d.knowledge)) ≡ d.knowledge
-  unfolding index_with no_knowledge
-  knowledge_back =
-      let l = d.knowledge in
-      numbers_all (knowledge_at index) no_knowledge l
-      (λ i h.
-      ap (λ (a : ℕ). record { fluent = a; mask = (knowledge_at index i).mask }) (row_back (λ (x : Knows). x.fluent) 64 l no_knowledge i h)
-      ∙ ap (λ (a : ℕ). record { fluent = (get_or l i no_knowledge).fluent; mask = a }) (row_back (λ (x : Knows). x.mask) 64 l no_knowledge i h))
+  unfolding index_with
+  knowledge_back = numbers_all (knowledge_at index) (knowledge_said no_knowledge) d.knowledge (λ i h. ap knowledge_said (row_back knowledge_row 64 d.knowledge (knowledge_said no_knowledge) i h))
 
   entries_back : map (entry_of index) (numbers 0 (length d.entries)) ≡ d.entries
-  unfolding index_with no_entry
-  entries_back =
-      let l = d.entries in
-      numbers_all (entry_of index) no_entry l
-      (λ i h.
-      ap (λ (a : ℕ). record { name = a; crew = (entry_of index i).crew }) (row_back (λ (x : Entry). x.name) 64 l no_entry i h)
-      ∙ ap (λ (a : ℕ). record { name = (get_or l i no_entry).name; crew = a }) (row_back (λ (x : Entry). x.crew) 64 l no_entry i h))
+  unfolding index_with
+  entries_back = numbers_all (entry_of index) (entry_said no_entry) d.entries (λ i h. ap entry_said (row_back entry_row 64 d.entries (entry_said no_entry) i h))
 
   pub as_many : length places ≡ length d.laws
-  as_many = sym (length_mapped (law_there s (counts_of d)) places) ∙ ap length w.stands.there ∙ length_mapped some d.laws
+  as_many = sym (length-map places (law_there s (counts_of d))) ∙ ap length w.stands.there ∙ length-map d.laws some
 
   law_is : (i : ℕ) → i < length d.laws → law_of s index i ≡ some (get_or d.laws i no_law)
   unfolding index_with law_of
@@ -149,36 +122,37 @@ refused_15 s n e = go (maybe (frames_in s) none (λ fs. what_was_read (taken (ma
     go (some d) q = absurd (let z : ◌≡◌ {A = ℕ} 0 1 = cc in omega arith)
 
 module _ (s : List ℕ) where
-  pub found_got : (d : Domain) → (g : domain_in s ≡ got d) → found_in s ≡ record { ok = true; index = index_with d (law_places 0 (domained s d g).frames) }
+  pub found_got : (d : Domain) → (g : domain_in s ≡ got d) → found_in s ≡ Some (index_with d (law_places 0 (domained s d g).frames))
   unfolding found_in
   found_got d g =
       ap (λ o. found_of (maybe o [] (law_places 0)) (domain_in s)) (domained s d g).are ∙ ap (found_of (law_places 0 (domained s d g).frames)) g
 
-  pub found_not : (n : ℕ) → domain_in s ≡ refused n → found_in s ≡ nothing_found
+  pub found_not : (n : ℕ) → domain_in s ≡ refused n → found_in s ≡ None
   unfolding found_in
   found_not n g = ap (found_of (maybe (frames_in s) [] (law_places 0))) g
 
-  -- what a caller has of a store that is found
-  pub record FoundHere : Type 0 where
-    pub sound : Sound s (found_in s).index
-    pub domain : domain_in s ≡ got (domain_of s (found_in s).index)
+  -- what a caller has of a store in which this index is found
+  pub record FoundHere (x : Index) : Type 0 where
+    pub sound : Sound s x
+    pub domain : domain_in s ≡ got (domain_of s x)
 
-  pub found_ok : (found_in s).ok ≡ true → FoundHere
-  found_ok k = go (domain_in s) refl
+  pub found_ok : (x : Index) → found_in s ≡ Some x → FoundHere x
+  found_ok x k = go (domain_in s) refl
     where
-      go : (a : Answer Domain) → domain_in s ≡ a → FoundHere
-      go (refused n) g = absurd (let f = found_not n g in let b : false ≡ true = ap (λ (x : Found). x.ok) (sym f) ∙ k in let z : ◌≡◌ {A = ℕ} 0 1 = cc in omega arith)
+      go : (a : Answer Domain) → domain_in s ≡ a → FoundHere x
+      go (refused n) g = absurd (let e = sym k ∙ found_not n g in let z : ◌≡◌ {A = ℕ} 0 1 = cc in omega arith)
       go (got d) g =
           let m = domained s d g in
-          let x : (found_in s).index ≡ index_with d (law_places 0 m.frames) = ap (λ (y : Found). y.index) (found_got d g) in
+          let e = sym k ∙ found_got d g in
+          let same : index_with d (law_places 0 m.frames) ≡ x = cc in
           record {
-            sound = subst (Sound s) (sym x) (sound s d (law_places 0 m.frames) m.all);
-            domain = g ∙ ap got (sym (ap (domain_of s) x ∙ domain_back s d (law_places 0 m.frames) m.all));
+            sound = subst (Sound s) same (sound s d (law_places 0 m.frames) m.all);
+            domain = g ∙ ap got (sym (domain_back s d (law_places 0 m.frames) m.all) ∙ ap (domain_of s) same);
           }
 
-  pub found_none : (found_in s).ok ≡ false → domain_in s ≡ refused 15
+  pub found_none : found_in s ≡ None → domain_in s ≡ refused 15
   found_none k = go (domain_in s) refl
     where
       go : (a : Answer Domain) → domain_in s ≡ a → domain_in s ≡ refused 15
       go (refused n) g = g ∙ ap refused (refused_15 s n g)
-      go (got d) g = absurd (let f = found_got d g in let b : true ≡ false = ap (λ (x : Found). x.ok) (sym f) ∙ k in let z : ◌≡◌ {A = ℕ} 0 1 = cc in omega arith)
+      go (got d) g = absurd (let e = sym k ∙ found_got d g in let z : ◌≡◌ {A = ℕ} 0 1 = cc in omega arith)

@@ -1,60 +1,37 @@
 -- Acceptance of a store and its index, frame by frame. Assumes nothing.
 use Prim.Native.Nat.{ℕ, zero, suc, ◌+◌}
-use native.Mathlib.Omega.{arith}
 use mathlib.Core.Path.{◌≡◌, refl, sym, ap, ◌∙◌}
 use mathlib.Core.Bool.{Bool, true, false}
 use mathlib.Core.List.{List, [], ◌∷◌, ◌++◌, append_assoc, append-nil, map}
 use mathlib.Core.Option.{Option, none, some}
-use lib.Dec.{eqb, leb}
-use lib.ListN.{length, get_or, drop}
-use borrow.Author.Tests.{lt-ltb}
-use Rattle.bmap.specs.Plain.{if_else, maybe, all, numbers}
+use lib.Dec.{leb}
+use lib.ListN.{length, drop}
+use Rattle.bmap.specs.Plain.{if_else, maybe}
 use Rattle.bmap.specs.Refusal.{Answer, got, refused, need, known, read, at_line}
 use Rattle.bmap.specs.Line.{Frame, stored}
 use Rattle.bmap.specs.Domain.{Domain}
 use Rattle.bmap.specs.Accept.{Partial, nothing, accept, complete, finished, taken_from}
 use Rattle.bmap.specs.Store.{frame_at, zeros, frames_from, frames_in, what_was_read, domain_in}
-use Rattle.bmap.specs.declared.limits.Counts.{Counts}
-use Rattle.domain.specs.declared.found.Found.{Found}
-use Rattle.domain.specs.Found.{complete_on, law_places, index_with, nothing_found, found_of, found_in}
+use Rattle.std.specs.Prelude.{Option as Maybe, None, Some}
+use Rattle.index.specs.declared.Index.{Index}
+use Rattle.domain.specs.Found.{law_places, index_with, found_of, found_in}
 use Rattle.domain.proofs.Stands.{places_with}
-
--- ---- nothing is missing at the end
-
-module _ (n : Counts) (ready : List ℕ) where
-  pub complete_agents : n.agents ≡ 0 → false ≡ complete_on n ready
-  unfolding complete_on
-  complete_agents a = rw a
-
-  module _ (a : n.agents ≡ 0 → ⊥) where
-    pub complete_fluents : n.fluents ≡ 0 → false ≡ complete_on n ready
-    unfolding complete_on
-    complete_fluents f = rw (lt-ltb 0 n.agents (omega arith), f)
-
-    module _ (f : n.fluents ≡ 0 → ⊥) where
-      pub complete_entries : n.entries ≡ 0 → false ≡ complete_on n ready
-      unfolding complete_on
-      complete_entries e = rw (lt-ltb 0 n.agents (omega arith), lt-ltb 0 n.fluents (omega arith), e)
-
-      pub complete_all : (n.entries ≡ 0 → ⊥) → all (λ i. eqb (get_or ready i 0) 1) (numbers 0 n.entries) ≡ complete_on n ready
-      unfolding complete_on
-      complete_all e = rw (lt-ltb 0 n.agents (omega arith), lt-ltb 0 n.fluents (omega arith), lt-ltb 0 n.entries (omega arith))
 
 -- ---- the index so far, and the frames from a place on; so many looks are left
 
-abbrev onward : Answer Partial → (Partial → Found) → Found
+abbrev onward : Answer Partial → (Partial → Maybe Index) → Maybe Index
 onward (got q) k = k q
-onward (refused n) k = nothing_found
+onward (refused n) k = None
 
-unfoldable pub found_from : ℕ → Partial → List ℕ → List ℕ → ℕ → Found
-found_from zero p places s at = nothing_found
+unfoldable pub found_from : ℕ → Partial → List ℕ → List ℕ → ℕ → Maybe Index
+found_from zero p places s at = None
 found_from (suc looks) p places s at =
-    maybe (frame_at s at) (if_else (zeros (drop at s)) (found_of places (finished p)) nothing_found) (λ f.
+    maybe (frame_at s at) (if_else (zeros (drop at s)) (found_of places (finished p)) None) (λ f.
     onward (accept p f) (λ q. found_from looks q (places_with places at f) s (at + length (stored f))))
 
 -- what the frames from a place on come to
-abbrev found_by : ℕ → Partial → List ℕ → ℕ → Option (List Frame) → Found
-found_by lines p places at none = nothing_found
+abbrev found_by : ℕ → Partial → List ℕ → ℕ → Option (List Frame) → Maybe Index
+found_by lines p places at none = None
 found_by lines p places at (some fs) = found_of (places ++ law_places at fs) (known 15 (what_was_read (taken_from lines p (map got fs))))
 
 found_by_lem : (looks lines : ℕ) (p : Partial) (places : List ℕ) (s : List ℕ) (at : ℕ) → found_by lines p places at (frames_from looks s at) ≡ found_from looks p places s at
@@ -63,10 +40,10 @@ found_by_lem zero lines p places s at = refl
 found_by_lem (suc looks) lines p places s at = step (frame_at s at) (λ f q. found_by_lem looks (suc lines) q (places_with places at f) s (at + length (stored f)))
   where
     ended : (b : Bool) → found_of (places ++ []) (known 15 (what_was_read (at_line lines (need b 7 (got p.domain)) read))) ≡ found_of places (need b 7 (got p.domain))
-    ended true = ap (λ l. record { ok = true; index = index_with p.domain l }) (append-nil places)
+    ended true = ap (λ l. Some (index_with p.domain l)) (append-nil places)
     ended false = refl
 
-    last : (b : Bool) → found_by lines p places at (if_else b (some []) none) ≡ if_else b (found_of places (finished p)) nothing_found
+    last : (b : Bool) → found_by lines p places at (if_else b (some []) none) ≡ if_else b (found_of places (finished p)) None
     last true = ended (complete p.domain)
     last false = refl
 
@@ -92,7 +69,7 @@ found_by_lem (suc looks) lines p places s at = step (frame_at s at) (λ f q. fou
     step : (o : Option Frame)
         → ((f : Frame) (q : Partial) → found_by (suc lines) q (places_with places at f) (at + length (stored f)) (frames_from looks s (at + length (stored f))) ≡ found_from looks q (places_with places at f) s (at + length (stored f)))
         → found_by lines p places at (maybe o (if_else (zeros (drop at s)) (some []) none) (λ f. maybe (frames_from looks s (at + length (stored f))) none (λ rest. some (f ∷ rest))))
-        ≡ maybe o (if_else (zeros (drop at s)) (found_of places (finished p)) nothing_found) (λ f. onward (accept p f) (λ q. found_from looks q (places_with places at f) s (at + length (stored f))))
+        ≡ maybe o (if_else (zeros (drop at s)) (found_of places (finished p)) None) (λ f. onward (accept p f) (λ q. found_from looks q (places_with places at f) s (at + length (stored f))))
     step none rec = last (zeros (drop at s))
     step (some f) rec = more f (accept p f) (frames_from looks s (at + length (stored f))) (rec f) refl
 
@@ -107,7 +84,7 @@ found_start s = go (frames_in s) ∙ found_by_lem (suc (length s)) 0 nothing [] 
 
 -- one look
 module _ (looks : ℕ) (p : Partial) (places : List ℕ) (s : List ℕ) (at : ℕ) (f : Frame) (e : frame_at s at ≡ some f) where
-  pub found_refused : (m : ℕ) → accept p f ≡ refused m → found_from (suc looks) p places s at ≡ nothing_found
+  pub found_refused : (m : ℕ) → accept p f ≡ refused m → found_from (suc looks) p places s at ≡ None
   unfolding found_from
   found_refused m a = rw (e, a)
 

@@ -3,7 +3,7 @@ use Prim.Native.Nat.{ℕ, ◌+◌, ◌-◌, ◌≤◌}
 use native.Mathlib.Omega.{arith}
 use mathlib.Core.Path.{◌≡◌, sym, ap, subst, ◌∙◌}
 use mathlib.Core.List.{List, [], ◌∷◌, ◌++◌, append_assoc, append-nil, map}
-use mathlib.Core.Option.{none, some}
+use mathlib.Core.Option.{Option, none, some}
 use lib.ListN.{length, get_or, take, drop, length-append, length-drop}
 use lib.Seq.{length-take-le, take_at, drop_at, get_or_at}
 use Rattle.bmap.specs.Plain.{flat}
@@ -12,12 +12,13 @@ use Rattle.bmap.specs.Line.{Frame, stored, lines_of, decode}
 use Rattle.bmap.specs.Buffer.{padded, Filled, fill}
 use Rattle.bmap.specs.Store.{frames_of, stored_of}
 use Rattle.bmap.specs.declared.refusal.Refusal.{Refusal}
-use Rattle.line.specs.Read.{line_read, bytes_read}
+use Rattle.bmap.specs.declared.refusal.ReadError.{ReadError}
+use Rattle.std.specs.Prelude.{Option as Maybe, None, Some, Result, Ok, Err}
+use Rattle.line.specs.declared.read.FirstFrame.{FirstFrame}
+use Rattle.line.specs.Read.{said, line_read, bytes_read}
 use Rattle.line.proofs.Lists.{part_to_end}
 use Rattle.line.proofs.LineLaws.{line_nothing, Refuses, line_refused, Takes, line_taken}
 use Rattle.domain.specs.Read.{reading_of, bytes_in, Front}
-use Rattle.domain.specs.declared.reader.ReadStore.{ReadStore}
-use Rattle.domain.specs.declared.reader.ReadStore.TheVariants.{Read, Refused}
 use Rattle.domain.proofs.Held.{cut}
 
 -- ---- a text, by its first line
@@ -86,6 +87,14 @@ module _ (store : List ℕ) (used : ℕ) (inside : used ≤ length store) where
         ∙ ap (λ (x : List ℕ). record { kind = f.kind; payload = x }) (ap (take (used + n - (used + 2))) d ∙ take_at f.payload tail (used + n - (used + 2)) c)
 
 -- ---- the lines so far
+
+-- a line's frame, as the code has it
+pub first_is : {r : Result (Maybe FirstFrame) Refusal} {o : Maybe FirstFrame} {f : FirstFrame} {a : Option (Answer FirstFrame)} → r ≡ Ok o → o ≡ Some f → said r ≡ a
+    → some (got f) ≡ a
+first_is e s a = sym (ap said (e ∙ ap Ok s)) ∙ a
+
+pub first_none : {r : Result (Maybe FirstFrame) Refusal} {o : Maybe FirstFrame} {a : Option (Answer FirstFrame)} → r ≡ Ok o → o ≡ None → said r ≡ a → none ≡ a
+first_none e s a = sym (ap said (e ∙ ap Ok s)) ∙ a
 
 -- a line's frame and its characters
 pub record Sizes (rest : List ℕ) (size k : ℕ) : Type 0 where
@@ -172,14 +181,14 @@ module _ {A : Type 0} (bytes : List ℕ) (size : ℕ) (f : Filled) where
 
 -- what is read stands at the front, zeros after; "Any other refusal of a reader zeroes its whole buffer"
 module _ {A : Type 0} (r : Reading A) (bytes : List ℕ) (f : Filled) (after : List ℕ) (is : Fills r bytes (length after) f)
-    (x : ReadStore) (e : (reading_of x ≡ afterwards r (λ a. read (length bytes))) × Front bytes (reading_of x) after) (exit : List ℕ) where
-  pub fill_ends : (used : ℕ) → x ≡ Read used → exit ≡ padded (length after) (take used after) → (read used ≡ f.answer) × (exit ≡ f.buffer)
+    (x : Result ℕ ReadError) (e : (reading_of x ≡ afterwards r (λ a. read (length bytes))) × Front bytes (reading_of x) after) (exit : List ℕ) where
+  pub fill_ends : (used : ℕ) → x ≡ Ok used → exit ≡ padded (length after) (take used after) → (read used ≡ f.answer) × (exit ≡ f.buffer)
   fill_ends used k z =
       let q = fill_read bytes (length after) f r is used (sym (ap reading_of k) ∙ e.0) in
-      let front : take used after ≡ bytes = subst (λ (y : ReadStore). Front bytes (reading_of y) after) k e.1 in
+      let front : take used after ≡ bytes = subst (λ (y : Result ℕ ReadError). Front bytes (reading_of y) after) k e.1 in
       (sym (ap (λ (y : Filled). y.answer) q), z ∙ ap (padded (length after)) front ∙ sym (ap (λ (y : Filled). y.buffer) q))
 
-  pub fill_stops : (refusal : Refusal) (line : ℕ) → x ≡ Refused refusal line → exit ≡ padded (length after) (take 0 after) → (reading_of x ≡ f.answer) × (exit ≡ f.buffer)
-  fill_stops refusal line k z =
-      let q = fill_refused bytes (length after) f r is (number_of refusal) line (sym (ap reading_of k) ∙ e.0) in
+  pub fill_stops : (why : ReadError) → x ≡ Err why → exit ≡ padded (length after) (take 0 after) → (reading_of x ≡ f.answer) × (exit ≡ f.buffer)
+  fill_stops why k z =
+      let q = fill_refused bytes (length after) f r is (number_of why.refusal) why.line (sym (ap reading_of k) ∙ e.0) in
       (ap reading_of k ∙ sym (ap (λ (y : Filled). y.answer) q), z ∙ sym (ap (λ (y : Filled). y.buffer) q))

@@ -8,7 +8,7 @@ pub mod Rows
 -- What a frame that passes says, what the frames so far keep, and the arrays that hold it.
 pub mod Passed
 pub mod Stands
-pub mod Gate
+pub mod ProgressLaws
 -- The pass over a store.
 pub mod FoundLaws
 pub mod Held

@@ -7,7 +7,7 @@ use mathlib.Core.List.{List, [], ◌∷◌}
 use mathlib.Core.Option.{Option, none, some}
 use lib.Dec.{eqb, leb, ltb}
 use lib.ListN.{length, drop}
-use borrow.Author.Tests.{ltb-true, leb-true, eqb-true, eqb-false}
+use borrow.Author.Tests.{ltb-true, leb-true, eqb-true, eqb-false, eq-eqb}
 use Rattle.bmap.specs.Plain.{both, if_else}
 use Rattle.bmap.specs.Refusal.{Answer, got, need, known, then}
 use Rattle.bmap.specs.Line.{Frame, executable_kind, effect_kind}
@@ -72,6 +72,7 @@ pub record Passed (latest : ℕ) (n : Counts) (es : List Entry) (f : Frame) : Ty
   pub checks : checked latest n es f ≡ got item
   pub says : item_in n f.kind f.payload ≡ some item
   pub case : Case n f.kind f.payload item
+  pub ordered : in_order latest f.kind ≡ true
   pub order : latest ≤ f.kind
   pub fits : room n f.kind ≡ true
 
@@ -98,6 +99,7 @@ passed latest n es f e =
           checks = rw (a, b, q, w.0);
           says = q;
           case = item_case n f.kind f.payload i lo q;
+          ordered = a;
           order = la;
           fits = b;
         }
@@ -173,3 +175,18 @@ law_executes n k p l e = go (law_form n k p l e)
     go (is_executable q below c z) = this q below (λ i. ap (executes i) z)
     go (is_effect q c f x z) = other (ap (λ j. eqb j 0xA5) q) (λ i. ap (executes i) z)
     go (is_must s q c z) = other (ap (λ j. eqb j 0xA5) q ∙ not_executable s) (λ i. ap (executes i) z)
+
+-- the entry of an executability law
+pub passed_entry : (latest : ℕ) (n : Counts) (es : List Entry) (f : Frame) → Passed latest n es f → n.entries ≤ 64 → f.kind ≡ 0xA5 → byte f.payload 0 < 64
+passed_entry latest n es f v few q = go v.case
+  where
+    by : (l : Law) → Executes n f.kind f.payload l → byte f.payload 0 < 64
+    by l (this k e x) = omega arith
+    by l (other k x) = absurd (let z : ◌≡◌ {A = Bool} true false = sym (eq-eqb f.kind 0xA5 q) ∙ k in let y : ◌≡◌ {A = ℕ} 0 1 = cc in omega arith)
+
+    go : Case n f.kind f.payload v.item → byte f.payload 0 < 64
+    go (is_agents k lo hi e) = absurd (omega arith)
+    go (is_fluent k e) = absurd (omega arith)
+    go (is_knowledge k e) = absurd (omega arith)
+    go (is_entry k e) = absurd (omega arith)
+    go (is_law_lem k l w e) = by l (law_executes n f.kind f.payload l w)

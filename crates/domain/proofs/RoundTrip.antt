@@ -6,6 +6,7 @@ use mathlib.Core.Path.{◌≡◌, refl, sym, ap, subst, ◌∙◌}
 use mathlib.Core.Bool.{Bool, true, false}
 use mathlib.Core.List.{List, [], ◌∷◌, ◌++◌, append_assoc, map}
 use mathlib.Core.Option.{Option, none, some}
+use Rattle.std.specs.Prelude.{None}
 use lib.Dec.{leb}
 use lib.ListN.{length, get_or, take, drop, replicate, length-append, length-replicate, take-append-drop}
 use lib.Seq.{take-append_seam, drop-append_seam, drop-append-add, get_or-append_seam, get_or-append-add, drop-cons, drop-drop}
@@ -24,7 +25,7 @@ use Rattle.line.proofs.Lists.{Bytes, bytes_take, bytes_drop}
 use Rattle.line.proofs.Answers.{then_got_inv, at_line_read}
 use Rattle.line.proofs.LineLaws.{lines_first, decodes, decode_line, lines_line, text_line}
 use Rattle.domain.specs.Check.{refused_in}
-use Rattle.domain.specs.Found.{law_places, nothing_found, found_of, found_in}
+use Rattle.domain.specs.Found.{law_places, found_of, found_in}
 use Rattle.domain.specs.Read.{bytes_in, frames_among, places_from, found_reading, found_after}
 use Rattle.domain.proofs.Passed.{Case, is_agents, is_fluent, is_knowledge, is_entry, is_law_lem, passed}
 use Rattle.domain.proofs.Stands.{Here, here, with, accept_is}
@@ -238,7 +239,7 @@ pub found_after_lem : (text store : List ℕ) → 36_000 ≤ length store → fo
 unfolding found_in
 found_after_lem text store h = go (read_domain text store).answer refl
   where
-    none_read : (m line : ℕ) (r : Reading Domain) → reading text ≡ r → (read_domain text store).answer ≡ refused_at m line → found_reading (places_from 0 text) r ≡ nothing_found
+    none_read : (m line : ℕ) (r : Reading Domain) → reading text ≡ r → (read_domain text store).answer ≡ refused_at m line → found_reading (places_from 0 text) r ≡ None
     none_read m line (refused_at k l) q e = refl
     none_read m line (read d) q e =
         absurd (let k = ap (λ (x : Filled). x.answer) (read_in_room text store h) in let a = ap (λ (x : Reading Domain). (fill (length store) (afterwards x (λ d. read (record { count = length (bytes_in text); bytes = bytes_in text })))).answer) q in let z : ◌≡◌ {A = ℕ} 0 1 = cc in omega arith)

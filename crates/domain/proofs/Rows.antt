@@ -8,6 +8,8 @@ use mathlib.Core.Bool.{Bool}
 use mathlib.Core.List.{List, [], ◌∷◌, ◌++◌, append_assoc, map}
 use lib.ListN.{length, get_or, set, take, drop, replicate, length-append, get_or-append, get_or-map}
 use lib.Seq.{take-nil, get_or-append_seam, set-append_seam}
+use Rattle.std.proofs.lemmas.List.{length-map}
+pub use Rattle.std.proofs.lemmas.List.{map_push as map_snoc}
 use Rattle.bmap.specs.Plain.{both, either, any, all, numbers}
 use Rattle.bmap.proofs.PlainLaws.{either_end, either_assoc}
 use Rattle.domain.specs.Found.{row}
@@ -26,19 +28,6 @@ module _ {A : Type 0} (l : List A) (a : A) where
         let z : length l ≡ i = omega (arith, length_snoc) in
         subst (λ (j : ℕ). P (get_or (l ++ (a ∷ [])) j d)) z (subst P (sym (get_or-append_seam l a [] d)) p)
   ]
-
-module _ {A B : Type 0} (f : A → B) where
-  pub map_snoc : (l : List A) (a : A) → map f (l ++ (a ∷ [])) ≡ map f l ++ (f a ∷ [])
-  map_snoc [] a = refl
-  map_snoc (b ∷ l) a = ap (λ r. f b ∷ r) (map_snoc l a)
-
-  pub length_mapped : (l : List A) → length (map f l) ≡ length l
-  length_mapped [] = refl
-  length_mapped (a ∷ l) = ap suc (length_mapped l)
-
-  pub map-append : (l k : List A) → map f (l ++ k) ≡ map f l ++ map f k
-  map-append [] k = refl
-  map-append (a ∷ l) k = ap (λ r. f a ∷ r) (map-append l k)
 
 pub map_same : {A B : Type 0} (f g : A → B) (l : List A) → ((a : A) → f a ≡ g a) → map f l ≡ map g l
 map_same f g [] h = refl
@@ -78,13 +67,13 @@ module _ {A : Type 0} (size : ℕ) (z : A) (l : List A) where
 pub push_by : {A B : Type 0} (f : A → B) (size : ℕ) (z : B) (l : List A) (a : A) (n : ℕ) → n ≡ length l → length l < size
     → set (row size z (map f l)) n (f a) ≡ row size z (map f (l ++ (a ∷ [])))
 push_by f size z l a n e h =
-    ap (λ k. set (row size z (map f l)) k (f a)) (e ∙ sym (length_mapped f l))
-    ∙ row_push size z (map f l) (f a) (omega (arith, length_mapped f l))
+    ap (λ k. set (row size z (map f l)) k (f a)) (e ∙ sym (length-map l f))
+    ∙ row_push size z (map f l) (f a) (omega (arith, length-map l f))
     ∙ ap (row size z) (sym (map_snoc f l a))
 
 -- what was read off is read back
 pub row_back : {A B : Type 0} (f : A → B) (size : ℕ) (l : List A) (d : A) (i : ℕ) → i < length l → get_or (row size (f d) (map f l)) i (f d) ≡ f (get_or l i d)
-row_back f size l d i h = row_at size (f d) (map f l) (f d) i (omega (arith, length_mapped f l)) ∙ get_or-map f l i d
+row_back f size l d i h = row_at size (f d) (map f l) (f d) i (omega (arith, length-map l f)) ∙ get_or-map f l i d
 
 -- ---- the numbers from a place on
 

@@ -1,18 +1,2 @@
--- An answer is the only one that keeps its promise.
-use mathlib.Core.Path.{◌≡◌}
-use Rattle.bmap.specs.Refusal.{number_of}
-use Rattle.bmap.proofs.RefusalLaws.{same_refusal}
-use Rattle.domain.specs.Read.{reading_of}
-use Rattle.domain.specs.declared.reader.ReadStore.{ReadStore}
-use Rattle.domain.specs.declared.reader.ReadStore.TheVariants.{Read, Refused}
-
--- `Written`, the writer's answer, has `same_written` of `line`
-pub same_reading : (a b : ReadStore) → reading_of a ≡ reading_of b → a ≡ b
-same_reading (Read n) (Read m) e = cc
-same_reading (Read n) (Refused r l) e = cc
-same_reading (Refused r l) (Read n) e = cc
-same_reading (Refused r l) (Refused q k) e =
-    let n : number_of r ≡ number_of q = cc in
-    let t : r ≡ q = same_refusal r q n in
-    let s : l ≡ k = cc in
-    cc
+-- An answer is the only one that keeps its promise: the readers', and the writer's.
+pub use Rattle.line.proofs.Theorems.{same_reading, same_written}

@@ -17,8 +17,8 @@ use Rattle.bmap.specs.Buffer.{over, written}
 use Rattle.bmap.specs.Store.{frame_at, zeros, frames_from, text_of, domain_in, write_domain}
 use Rattle.line.specs.Write.{line_written}
 use Rattle.line.proofs.WriteLaws.{length_line}
+use Rattle.std.specs.Option.{is_some}
 use Rattle.domain.specs.Write.{lines_from, lines_in}
-use Rattle.domain.specs.declared.found.Found.{Found}
 use Rattle.domain.specs.Found.{found_in}
 use Rattle.domain.proofs.Stands.{no_more}
 use Rattle.domain.proofs.Held.{cut, Framed}
@@ -28,12 +28,12 @@ use Rattle.domain.proofs.FrontLaws.{Fronts, fronts_first, fronts_done, fronts_ro
 
 -- ---- acceptance
 
-pub accepted_is : (s : List ℕ) → (found_in s).ok ≡ is_got (domain_in s)
+pub accepted_is : (s : List ℕ) → is_some (found_in s) ≡ is_got (domain_in s)
 accepted_is s = go (domain_in s) refl
   where
-    go : (a : Answer Domain) → domain_in s ≡ a → (found_in s).ok ≡ is_got (domain_in s)
-    go (got d) e = ap (λ (f : Found). f.ok) (found_got s d e) ∙ sym (ap is_got e)
-    go (refused n) e = ap (λ (f : Found). f.ok) (found_not s n e) ∙ sym (ap is_got e)
+    go : (a : Answer Domain) → domain_in s ≡ a → is_some (found_in s) ≡ is_got (domain_in s)
+    go (got d) e = ap is_some (found_got s d e) ∙ sym (ap is_got e)
+    go (refused n) e = ap is_some (found_not s n e) ∙ sym (ap is_got e)
 
 -- ---- the lines of the frames are the domain's
 

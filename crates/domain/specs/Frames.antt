@@ -1,36 +1,23 @@
 -- The frame reader, in the paper's terms.
-use Rattle.std.specs.Prelude.{ℕ, ◌≡◌, List, [], eqb}
+use Rattle.std.specs.Prelude.{ℕ, ◌≡◌, Option as Maybe, None, Some, List}
 use Rattle.std.specs.Borrow.{Bor}
-use Rattle.bmap.specs.Plain.{if_else}
-use Rattle.bmap.specs.Refusal.{Answer, got, refused}
+use Rattle.bmap.specs.Refusal.{Answer, got, refused, number_of}
 use Rattle.bmap.specs.Store.{Place, start, next_frame}
+use Rattle.bmap.specs.declared.refusal.Refusal.{Refusal}
 use Rattle.index.specs.Place.{StandsAt}
 use Rattle.domain.specs.declared.frames.FrameReader.{FrameReader}
 
--- the refusal's number, 0 where there is none
-abbrev pub number_in : {A : Type 0} → Answer A → ℕ
-number_in (got a) = 0
-number_in (refused n) = n
-
--- why no reader starts over a store
-unfoldable pub refusal_in : List ℕ → ℕ
-refusal_in s = number_in (start s).answer
-
--- the store where it is not refused, else no bytes
-abbrev pub standing_on : ℕ → List ℕ → List ℕ
-standing_on refusal s = if_else (eqb refusal 0) s []
-
--- p is the store s itself where it is not refused, else no bytes of it
-pub record StandsOver (s : Bor (List ℕ)) (refusal : ℕ) (p : Bor (List ℕ)) : Type 0 where
-  pub contents : p.now ≡ standing_on refusal s.now
-  pub itself : p.ref_ptr ≡ s.ref_ptr
+-- what a reader answers where it starts
+abbrev pub started : Maybe Refusal → Answer (Unit {0})
+started None = got tt
+started (Some why) = refused (number_of why)
 
 -- "It starts only over an accepted domain (else 15, and it stands over no bytes)": over the store s that it was lent
 pub record StartsOver (s : Bor (List ℕ)) (r : FrameReader) : Type 0 where
   pub contents : r.store.now ≡ (start s.now).place.store
   pub itself : r.store.ref_ptr ≡ s.ref_ptr
   pub place : r.at ≡ (start s.now).place.at
-  pub refusal : r.refusal ≡ refusal_in s.now
+  pub refusal : started r.refusal ≡ (start s.now).answer
 
 -- the place where a reader stands
 abbrev pub place_of : FrameReader → Place

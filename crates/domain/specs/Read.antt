@@ -1,33 +1,48 @@
 -- What the domain reader answers.
-use Rattle.std.specs.Prelude.{ℕ, ◌≡◌, true, List, [], ◌∷◌, map, length, take}
+use Rattle.std.specs.Prelude.{ℕ, ◌≡◌, Option as Maybe, None, Some, Result, Ok, Err, List, [], ◌∷◌, map, length, take}
 use Rattle.bmap.specs.Plain.{flat}
-use Rattle.bmap.specs.Refusal.{Answer, got, refused, number_of, Reading, read, refused_at, afterwards}
+use Rattle.bmap.specs.Refusal.{Answer, got, refused, Reading, read, refused_at, afterwards}
 use Rattle.bmap.specs.Line.{Frame}
 use Rattle.bmap.specs.Domain.{Domain}
 use Rattle.bmap.specs.Store.{frames_of, stored_of, reading, read_domain}
-use Rattle.domain.specs.Found.{law_places, index_with, nothing_found, found_in}
-use Rattle.domain.specs.declared.found.Found.{Found}
+use Rattle.bmap.specs.declared.refusal.Refusal.{Refusal}
+use Rattle.bmap.specs.declared.refusal.ReadError.{ReadError}
+use Rattle.index.specs.declared.Index.{Index}
+pub use Rattle.line.specs.Read.{reading_of}
+use Rattle.domain.specs.Found.{law_places, index_with, found_in}
 use Rattle.domain.specs.declared.reader.ReadFound.{ReadFound}
-use Rattle.domain.specs.declared.reader.ReadStore.{ReadStore}
-use Rattle.domain.specs.declared.reader.ReadStore.TheVariants.{Read, Refused}
 
--- the bytes used, or the refusal's number and its line
-abbrev pub reading_of : ReadStore → Reading ℕ
-reading_of (Read used) = read used
-reading_of (Refused r line) = refused_at (number_of r) line
+-- a reading without the index, and the index alone
+abbrev pub used_of : Result ReadFound ReadError → Result ℕ ReadError
+used_of (Ok r) = Ok r.used
+used_of (Err e) = Err e
+
+-- so many bytes are kept
+abbrev pub kept_of : Result ReadFound ReadError → ℕ
+kept_of (Ok r) = r.used
+kept_of (Err e) = 0
+
+abbrev pub index_in : Result ReadFound ReadError → Maybe Index
+index_in (Ok r) = Some r.index
+index_in (Err e) = None
 
 -- what a reader has found: of a text that is read, what is found in the store that it leaves; of a refused one nothing
-abbrev pub found_after : Reading ℕ → List ℕ → Found
+abbrev pub found_after : Reading ℕ → List ℕ → Maybe Index
 found_after (read used) store = found_in store
-found_after (refused_at m line) store = nothing_found
+found_after (refused_at m line) store = None
 
 -- the reader's answer, the store that it leaves, and what it has found
-pub record FoundRead (text store : List ℕ) (r : ReadFound) (after : List ℕ) : Type 0 where
-  pub answer : reading_of r.answer ≡ (read_domain text store).answer
+pub record FoundRead (text store : List ℕ) (r : Result ReadFound ReadError) (after : List ℕ) : Type 0 where
+  pub answer : reading_of (used_of r) ≡ (read_domain text store).answer
   pub buffer : after ≡ (read_domain text store).buffer
-  pub found : r.found ≡ found_after (read_domain text store).answer (read_domain text store).buffer
+  pub found : index_in r ≡ found_after (read_domain text store).answer (read_domain text store).buffer
 
 -- ---- within the reader
+
+-- what is refused of a line
+abbrev pub on_line : {A : Type 0} → Result A Refusal → ℕ → Result A ReadError
+on_line (Ok a) line = Ok a
+on_line (Err refusal) line = Err (record { refusal = refusal; line = line })
 
 -- the frames of a text, end to end
 unfoldable pub bytes_in : List ℕ → List ℕ
@@ -53,12 +68,12 @@ abbrev pub places_from : ℕ → List ℕ → List ℕ
 places_from at text = law_places at (frames_among (frames_of text))
 
 -- what is found on the way: the index of the domain that is read, with the places of its laws
-abbrev pub found_reading : List ℕ → Reading Domain → Found
-found_reading places (read d) = record { ok = true; index = index_with d places }
-found_reading places (refused_at m line) = nothing_found
+abbrev pub found_reading : List ℕ → Reading Domain → Maybe Index
+found_reading places (read d) = Some (index_with d places)
+found_reading places (refused_at m line) = None
 
 -- what the lines of a text come to
-pub record LinesRead (text : List ℕ) (r : ReadFound) (after : List ℕ) : Type 0 where
-  pub used : reading_of r.answer ≡ used_in text
-  pub front : Front (bytes_in text) (reading_of r.answer) after
-  pub found : r.found ≡ found_reading (places_from 0 text) (reading text)
+pub record LinesRead (text : List ℕ) (r : Result ReadFound ReadError) (after : List ℕ) : Type 0 where
+  pub used : reading_of (used_of r) ≡ used_in text
+  pub front : Front (bytes_in text) (reading_of (used_of r)) after
+  pub found : index_in r ≡ found_reading (places_from 0 text) (reading text)

@@ -3,18 +3,18 @@
 // `index` for what a judge reads; `supplement`, `session`, `answer`, `desk` and `frame_cases` stand on it.
 #![tactic(auto)]
 
-mod checks;
 mod found;
 mod frames;
 mod laws;
-mod note;
 mod payload;
+mod progress;
 mod reader;
+mod shown;
 mod writer;
 
-pub use checks::Check;
-pub use found::{Found, index_of, is_accepted};
+pub use found::{index_of, is_accepted};
 pub use frames::{FrameReader, next, start};
 pub use laws::law_fits;
-pub use reader::{ReadFound, ReadStore, read, read_found};
+pub use reader::{ReadFound, read, read_found};
+pub use shown::texts;
 pub use writer::write;

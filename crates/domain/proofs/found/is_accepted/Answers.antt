@@ -1,7 +1,7 @@
+use Rattle.std.proofs.Common.{ap, ◌∙◌}
+use Rattle.std.specs.Option.{is_some}
 use Rattle.domain.proofs.WriterLaws.{accepted_is}
-use Rattle.domain.specs.declared.found.Found.{Found}
-use mathlib.Core.Path.{ap, ◌∙◌}
 use Rattle.domain.proofs.found.is_accepted.Goals as goal
 
 pub returns : goal.returns
-returns c = ap (λ (f : Found). f.ok) c.index_of-found.ensures ∙ accepted_is c.args.store.now
+returns c = c.is_some.ensures ∙ ap is_some c.index_of.ensures ∙ accepted_is c.args.store.now

@@ -1,14 +1,9 @@
-use mathlib.Core.Path.{sym, ap, ◌∙◌}
-use Rattle.line.specs.Frame.{size_of}
+use Rattle.std.proofs.Common.{ap, ◌∙◌, take, drop}
 use Rattle.index.proofs.PartLaws.{with_bytes}
-use Rattle.domain.proofs.Held.{framed, no_frame}
-use Rattle.domain.proofs.FramesLaws.{no_part_lem, a_part}
+use Rattle.domain.proofs.FramesLaws.{part_is}
 use Rattle.domain.proofs.frames.frame_part.Goals as goal
 
-pub returns-in-Frame : goal.returns-in-Frame
-returns-in-Frame c =
-    with_bytes (a_part c.args.store.now c.args.at c.in-Frame.size (framed _ _ _ (sym (ap size_of c.in-Frame.is) ∙ c.frame_at.ensures))) c.part.ensures
-
-pub returns-in-Nothing : goal.returns-in-Nothing
-returns-in-Nothing c =
-    with_bytes (no_part_lem c.args.store.now c.args.at (no_frame _ _ (sym (ap size_of c.in-Nothing.is) ∙ c.frame_at.ensures))) c.part-in-Nothing.ensures
+pub returns : goal.returns
+returns c =
+    let s = c.args.store.now in
+    with_bytes (ap (λ n. take n (drop c.args.at s)) c.unwrap_or.ensures ∙ part_is s c.args.at c.frame_at.result c.frame_at.ensures) c.part.ensures

@@ -1,14 +1,9 @@
-use Rattle.std.proofs.Common.{ℕ, ap, ◌∙◌}
-use Rattle.domain.specs.Frames.{standing_on}
-use Rattle.domain.proofs.FramesLaws.{stands_over, stands_first}
+use Rattle.std.proofs.Common.{refl}
+use Rattle.domain.proofs.FramesLaws.{starts, starts_not}
 use Rattle.domain.proofs.frames.start.Goals as goal
 
-pub returns : goal.returns
-returns c =
-    let s = c.args.store.now in
-    record {
-      contents = c.standing-over.ensures.contents ∙ ap (λ (n : ℕ). standing_on n s) c.refusal_of-refusal.ensures ∙ stands_over s;
-      itself = c.standing-over.ensures.itself;
-      place = stands_first s;
-      refusal = c.refusal_of-refusal.ensures;
-    }
+pub returns-then-is_accepted : goal.returns-then-is_accepted
+returns-then-is_accepted c = let e = starts c.args.store.now c.if-is_accepted.ensures in record { contents = rw e; itself = refl; place = rw e; refusal = rw e }
+
+pub returns-else-is_accepted : goal.returns-else-is_accepted
+returns-else-is_accepted c = let e = starts_not c.args.store.now c.if-is_accepted.ensures in record { contents = rw e; itself = refl; place = rw e; refusal = rw e }

@@ -1,108 +1,90 @@
-use Rattle.domain.proofs.ReaderLaws.{reads_first, reads_used, reads_done, reads_missing, reads_bad, reads_sizes, reads_refused, reads_room, reads_entry, reads_next, refusing}
-use Rattle.domain.proofs.IntoStore.{renewed}
-use Rattle.domain.specs.Found.{counted}
-use Rattle.domain.specs.Check.{refusal_of}
-use Rattle.line.proofs.Lists.{length_back, part_to_end}
+use Rattle.std.proofs.Common.{◌≤◌, ◌<◌, ◌-◌, ℕ, List, length, take, drop, refl, sym, ap, ◌∙◌, arith, rules, length-drop}
 use Rattle.line.specs.Read.{said}
-use lib.ListN.{length, take, drop, length-drop}
-use mathlib.Core.List.{List}
-use mathlib.Core.Path.{◌≡◌, refl, sym, ap, ◌∙◌}
-use native.Mathlib.Omega.{arith}
-use Prim.Native.Nat.{ℕ, ◌-◌, ◌≤◌, ◌<◌}
+use Rattle.line.proofs.Lists.{length_back, part_to_end}
+use Rattle.domain.specs.Check.{refusal_of}
+use Rattle.domain.proofs.IntoStore.{first_is, first_none}
+use Rattle.domain.proofs.ReaderLaws.{line_ok, line_refused, took, reads_first, reads_few, reads_used, reads_done, reads_missing, reads_bad, reads_sizes, reads_within, reads_refused, reads_next, refusing}
 use Rattle.domain.proofs.reader.read_lines.Goals as goal
 
 -- the rest is shorter
 less : (rest : List ℕ) (k : ℕ) → k ≤ length rest → 1 ≤ k → length (take (length rest - k) (drop k rest)) < length rest
 less rest k h g = rw (part_to_end rest k) (omega (arith, length-drop k rest))
 
-pub loop-ready-init : goal.loop-ready-init
-loop-ready-init c = (refl, reads_first c.args.text.now c.args.store.now c.requires)
+pub loop-first-init : goal.loop-first-init
+loop-first-init c = (refl, reads_first c.args.text.now c.args.store.now _ c.new-progress.ensures c.requires)
 
-pub returns-then-is_complete : goal.returns-then-is_complete
-returns-then-is_complete c =
-    reads_done c.loop-ready.invariant.1 (sym (ap said c.in-Nothing.is) ∙ c.read_line.ensures.0) c.read_line.new.out (sym c.if-is_complete.true ∙ c.is_complete.ensures)
-
-pub returns-in-Nothing : goal.returns-in-Nothing
-returns-in-Nothing c =
-    refusing _ _ _ _ _ c.refused.ensures (reads_missing c.loop-ready.invariant.1 (sym (ap said c.in-Nothing.is) ∙ c.read_line.ensures.0) (sym c.if-is_complete.false ∙ c.is_complete.ensures))
-
-pub returns-in-Refused : goal.returns-in-Refused
-returns-in-Refused c =
-    refusing _ _ _ _ _ c.refused-in-Refused.ensures (reads_bad c.loop-ready.invariant.1 _ (sym (ap said c.in-Refused.is) ∙ c.read_line.ensures.0))
+pub returns-in_err-first : goal.returns-in_err-first
+returns-in_err-first c =
+    line_refused c.read_line.result _ c.on_line.ensures c.in_err-first.was (search rules) (λ why e. reads_bad c.loop-first.invariant.1 _ (sym (ap said e) ∙ c.read_line.ensures.answer))
 
 pub overflow_add-next : goal.overflow_add-next
 overflow_add-next c =
-    let z = reads_sizes c.loop-ready.invariant.1 c.in-Frame.bytes c.in-Frame.characters c.read_line.new.out (sym (ap said c.in-Frame.is) ∙ c.read_line.ensures.0) c.read_line.ensures.1 in
-    let again : length (renewed c.loop-ready.store c.loop-ready.used c.read_line.new.out) ≡ length c.args.store.now = length_back c.loop-ready.store c.read_line.new.out c.loop-ready.used (omega (arith, reads_used c.loop-ready.invariant.1, c.loop-ready.invariant.1.enough)) c.read_line.auto.out ∙ c.loop-ready.invariant.0 in
-    omega (arith, z.two, z.most, again, reads_used c.loop-ready.invariant.1, c.loop-ready.invariant.1.enough, c.loop-ready.invariant.0)
+    let e = first_is (line_ok c.read_line.result _ c.on_line.ensures c.in_ok-first.was) c.in-Some.is c.read_line.ensures.answer in
+    let z = reads_sizes c.loop-first.invariant.1 c.in-Some.first.bytes c.in-Some.first.characters c.read_line.new.out e c.read_line.ensures.buffer in
+    omega (arith, z.most, reads_used c.loop-first.invariant.1)
 
-pub slice_bounds-p-count : goal.slice_bounds-p-count
-slice_bounds-p-count c =
-    let z = reads_sizes c.loop-ready.invariant.1 c.in-Frame.bytes c.in-Frame.characters c.read_line.new.out (sym (ap said c.in-Frame.is) ∙ c.read_line.ensures.0) c.read_line.ensures.1 in
-    let again : length (renewed c.loop-ready.store c.loop-ready.used c.read_line.new.out) ≡ length c.args.store.now = length_back c.loop-ready.store c.read_line.new.out c.loop-ready.used (omega (arith, reads_used c.loop-ready.invariant.1, c.loop-ready.invariant.1.enough)) c.read_line.auto.out ∙ c.loop-ready.invariant.0 in
-    omega (arith, z.two, z.most, again, reads_used c.loop-ready.invariant.1, c.loop-ready.invariant.1.enough, c.loop-ready.invariant.0)
+pub slice_bounds-take-count : goal.slice_bounds-take-count
+slice_bounds-take-count c =
+    let e = first_is (line_ok c.read_line.result _ c.on_line.ensures c.in_ok-first.was) c.in-Some.is c.read_line.ensures.answer in
+    let z = reads_sizes c.loop-first.invariant.1 c.in-Some.first.bytes c.in-Some.first.characters c.read_line.new.out e c.read_line.ensures.buffer in
+    omega (arith, z.two)
 
-pub slice_bounds-p-start : goal.slice_bounds-p-start
-slice_bounds-p-start c =
-    let z = reads_sizes c.loop-ready.invariant.1 c.in-Frame.bytes c.in-Frame.characters c.read_line.new.out (sym (ap said c.in-Frame.is) ∙ c.read_line.ensures.0) c.read_line.ensures.1 in
-    let again : length (renewed c.loop-ready.store c.loop-ready.used c.read_line.new.out) ≡ length c.args.store.now = length_back c.loop-ready.store c.read_line.new.out c.loop-ready.used (omega (arith, reads_used c.loop-ready.invariant.1, c.loop-ready.invariant.1.enough)) c.read_line.auto.out ∙ c.loop-ready.invariant.0 in
-    omega (arith, z.two, z.most, again, reads_used c.loop-ready.invariant.1, c.loop-ready.invariant.1.enough, c.loop-ready.invariant.0)
+pub slice_bounds-take-start : goal.slice_bounds-take-start
+slice_bounds-take-start c =
+    let e = first_is (line_ok c.read_line.result _ c.on_line.ensures c.in_ok-first.was) c.in-Some.is c.read_line.ensures.answer in
+    let z = reads_sizes c.loop-first.invariant.1 c.in-Some.first.bytes c.in-Some.first.characters c.read_line.new.out e c.read_line.ensures.buffer in
+    omega (arith, z.two)
 
-pub slice_bounds-p-end : goal.slice_bounds-p-end
-slice_bounds-p-end c =
-    let z = reads_sizes c.loop-ready.invariant.1 c.in-Frame.bytes c.in-Frame.characters c.read_line.new.out (sym (ap said c.in-Frame.is) ∙ c.read_line.ensures.0) c.read_line.ensures.1 in
-    let again : length (renewed c.loop-ready.store c.loop-ready.used c.read_line.new.out) ≡ length c.args.store.now = length_back c.loop-ready.store c.read_line.new.out c.loop-ready.used (omega (arith, reads_used c.loop-ready.invariant.1, c.loop-ready.invariant.1.enough)) c.read_line.auto.out ∙ c.loop-ready.invariant.0 in
-    omega (arith, z.two, z.most, again, reads_used c.loop-ready.invariant.1, c.loop-ready.invariant.1.enough, c.loop-ready.invariant.0)
+pub slice_bounds-take-end : goal.slice_bounds-take-end
+slice_bounds-take-end c =
+    let e = first_is (line_ok c.read_line.result _ c.on_line.ensures c.in_ok-first.was) c.in-Some.is c.read_line.ensures.answer in
+    reads_within c.loop-first.invariant.1 c.in-Some.first.bytes c.in-Some.first.characters c.read_line.new.out e c.read_line.ensures.buffer c.read_line.auto.out
 
-pub returns-in-Refused-check_frame : goal.returns-in-Refused-check_frame
-returns-in-Refused-check_frame c =
-    refusing _ _ _ _ _ c.refused-in-Refused-check_frame.ensures (reads_refused c.loop-ready.invariant.1 c.in-Frame.bytes c.in-Frame.characters c.read_line.new.out (sym (ap said c.in-Frame.is) ∙ c.read_line.ensures.0) c.read_line.ensures.1 _ (sym (ap refusal_of c.in-Refused-check_frame.is) ∙ c.check_frame.ensures))
+pub take-requires-clause-few : goal.take-requires-clause-few
+take-requires-clause-few c = reads_few c.loop-first.invariant.1
 
-pub note_fluent-requires : goal.note_fluent-requires
-note_fluent-requires c =
-    reads_room c.loop-ready.invariant.1 c.in-Frame.bytes c.in-Frame.characters c.read_line.new.out (sym (ap said c.in-Frame.is) ∙ c.read_line.ensures.0) c.read_line.ensures.1 (sym (ap refusal_of c.in_default.is) ∙ c.check_frame.ensures)
-
-pub note_knowledge-requires : goal.note_knowledge-requires
-note_knowledge-requires c =
-    reads_room c.loop-ready.invariant.1 c.in-Frame.bytes c.in-Frame.characters c.read_line.new.out (sym (ap said c.in-Frame.is) ∙ c.read_line.ensures.0) c.read_line.ensures.1 (sym (ap refusal_of c.in_default.is) ∙ c.check_frame.ensures)
-
-pub note_entry-requires : goal.note_entry-requires
-note_entry-requires c =
-    reads_room c.loop-ready.invariant.1 c.in-Frame.bytes c.in-Frame.characters c.read_line.new.out (sym (ap said c.in-Frame.is) ∙ c.read_line.ensures.0) c.read_line.ensures.1 (sym (ap refusal_of c.in_default.is) ∙ c.check_frame.ensures)
-
-pub note_law-requires : goal.note_law-requires
-note_law-requires c =
-    reads_room c.loop-ready.invariant.1 c.in-Frame.bytes c.in-Frame.characters c.read_line.new.out (sym (ap said c.in-Frame.is) ∙ c.read_line.ensures.0) c.read_line.ensures.1 (sym (ap refusal_of c.in_default.is) ∙ c.check_frame.ensures)
-
-pub count_frame-n-requires : goal.count_frame-n-requires
-count_frame-n-requires c =
-    reads_room c.loop-ready.invariant.1 c.in-Frame.bytes c.in-Frame.characters c.read_line.new.out (sym (ap said c.in-Frame.is) ∙ c.read_line.ensures.0) c.read_line.ensures.1 (sym (ap refusal_of c.in_default.is) ∙ c.check_frame.ensures)
-
-pub note_ready-requires : goal.note_ready-requires
-note_ready-requires c =
-    reads_entry c.loop-ready.invariant.1 c.in-Frame.bytes c.in-Frame.characters c.read_line.new.out (sym (ap said c.in-Frame.is) ∙ c.read_line.ensures.0) c.read_line.ensures.1 (sym (ap refusal_of c.in_default.is) ∙ c.check_frame.ensures)
+pub returns-in_err-on_line : goal.returns-in_err-on_line
+returns-in_err-on_line c =
+    let e = first_is (line_ok c.read_line.result _ c.on_line.ensures c.in_ok-first.was) c.in-Some.is c.read_line.ensures.answer in
+    line_refused c.take.result _ c.on_line-in-Some.ensures c.in_err-on_line.was (search rules)
+    (λ why r. reads_refused c.loop-first.invariant.1 c.in-Some.first.bytes c.in-Some.first.characters c.read_line.new.out e c.read_line.ensures.buffer _ (sym (ap refusal_of r) ∙ c.take.ensures.answer))
 
 pub slice_bounds-rest-count : goal.slice_bounds-rest-count
 slice_bounds-rest-count c =
-    let z = reads_sizes c.loop-ready.invariant.1 c.in-Frame.bytes c.in-Frame.characters c.read_line.new.out (sym (ap said c.in-Frame.is) ∙ c.read_line.ensures.0) c.read_line.ensures.1 in omega (arith, z.characters)
+    let e = first_is (line_ok c.read_line.result _ c.on_line.ensures c.in_ok-first.was) c.in-Some.is c.read_line.ensures.answer in
+    let z = reads_sizes c.loop-first.invariant.1 c.in-Some.first.bytes c.in-Some.first.characters c.read_line.new.out e c.read_line.ensures.buffer in
+    omega (arith, z.characters)
 
 pub slice_bounds-rest-start : goal.slice_bounds-rest-start
 slice_bounds-rest-start c =
-    let z = reads_sizes c.loop-ready.invariant.1 c.in-Frame.bytes c.in-Frame.characters c.read_line.new.out (sym (ap said c.in-Frame.is) ∙ c.read_line.ensures.0) c.read_line.ensures.1 in omega (arith, z.characters)
+    let e = first_is (line_ok c.read_line.result _ c.on_line.ensures c.in_ok-first.was) c.in-Some.is c.read_line.ensures.answer in
+    let z = reads_sizes c.loop-first.invariant.1 c.in-Some.first.bytes c.in-Some.first.characters c.read_line.new.out e c.read_line.ensures.buffer in
+    omega (arith, z.characters)
 
-pub loop-ready-smaller : goal.loop-ready-smaller
-loop-ready-smaller c =
-    let z = reads_sizes c.loop-ready.invariant.1 c.in-Frame.bytes c.in-Frame.characters c.read_line.new.out (sym (ap said c.in-Frame.is) ∙ c.read_line.ensures.0) c.read_line.ensures.1 in less c.loop-ready.rest.now c.in-Frame.characters z.characters z.some_characters
+pub loop-first-smaller : goal.loop-first-smaller
+loop-first-smaller c =
+    let e = first_is (line_ok c.read_line.result _ c.on_line.ensures c.in_ok-first.was) c.in-Some.is c.read_line.ensures.answer in
+    let z = reads_sizes c.loop-first.invariant.1 c.in-Some.first.bytes c.in-Some.first.characters c.read_line.new.out e c.read_line.ensures.buffer in
+    less c.loop-first.rest.now c.in-Some.first.characters z.characters z.some_characters
 
-pub loop-ready-preserved : goal.loop-ready-preserved
-loop-ready-preserved c =
-    let again : length (renewed c.loop-ready.store c.loop-ready.used c.read_line.new.out) ≡ length c.args.store.now = length_back c.loop-ready.store c.read_line.new.out c.loop-ready.used (omega (arith, reads_used c.loop-ready.invariant.1, c.loop-ready.invariant.1.enough)) c.read_line.auto.out ∙ c.loop-ready.invariant.0 in (
-      again,
-      reads_next c.loop-ready.invariant.1 c.in-Frame.bytes c.in-Frame.characters c.read_line.new.out (sym (ap said c.in-Frame.is) ∙ c.read_line.ensures.0) c.read_line.ensures.1 (sym (ap refusal_of c.in_default.is) ∙ c.check_frame.ensures)
-          (again ∙ sym c.loop-ready.invariant.0)
-          c.note_fluent.ensures
-          c.note_knowledge.ensures.0 c.note_knowledge.ensures.1
-          c.note_entry.ensures.0 c.note_entry.ensures.1
-          c.note_law.ensures c.note_ready.ensures
-          (c.count_frame-n.ensures ∙ ap (counted _ _) c.byte_at.ensures),
+pub loop-first-preserved : goal.loop-first-preserved
+loop-first-preserved c =
+    let h = c.loop-first.invariant.1 in
+    let e = first_is (line_ok c.read_line.result _ c.on_line.ensures c.in_ok-first.was) c.in-Some.is c.read_line.ensures.answer in
+    let r = line_ok c.take.result _ c.on_line-in-Some.ensures c.in_ok-on_line.was in
+    let again = length_back c.loop-first.store c.read_line.new.out c.loop-first.used (omega (arith, reads_used h, h.enough)) c.read_line.auto.out in (
+      again ∙ c.loop-first.invariant.0,
+      reads_next h c.in-Some.first.bytes c.in-Some.first.characters c.read_line.new.out e c.read_line.ensures.buffer (sym (ap refusal_of r) ∙ c.take.ensures.answer) c.take.new.self
+          (took c.take.result r c.take.ensures.taken) again,
     )
+
+pub is_complete-requires : goal.is_complete-requires
+is_complete-requires c = reads_few c.loop-first.invariant.1
+
+pub returns-then-not-is_complete : goal.returns-then-not-is_complete
+returns-then-not-is_complete c =
+    refusing _ _ _ (reads_missing c.loop-first.invariant.1 (first_none (line_ok c.read_line.result _ c.on_line.ensures c.in_ok-first.was) c.in_default.is c.read_line.ensures.answer) c.if-not-is_complete.ensures)
+
+pub returns : goal.returns
+returns c =
+    reads_done c.loop-first.invariant.1 (first_none (line_ok c.read_line.result _ c.on_line.ensures c.in_ok-first.was) c.in_default.is c.read_line.ensures.answer) c.read_line.new.out c.if-not-is_complete.ensures

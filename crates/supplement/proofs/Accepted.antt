@@ -5,6 +5,7 @@ use mathlib.Core.Path.{◌≡◌, refl, sym, ap, subst, ◌∙◌}
 use mathlib.Core.Bool.{Bool, true, false}
 use mathlib.Core.List.{List, [], ◌∷◌, ◌++◌, map}
 use mathlib.Core.Option.{Option, none, some}
+use Rattle.std.specs.Prelude.{Option as Maybe, None, Some}
 use lib.Dec.{eqb}
 use lib.ListN.{length, get_or, take, drop, length-drop}
 use lib.Seq.{drop-drop, take-append_seam}
@@ -25,11 +26,11 @@ use Rattle.index.proofs.DomainLaws.{counts_are, law_count, law_number_lem}
 use Rattle.domain.specs.Found.{found_in}
 use Rattle.domain.proofs.Rows.{two_off}
 use Rattle.domain.proofs.Stands.{Here, here, no_more}
-use Rattle.domain.proofs.Accepted.{FoundHere, found_ok, refused_15}
+use Rattle.domain.proofs.Accepted.{found_ok, refused_15}
 use Rattle.domain.proofs.RoundTrip.{frame_off}
 use Rattle.supplement.specs.declared.under.Under.{Under}
 use Rattle.supplement.specs.Check.{place_in, count_place, over_of}
-use Rattle.supplement.specs.Under.{under_of, under_in}
+use Rattle.supplement.specs.Under.{index_found, under_of, under_in}
 use Rattle.supplement.specs.Force.{stretch_at, bytes_in, payload_of}
 use Rattle.supplement.proofs.OverLaws.{over_at_lem}
 use Rattle.supplement.proofs.CheckLaws.{stands_by}
@@ -97,20 +98,20 @@ module _ (s : List ℕ) (n : ℕ) (r : Replacement) where
   pub stood : (looks at : ℕ) (rs : List Replacement) (fs : List Frame) → frames_from looks s at ≡ some fs → frames rs ≡ fs → replacement_of rs n ≡ some r
       → (p : Part) × ((replacement_part at rs n ≡ some p) × Stood s r p)
   unfolding frames_from replacement_of replacement_part
-  stood looks at [] fs e f q = absurd (let z : ◌≡◌ {A = ℕ} 0 1 = cc in omega arith)
-  stood zero at (q ∷ rs) fs e f h = absurd (let z : ◌≡◌ {A = ℕ} 0 1 = cc in omega arith)
+  stood looks at [] fs e f q = absurd cc
+  stood zero at (q ∷ rs) fs e f h = absurd cc
   stood (suc looks) at (q ∷ rs) fs e f h = go (frame_at s at) refl e (λ t k z. stood looks t rs k z)
     where
       go : (o : Option Frame) → frame_at s at ≡ o
           → maybe o (if_else (zeros (drop at s)) (some []) none) (λ g. maybe (frames_from looks s (at + length (stored g))) none (λ l. some (g ∷ l))) ≡ some fs
           → ((t : ℕ) (k : List Frame) → frames_from looks s t ≡ some k → frames rs ≡ k → replacement_of rs n ≡ some r → (p : Part) × ((replacement_part t rs n ≡ some p) × Stood s r p))
           → (p : Part) × ((if_else (eqb (replaces q) n) (some (record { stands = in_supplement (at + 4); bytes = payload_in q.frame })) (replacement_part (at + length (stored q.frame)) rs n) ≡ some p) × Stood s r p)
-      go none o z rec = absurd (let y = f ∙ no_more (zeros (drop at s)) z in let w : ◌≡◌ {A = ℕ} 0 1 = cc in omega arith)
+      go none o z rec = absurd (let y = f ∙ no_more (zeros (drop at s)) z in cc)
       go (some g) o z rec = by (frames_from looks s (at + length (stored g))) refl z
         where
           by : (k : Option (List Frame)) → frames_from looks s (at + length (stored g)) ≡ k → maybe k none (λ l. some (g ∷ l)) ≡ some fs
               → (p : Part) × ((if_else (eqb (replaces q) n) (some (record { stands = in_supplement (at + 4); bytes = payload_in q.frame })) (replacement_part (at + length (stored q.frame)) rs n) ≡ some p) × Stood s r p)
-          by none w y = absurd (let x : ◌≡◌ {A = ℕ} 0 1 = cc in omega arith)
+          by none w y = absurd cc
           by (some l) w y =
               let fr : q.frame ∷ frames rs ≡ g ∷ l = f ∙ (let x : fs ≡ g ∷ l = cc in x) in
               let its : q.frame ≡ g = cc in
@@ -133,7 +134,7 @@ no_part_lem at (q ∷ rs) n e = go (eqb (replaces q) n) e (no_part_lem (at + len
   where
     go : (b : Bool) → if_else b (some q) (replacement_of rs n) ≡ none → (replacement_of rs n ≡ none → replacement_part (at + length (stored q.frame)) rs n ≡ none)
         → if_else b (some (record { stands = in_supplement (at + 4); bytes = payload_in q.frame })) (replacement_part (at + length (stored q.frame)) rs n) ≡ none
-    go true h rec = absurd (let z : ◌≡◌ {A = ℕ} 0 1 = cc in omega arith)
+    go true h rec = absurd cc
     go false h rec = rec h
 
 -- the place of its count, of each law number
@@ -232,11 +233,11 @@ unfolding supplement_in
 supplemented d supplement s e = go (frames_in supplement) refl e
   where
     by : (fs : List Frame) → frames_in supplement ≡ some fs → (r : Reading (List Replacement)) → supplement_from d [] (map got fs) ≡ r → known 15 (what_was_read r) ≡ got s → Supplemented d supplement s
-    by fs f (refused_at n l) r q = absurd (let z : ◌≡◌ {A = ℕ} 0 1 = cc in omega arith)
+    by fs f (refused_at n l) r q = absurd cc
     by fs f (read x) r q = let same : x ≡ s = cc in record { frames_there = fs; are = f; all = all_read d [] fs s fit_none (r ∙ ap read same) }
 
     go : (o : Option (List Frame)) → frames_in supplement ≡ o → known 15 (maybe o none (λ fs. what_was_read (supplement_from d [] (map got fs)))) ≡ got s → Supplemented d supplement s
-    go none f q = absurd (let z : ◌≡◌ {A = ℕ} 0 1 = cc in omega arith)
+    go none f q = absurd cc
     go (some fs) f q = by fs f (supplement_from d [] (map got fs)) refl q
 
 -- the frame that replaces a law number, by the place of its count
@@ -258,11 +259,11 @@ supplement_15 d supplement n e = go (maybe (frames_in supplement) none (λ fs. w
   where
     go : (o : Option (List Replacement)) → known 15 o ≡ refused n → n ≡ 15
     go none q = cc
-    go (some s) q = absurd (let z : ◌≡◌ {A = ℕ} 0 1 = cc in omega arith)
+    go (some s) q = absurd cc
 
 -- what a caller has of two stores that are found
 pub record UnderIs (store supplement : List ℕ) (u : Under) : Type 0 where
-  pub found : u.index ≡ (found_in store).index
+  pub found : found_in store ≡ Some u.index
   pub sound : Sound store u.index
   pub domain : domain_in store ≡ got (domain_of store u.index)
   pub replacements : List Replacement
@@ -277,35 +278,36 @@ module _ (store supplement : List ℕ) where
   abbrev pub UnderHere : Type 0
   UnderHere = UnderIs store supplement (under_in store supplement)
 
-  under_from : FoundHere store → (s : List Replacement) → supplement_in (domain_of store (found_in store).index) supplement ≡ got s
-      → UnderIs store supplement (record { ok = true; index = (found_in store).index; over = over_of s })
-  under_from f s q =
-      let x = (found_in store).index in
+  under_from : (x : Index) → found_in store ≡ Some x → (s : List Replacement) → supplement_in (domain_of store x) supplement ≡ got s
+      → UnderIs store supplement (record { ok = true; index = x; over = over_of s })
+  under_from x e s q =
+      let f = found_ok store x e in
       let m = supplemented (domain_of store x) supplement s q in
       let stands : (i : ℕ) → i < x.counts.laws → LawStands store supplement x (domain_of store x) s i = law_stands store supplement x f.sound s m.frames_there m.are m.all in
-      record { found = refl; sound = f.sound; domain = f.domain; replacements = s; accepted = q; places = refl; law = λ i h. (stands i h).law; short = λ i h. (stands i h).short }
+      record { found = e; sound = f.sound; domain = f.domain; replacements = s; accepted = q; places = refl; law = λ i h. (stands i h).law; short = λ i h. (stands i h).short }
 
   pub under_ok : (under_in store supplement).ok ≡ true → UnderHere
-  unfolding under_in
-  under_ok e = go (found_in store).ok refl
+  under_ok e = go (found_in store) refl
     where
-      by : FoundHere store → (a : Answer (List Replacement)) → supplement_in (domain_of store (found_in store).index) supplement ≡ a → under_of (found_in store).index a ≡ under_in store supplement → UnderHere
-      by f (refused n) q k = absurd (let b : false ≡ true = ap (λ (y : Under). y.ok) k ∙ e in let z : ◌≡◌ {A = ℕ} 0 1 = cc in omega arith)
-      by f (got s) q k = subst (UnderIs store supplement) k (under_from f s q)
+      by : (x : Index) → found_in store ≡ Some x → (a : Answer (List Replacement)) → supplement_in (domain_of store x) supplement ≡ a → under_of x a ≡ under_in store supplement → UnderHere
+      by x f (refused n) q k = absurd (let b : false ≡ true = ap (λ (y : Under). y.ok) k ∙ e in cc)
+      by x f (got s) q k = subst (UnderIs store supplement) k (under_from x f s q)
 
-      go : (b : Bool) → (found_in store).ok ≡ b → UnderHere
-      go true q =
-          by (found_ok store q) (supplement_in (domain_of store (found_in store).index) supplement) refl (under_by store supplement (found_in store) refl q)
-      go false q = absurd (let b : false ≡ true = ap (λ (y : Under). y.ok) (under_not store supplement (found_in store) refl q) ∙ e in let z : ◌≡◌ {A = ℕ} 0 1 = cc in omega arith)
+      go : (o : Maybe Index) → found_in store ≡ o → UnderHere
+      go (Some x) f = by x f (supplement_in (domain_of store x) supplement) refl (under_by store supplement x f)
+      go None f = absurd (let b : false ≡ true = ap (λ (y : Under). y.ok) (under_not store supplement f) ∙ e in cc)
+
+  pub under_is : (u : Under) → u ≡ under_in store supplement → u.ok ≡ true → UnderIs store supplement u
+  under_is u e ok = subst (UnderIs store supplement) (sym e) (under_ok (sym (ap (λ (y : Under). y.ok) e) ∙ ok))
 
   pub under_none : (under_in store supplement).ok ≡ false → then (domain_in store) (λ d. supplement_in d supplement) ≡ refused 15
   unfolding under_in
   under_none e = go (domain_in store) refl
     where
-      by : (d : Domain) (a : Answer (List Replacement)) → supplement_in d supplement ≡ a → (under_of (found_in store).index a).ok ≡ false → a ≡ refused 15
-      by d (got s) q k = absurd (let z : ◌≡◌ {A = ℕ} 0 1 = cc in omega arith)
+      by : (d : Domain) (a : Answer (List Replacement)) → supplement_in d supplement ≡ a → (under_of (index_found (found_in store)) a).ok ≡ false → a ≡ refused 15
+      by d (got s) q k = absurd cc
       by d (refused n) q k = ap refused (supplement_15 d supplement n q)
 
       go : (a : Answer Domain) → domain_in store ≡ a → then a (λ d. supplement_in d supplement) ≡ refused 15
       go (refused n) q = ap refused (refused_15 store n q)
-      go (got d) q = by d (supplement_in d supplement) refl (ap (λ (a : Answer Domain). (under_of (found_in store).index (then a (λ d. supplement_in d supplement))).ok) (sym q) ∙ e)
+      go (got d) q = by d (supplement_in d supplement) refl (ap (λ (a : Answer Domain). (under_of (index_found (found_in store)) (then a (λ d. supplement_in d supplement))).ok) (sym q) ∙ e)

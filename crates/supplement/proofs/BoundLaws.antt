@@ -8,17 +8,16 @@ use mathlib.Core.Option.{Option, none, some}
 use lib.Dec.{eqb, leb}
 use lib.ListN.{length, get_or, set, drop, length-append}
 use Rattle.bmap.specs.Plain.{if_else, maybe, flat}
-use Rattle.bmap.specs.Refusal.{got, refused}
+use Rattle.bmap.specs.Refusal.{Answer, got, refused}
 use Rattle.bmap.specs.Line.{Frame, stored, line_for}
 use Rattle.bmap.specs.Domain.{Domain}
 use Rattle.bmap.specs.Store.{frame_at, zeros, frames_in, domain_in, text_of}
-use Rattle.bmap.specs.Supplement.{Replacement, replaces, number_in, payload_in, replacement_in, supplement_in, in_domain, in_supplement, Part, replacement_part, law_in_force}
+use Rattle.bmap.specs.Supplement.{Replacement, replaces, payload_in, replacement_in, supplement_in, in_domain, in_supplement, Part, replacement_part, law_in_force}
 use Rattle.bmap.specs.Laying.{bytes_of}
 use Rattle.bmap.specs.Limits.{most_payload}
 use Rattle.line.proofs.WriteLaws.{length_line}
 use Rattle.index.specs.Index.{domain_of}
 use Rattle.index.proofs.DomainLaws.{law_count}
-use Rattle.domain.specs.Check.{refused_in}
 use Rattle.domain.specs.Found.{law_places}
 use Rattle.domain.proofs.Accepted.{domained, as_many}
 use Rattle.domain.proofs.TextLaws.{domain_text_fits}
@@ -63,7 +62,7 @@ ends_with zero d s over at rs few h fuel e = absurd (omega (arith, h.inside))
 ends_with (suc left) d s over at rs few h fuel e = go (frame_at s at) refl (λ o k next g. ends_with left d s o k rs few next g e)
   where
     not_refused : supplement_in d s ≡ refused 15 → ⊥
-    not_refused z = let y : got rs ≡ refused 15 = sym e ∙ z in let x : ◌≡◌ {A = ℕ} 0 1 = cc in omega arith
+    not_refused z = let y : got rs ≡ refused 15 = sym e ∙ z in cc
 
     done : (b : Bool) → b ≡ zeros (drop at s) → frame_at s at ≡ none → (o : List ℕ) × ((end : ℕ) × Over rs o end)
     done false z n = absurd (not_refused (passing_junk h n z))
@@ -71,22 +70,22 @@ ends_with (suc left) d s over at rs few h fuel e = go (frame_at s at) refl (λ o
         let same : h.earlier ≡ rs = (let y = sym (passing_done h n z) ∙ e in cc) in
         (over, (at, subst (λ (r : List Replacement). Over r over at) same h.stand))
 
-    by : (f : Frame) → frame_at s at ≡ some f → (o : Option ℕ) → o ≡ refused_in (replacement_in d h.earlier f)
+    by : (f : Frame) → frame_at s at ≡ some f → (a : Answer Replacement) → replacement_in d h.earlier f ≡ a
         → ((o : List ℕ) (k : ℕ) → Passing d s o k → length s < k + left → (p : List ℕ) × ((end : ℕ) × Over rs p end))
         → (p : List ℕ) × ((end : ℕ) × Over rs p end)
-    by f q (some m) r rec = absurd (not_refused (passing_refused h f q m r))
-    by f q none r rec =
-        rec (set over (number_in f) (at + 1)) (at + length (stored f)) (passing_next h f q r few (number_in f) (at + length (stored f)) refl refl) (omega arith)
+    by f q (refused m) t rec = absurd (not_refused (passing_refused h f q m t))
+    by f q (got r) t rec =
+        rec (set over (replaces r) (at + 1)) (at + length (stored f)) (passing_next h f q r t few (at + length (stored f)) refl) (omega arith)
 
     go : (o : Option Frame) → frame_at s at ≡ o → ((o : List ℕ) (k : ℕ) → Passing d s o k → length s < k + left → (p : List ℕ) × ((end : ℕ) × Over rs p end))
         → (p : List ℕ) × ((end : ℕ) × Over rs p end)
     go none q rec = done (zeros (drop at s)) refl q
-    go (some f) q rec = by f q (refused_in (replacement_in d h.earlier f)) refl rec
+    go (some f) q rec = by f q (replacement_in d h.earlier f) refl rec
 
 -- no part lies behind them
 part_within : (at : ℕ) (rs : List Replacement) (n : ℕ) (p : Part) → replacement_part at rs n ≡ some p → place_in p.stands ≤ at + length (bytes_of rs) + 4
 unfolding replacement_part flat
-part_within at [] n p e = absurd (let z : ◌≡◌ {A = ℕ} 0 1 = cc in omega arith)
+part_within at [] n p e = absurd cc
 part_within at (r ∷ rs) n p e = go (eqb (replaces r) n) e (part_within (at + length (stored r.frame)) rs n p)
   where
     longer : length (stored r.frame ++ bytes_of rs) ≡ length (stored r.frame) + length (bytes_of rs)

@@ -1,16 +1,17 @@
 -- The check of one frame of a supplement, refusal by refusal. Assumes nothing.
-use Prim.Native.Nat.{ℕ, zero, suc, ◌+◌, ◌≤◌, ◌<◌}
+use Prim.Native.Nat.{ℕ, ◌+◌, ◌≤◌, ◌<◌}
 use native.Mathlib.Omega.{arith}
 use mathlib.Core.Path.{◌≡◌, refl, sym, ap, ◌∙◌}
 use mathlib.Core.Bool.{Bool, true, false}
-use mathlib.Core.List.{List, [], ◌∷◌, map}
+use mathlib.Core.List.{List, ◌∷◌, map}
 use mathlib.Core.Option.{Option, none, some}
 use lib.Dec.{eqb}
-use lib.ListN.{length, get_or, drop}
+use lib.ListN.{length, get_or, set, drop}
 use lib.Seq.{get_or-drop}
+use Rattle.std.proofs.lemmas.List.{get_or_past, get_or-map, length-map}
 use borrow.Author.Tests.{eqb-true, eq-eqb, ne_eqb, le-leb, lt-leb}
 use Rattle.bmap.specs.Plain.{both, implies, maybe, any}
-use Rattle.bmap.specs.Refusal.{Answer, got, known, then}
+use Rattle.bmap.specs.Refusal.{Answer, got, refused, known, then}
 use Rattle.bmap.specs.Line.{Frame, supplement_kind}
 use Rattle.bmap.specs.Domain.{Domain, Law, executable, effect, must, Scope, static, concurrency, goal}
 use Rattle.bmap.specs.Payload.{byte, scope_kind, law_in}
@@ -21,9 +22,9 @@ use Rattle.bmap.proofs.PlainLaws.{both_true, both_end}
 use Rattle.index.specs.declared.Index.{Index}
 use Rattle.index.specs.Index.{frame_bytes, law_of, domain_of, Sound, law_number, no_law}
 use Rattle.index.proofs.DomainLaws.{counts_are, law_count, law_number_lem}
-use Rattle.domain.specs.Check.{is_some, refused_in}
+use Rattle.domain.specs.Check.{is_some}
 use Rattle.domain.proofs.Passed.{Form, is_executable, is_effect, is_must, law_form}
-use Rattle.supplement.specs.Check.{LawsStand, has_entry, stands_in, count_place, over_of}
+use Rattle.supplement.specs.Check.{LawsStand, has_entry, stands_in, count_place, over_of, number_taken, noted_at}
 use Rattle.supplement.proofs.OverLaws.{gives, given, not_given, over_at_lem}
 
 -- ---- 20: kind and entry, by the bytes of the domain's law
@@ -36,24 +37,6 @@ no_entry_lem goal = refl
 -- a byte after others
 byte_after : (k : ℕ) (l : List ℕ) (i : ℕ) → byte (drop k l) i ≡ byte l (k + i)
 byte_after k l i = get_or-drop k l i 0
-
--- as the code asks it
-module _ (frame p : List ℕ) where
-  pub other_kind : (byte p 1 ≡ byte frame 0 → ⊥) → false ≡ stands_in frame p
-  other_kind h = rw (ne_eqb (byte p 1) (byte frame 0) h)
-
-  module _ (same : byte p 1 ≡ byte frame 0) where
-    pub entry_asked : has_entry (byte frame 0) ≡ true → eqb (byte p 2) (byte frame 2) ≡ stands_in frame p
-    entry_asked h = rw (eq-eqb (byte p 1) (byte frame 0) same, h)
-
-    pub no_entry_asked : (byte frame 0 ≡ 0xA5 → ⊥) → (byte frame 0 ≡ 0xA6 → ⊥) → true ≡ stands_in frame p
-    no_entry_asked a b = rw (eq-eqb (byte p 1) (byte frame 0) same, ne_eqb (byte frame 0) 0xA5 a, ne_eqb (byte frame 0) 0xA6 b)
-
-pub of_executable : {k : ℕ} → k ≡ 0xA5 → has_entry k ≡ true
-of_executable e = ap has_entry e
-
-pub of_effect : {k : ℕ} → k ≡ 0xA6 → has_entry k ≡ true
-of_effect e = ap has_entry e
 
 -- whether a frame's law has this kind and, where the kind has one, this entry
 abbrev pub has : Frame → ℕ → ℕ → Bool
@@ -98,14 +81,10 @@ stands_is n frame f l e =
 -- ---- the law of a number
 
 pub numbered_none : {A : Type 0} (l : List A) (n : ℕ) → length l ≤ n → get_or (map some l) n none ≡ none
-numbered_none [] n h = refl
-numbered_none (a ∷ l) zero h = absurd (omega arith)
-numbered_none (a ∷ l) (suc n) h = numbered_none l n (omega arith)
+numbered_none l n h = get_or_past (map some l) n none (omega (arith, length-map l some))
 
 pub numbered_some : {A : Type 0} (l : List A) (n : ℕ) (d : A) → n < length l → get_or (map some l) n none ≡ some (get_or l n d)
-numbered_some [] n d h = absurd (omega arith)
-numbered_some (a ∷ l) zero d h = refl
-numbered_some (a ∷ l) (suc n) d h = numbered_some l n d (omega arith)
+numbered_some l n d h = get_or-map some l n d none h
 
 -- ---- the refusals in their order
 
@@ -120,27 +99,27 @@ module _ (d : Domain) (earlier : List Replacement) (f : Frame) where
   abbrev twice : Bool
   twice = any (λ r. eqb (replaces r) (number_in f)) earlier
 
-  pub not_kind : (f.kind ≡ 0xAF → ⊥) → some 3 ≡ refused_in (replacement_in d earlier f)
+  pub not_kind : (f.kind ≡ 0xAF → ⊥) → refused 3 ≡ number_taken (replacement_in d earlier f)
   unfolding replacement_in
   not_kind k = rw (ne_eqb f.kind 0xAF k)
 
   module _ (k : f.kind ≡ 0xAF) where
-    pub not_long : length f.payload < 3 → some 4 ≡ refused_in (replacement_in d earlier f)
+    pub not_long : length f.payload < 3 → refused 4 ≡ number_taken (replacement_in d earlier f)
     unfolding replacement_in
     not_long l = rw (eq-eqb f.kind 0xAF k, lt-leb 3 (length f.payload) l)
 
     module _ (l : 3 ≤ length f.payload) where
-      not_there_by : stands ≡ false → some 20 ≡ refused_in (replacement_in d earlier f)
+      not_there_by : stands ≡ false → refused 20 ≡ number_taken (replacement_in d earlier f)
       unfolding replacement_in
       not_there_by e = rw (eq-eqb f.kind 0xAF k, le-leb 3 (length f.payload) l, e)
 
       module _ (there : stands ≡ true) where
-        twice_by : twice ≡ true → some 20 ≡ refused_in (replacement_in d earlier f)
+        twice_by : twice ≡ true → refused 20 ≡ number_taken (replacement_in d earlier f)
         unfolding replacement_in
         twice_by e = rw (eq-eqb f.kind 0xAF k, le-leb 3 (length f.payload) l, there, e)
 
         module _ (new : twice ≡ false) where
-          law_asked : refused_in (saying f (law_in (counts_of d) (kind_in f) (payload_in f))) ≡ refused_in (replacement_in d earlier f)
+          law_asked : number_taken (saying f (law_in (counts_of d) (kind_in f) (payload_in f))) ≡ number_taken (replacement_in d earlier f)
           unfolding replacement_in
           law_asked = rw (eq-eqb f.kind 0xAF k, le-leb 3 (length f.payload) l, there, new)
 
@@ -154,7 +133,7 @@ module _ {d : Domain} {store : List ℕ} {n : Counts} {laws over : List ℕ} (h 
   abbrev frame : List ℕ
   frame = frame_bytes store (get_or laws number 0)
 
-  pub not_there : n.laws ≤ number → some 20 ≡ refused_in (replacement_in d earlier f)
+  pub not_there : n.laws ≤ number → refused 20 ≡ number_taken (replacement_in d earlier f)
   not_there q = not_there_by d earlier f k l (ap (λ (x : Option Law). maybe x false (stands_for f)) (numbered_none d.laws (number_in f) (omega (arith, how_many))))
 
   module _ (q : number < n.laws) where
@@ -164,7 +143,7 @@ module _ {d : Domain} {store : List ℕ} {n : Counts} {laws over : List ℕ} (h 
         stands_is n frame f (law_number d number) (h.law number q ∙ e)
         ∙ ap (λ (x : Option Law). maybe x false (stands_for f)) (sym e) ∙ ap (λ (i : ℕ). maybe (law_numbered d i) false (stands_for f)) is
 
-    pub other_law : stands_in frame f.payload ≡ false → some 20 ≡ refused_in (replacement_in d earlier f)
+    pub other_law : stands_in frame f.payload ≡ false → refused 20 ≡ number_taken (replacement_in d earlier f)
     other_law e = not_there_by d earlier f k l (sym stands_in_lem ∙ e)
 
     module _ (same : stands_in frame f.payload ≡ true) (few : n.laws ≤ 128) where
@@ -180,29 +159,29 @@ module _ {d : Domain} {store : List ℕ} {n : Counts} {laws over : List ℕ} (h 
       is_new true e p = absurd (omega (arith, given 0 earlier (number_in f) e, over_is))
       is_new false e p = refl
 
-      pub given_twice : (get_or over number 0 ≡ 0 → ⊥) → some 20 ≡ refused_in (replacement_in d earlier f)
+      pub given_twice : (get_or over number 0 ≡ 0 → ⊥) → refused 20 ≡ number_taken (replacement_in d earlier f)
       given_twice p = twice_by d earlier f k l (sym stands_in_lem ∙ same) (is_twice (twice d earlier f) refl p)
 
       module _ (p : get_or over number 0 ≡ 0) (kind : ℕ) (its : kind ≡ kind_in f) where
-        asked : refused_in (saying f (law_in n kind (payload_in f))) ≡ refused_in (replacement_in d earlier f)
+        asked : number_taken (saying f (law_in n kind (payload_in f))) ≡ number_taken (replacement_in d earlier f)
         asked =
-            ap (λ (x : ℕ). refused_in (saying f (law_in n x (payload_in f)))) its
-            ∙ ap (λ (c : Counts). refused_in (saying f (law_in c (kind_in f) (payload_in f)))) (sym h.counts)
+            ap (λ (x : ℕ). number_taken (saying f (law_in n x (payload_in f)))) its
+            ∙ ap (λ (c : Counts). number_taken (saying f (law_in c (kind_in f) (payload_in f)))) (sym h.counts)
             ∙ law_asked d earlier f k l (sym stands_in_lem ∙ same) (is_new (twice d earlier f) refl p)
 
-        pub no_law_lem : false ≡ is_some (law_in n kind (payload_in f)) → some 4 ≡ refused_in (replacement_in d earlier f)
+        pub no_law_lem : false ≡ is_some (law_in n kind (payload_in f)) → refused 4 ≡ number_taken (replacement_in d earlier f)
         no_law_lem e = go (law_in n kind (payload_in f)) e ∙ asked
           where
-            go : (x : Option Law) → false ≡ is_some x → some 4 ≡ refused_in (saying f x)
+            go : (x : Option Law) → false ≡ is_some x → refused 4 ≡ number_taken (saying f x)
             go none q = refl
-            go (some l) q = absurd (let z : ◌≡◌ {A = ℕ} 0 1 = cc in omega arith)
+            go (some l) q = absurd cc
 
-        pub is_law_lem : true ≡ is_some (law_in n kind (payload_in f)) → none ≡ refused_in (replacement_in d earlier f)
+        pub is_law_lem : true ≡ is_some (law_in n kind (payload_in f)) → got number ≡ number_taken (replacement_in d earlier f)
         is_law_lem e = go (law_in n kind (payload_in f)) e ∙ asked
           where
-            go : (x : Option Law) → true ≡ is_some x → none ≡ refused_in (saying f x)
-            go none q = absurd (let z : ◌≡◌ {A = ℕ} 0 1 = cc in omega arith)
-            go (some l) q = refl
+            go : (x : Option Law) → true ≡ is_some x → got number ≡ number_taken (saying f x)
+            go none q = absurd cc
+            go (some l) q = ap got is
 
 -- ---- the index of an accepted domain has its laws
 
@@ -213,3 +192,14 @@ laws_stand store x h = record {
   law = λ i k.
       h.law i k ∙ ap some (sym (law_number_lem store x i k)) ∙ sym (numbered_some (domain_of store x).laws i no_law (omega (arith, law_count store x)));
 }
+
+-- ---- the places with a frame more, by what its check answers
+
+module _ (over : List ℕ) (at : ℕ) where
+  pub noted_taken : (a : Answer Replacement) (n : ℕ) → got n ≡ number_taken a → got (set over n (at + 1)) ≡ noted_at over at a
+  noted_taken (got r) n e = let same : n ≡ replaces r = cc in ap (λ (k : ℕ). got (set over k (at + 1))) same
+  noted_taken (refused m) n e = absurd cc
+
+  pub noted_refused : (a : Answer Replacement) (m : ℕ) → refused m ≡ number_taken a → refused m ≡ noted_at over at a
+  noted_refused (got r) m e = absurd cc
+  noted_refused (refused k) m e = cc

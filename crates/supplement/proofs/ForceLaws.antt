@@ -6,6 +6,7 @@ use mathlib.Core.Path.{◌≡◌, refl, sym, ap, subst, ◌∙◌}
 use mathlib.Core.Bool.{Bool, true, false}
 use mathlib.Core.List.{List, [], ◌∷◌}
 use mathlib.Core.Option.{Option, none, some}
+use Rattle.std.specs.Prelude.{Some}
 use lib.Dec.{leb, ltb}
 use lib.ListN.{length, get_or, take, drop}
 use borrow.Author.Tests.{eq-eqb, ne_eqb, lt-ltb, le-ltb}
@@ -19,7 +20,6 @@ use Rattle.bmap.specs.Supplement.{Replacement, replacement_of, supplement_in, Wh
 use Rattle.index.specs.Index.{domain_of}
 use Rattle.index.proofs.DomainLaws.{law_count}
 use Rattle.index.specs.declared.Index.{Index}
-use Rattle.domain.specs.declared.found.Found.{Found}
 use Rattle.domain.specs.Found.{law_places, index_with, found_in}
 use Rattle.domain.proofs.Rows.{row_at}
 use Rattle.domain.proofs.Stands.{Here, here, no_more}
@@ -27,26 +27,8 @@ use Rattle.domain.proofs.Accepted.{domained, found_got, as_many}
 use Rattle.supplement.specs.declared.under.Under.{Under}
 use Rattle.supplement.specs.Check.{over_of}
 use Rattle.supplement.specs.Under.{under_in}
-use Rattle.supplement.specs.Force.{Stretch, StandsIn, bytes_in, HandedOut, InForce, stretch_of, stretch_at, law_stretch, payload_of}
+use Rattle.supplement.specs.Force.{Stretch, StandsIn, bytes_in, InForce, stretch_of, stretch_at, law_stretch, payload_of}
 use Rattle.supplement.proofs.Accepted.{UnderIs, Stood, under_ok, under_none, supplemented, stood, no_part_lem, over_none, over_count}
-
--- ---- a place, as the code finds it
-
-module _ (store : List ℕ) (frame : ℕ) (supplement : List ℕ) (over : ℕ) where
-  pub stretch_domain : over ≡ 0 → (count : ℕ) → count ≡ get_or store (frame + 1) 0
-      → got (record { stands = in_domain (frame + 2); size = count }) ≡ got (stretch_at store frame supplement over)
-  stretch_domain e count c = rw (eq-eqb over 0 e, c)
-
-  pub stretch_supplement : (over ≡ 0 → ⊥) → (size : ℕ) → size ≡ get_or supplement over 0 - 2
-      → got (record { stands = in_supplement (over + 3); size = size }) ≡ got (stretch_at store frame supplement over)
-  stretch_supplement e size c = rw (ne_eqb over 0 e, c)
-
--- ---- a part, where it stands
-
-module _ (store supplement r : Bor (List ℕ)) where
-  -- what is handed out of an answer that is known
-  pub handed : {a b : Answer Stretch} → a ≡ b → HandedOut a store supplement r → HandedOut b store supplement r
-  handed e h = subst (λ (y : Answer Stretch). HandedOut y store supplement r) e h
 
 -- ---- the domain's own laws as parts
 
@@ -59,7 +41,7 @@ record OwnPart (s : List ℕ) (place : ℕ) (p : Part) : Type 0 where
 module _ (s : List ℕ) where
   own_part : (looks at : ℕ) (fs : List Frame) → frames_from looks s at ≡ some fs → (n : ℕ) → n < length (law_places at fs) → OwnPart s (get_or (law_places at fs) n 0) (get_or (law_parts at fs) n no_part)
   unfolding frames_from law_places law_parts
-  own_part zero at fs e n h = absurd (let z : ◌≡◌ {A = ℕ} 0 1 = cc in omega arith)
+  own_part zero at fs e n h = absurd cc
   own_part (suc looks) at fs e n h = go (frame_at s at) refl e (λ t k z. own_part looks t k z)
     where
       none_there : fs ≡ [] → OwnPart s (get_or (law_places at fs) n 0) (get_or (law_parts at fs) n no_part)
@@ -85,18 +67,18 @@ module _ (s : List ℕ) where
       go (some g) o z rec = by (frames_from looks s (at + length (stored g))) refl z
         where
           by : (k : Option (List Frame)) → frames_from looks s (at + length (stored g)) ≡ k → maybe k none (λ l. some (g ∷ l)) ≡ some fs → OwnPart s (get_or (law_places at fs) n 0) (get_or (law_parts at fs) n no_part)
-          by none w y = absurd (let x : ◌≡◌ {A = ℕ} 0 1 = cc in omega arith)
+          by none w y = absurd cc
           by (some l) w y =
               let fr : g ∷ l ≡ fs = cc in
               subst (λ (k : List Frame). OwnPart s (get_or (law_places at k) n 0) (get_or (law_parts at k) n no_part)) fr
               (test g l (leb 0xA5 g.kind) n (here s at g o) (rec (at + length (stored g)) l w) (subst (λ (k : List Frame). n < length (law_places at k)) (sym fr) h))
 
 -- the index has the places of the domain's laws
-pub law_place : (store : List ℕ) (d : Domain) (x : Index) → x ≡ (found_in store).index → (g : domain_in store ≡ got d) (n : ℕ) → n < length (law_places 0 (domained store d g).frames)
+pub law_place : (store : List ℕ) (d : Domain) (x : Index) → found_in store ≡ Some x → (g : domain_in store ≡ got d) (n : ℕ) → n < length (law_places 0 (domained store d g).frames)
     → get_or x.laws n 0 ≡ get_or (law_places 0 (domained store d g).frames) n 0
 unfolding index_with
 law_place store d x e g n h =
-    ap (λ (i : Index). get_or i.laws n 0) (e ∙ ap (λ (f : Found). f.index) (found_got store d g)) ∙ row_at 128 0 (law_places 0 (domained store d g).frames) 0 n h
+    ap (λ (i : Index). get_or i.laws n 0) (let k = sym e ∙ found_got store d g in let same : x ≡ index_with d (law_places 0 (domained store d g).frames) = cc in same) ∙ row_at 128 0 (law_places 0 (domained store d g).frames) 0 n h
 
 -- ---- the part that is the law in force
 
@@ -194,7 +176,7 @@ pub known_law : (store supplement : List ℕ) (n : ℕ) (p : Part) → law_in_fo
 known_law store supplement n p e = by (under_in store supplement).ok refl
   where
     no_answer : (m : ℕ) → refused m ≡ stretch_of (law_in_force store supplement n) → ⊥
-    no_answer m q = let y : refused m ≡ stretch_of (got p) = q ∙ ap stretch_of e in let z : ◌≡◌ {A = ℕ} 0 1 = cc in omega arith
+    no_answer m q = let y : refused m ≡ stretch_of (got p) = q ∙ ap stretch_of e in cc
 
     by : (b : Bool) → (under_in store supplement).ok ≡ b → Known store supplement n p
     by false k = absurd (no_answer 15 (not_found store supplement n k))
@@ -218,13 +200,20 @@ bytes_there_lem store supplement n p e =
     ap (λ (x : Stretch). bytes_in x store supplement) k.part.stretch ∙ k.part.there
 
 -- what is handed out of the place of the law in force is the law in force
-module _ (store supplement : Bor (List ℕ)) (r : Bor (List ℕ)) where
-  stands_with : (w : Where) {b c : List ℕ} → b ≡ c → StandsIn w store supplement b r → StandsIn w store supplement c r
-  stands_with w e h = subst (λ (l : List ℕ). StandsIn w store supplement l r) e h
-
-  pub in_force_out : (n : ℕ) → HandedOut (stretch_of (law_in_force store.now supplement.now n)) store supplement r → InForce (law_in_force store.now supplement.now n) store supplement r
-  in_force_out n g = go (law_in_force store.now supplement.now n) refl g
+module _ (store supplement r : Bor (List ℕ)) (n : ℕ) where
+  pub in_force_out : (x : Stretch) → got x ≡ stretch_of (law_in_force store.now supplement.now n) → StandsIn x.stands store supplement (bytes_in x store.now supplement.now) r → InForce (law_in_force store.now supplement.now n) store supplement r
+  in_force_out x e h = go (law_in_force store.now supplement.now n) refl e
     where
-      go : (a : Answer Part) → law_in_force store.now supplement.now n ≡ a → HandedOut (stretch_of a) store supplement r → InForce a store supplement r
-      go (refused m) e g = g
-      go (got p) e g = stands_with p.stands (bytes_there_lem store.now supplement.now n p e) g
+      go : (a : Answer Part) → law_in_force store.now supplement.now n ≡ a → got x ≡ stretch_of a → InForce a store supplement r
+      go (refused m) k e = absurd cc
+      go (got p) k e =
+          let is : x ≡ record { stands = p.stands; size = length p.bytes } = cc in
+          subst (λ (l : List ℕ). StandsIn p.stands store supplement l r) (bytes_there_lem store.now supplement.now n p k)
+          (subst (λ (x : Stretch). StandsIn x.stands store supplement (bytes_in x store.now supplement.now) r) is h)
+
+  pub nothing_out : (m : ℕ) → refused m ≡ stretch_of (law_in_force store.now supplement.now n) → r.now ≡ [] → InForce (law_in_force store.now supplement.now n) store supplement r
+  nothing_out m e h = go (law_in_force store.now supplement.now n) e
+    where
+      go : (a : Answer Part) → refused m ≡ stretch_of a → InForce a store supplement r
+      go (refused k) e = h
+      go (got p) e = absurd cc

@@ -42,12 +42,12 @@ some_law n k [] l e = absurd (go (eqb k 0xA5) (eqb k 0xA6) (eqb k 0xA7) (eqb k 0
     no false = refl
 
     go : (a b c d g : Bool) → ◌≡◌ {A = Option Law} (if_else a none (if_else b none (if_else c none (if_else d none (if_else g none none))))) (some l) → ⊥
-    go true b c d g z = let y : ◌≡◌ {A = ℕ} 0 1 = cc in omega arith
-    go false true c d g z = let y : ◌≡◌ {A = ℕ} 0 1 = cc in omega arith
-    go false false true d g z = let y : ◌≡◌ {A = ℕ} 0 1 = cc in omega arith
-    go false false false true g z = let y : ◌≡◌ {A = ℕ} 0 1 = cc in omega arith
-    go false false false false true z = let y : ◌≡◌ {A = ℕ} 0 1 = cc in omega arith
-    go false false false false false z = let y : ◌≡◌ {A = ℕ} 0 1 = cc in omega arith
+    go true b c d g z = cc
+    go false true c d g z = cc
+    go false false true d g z = cc
+    go false false false true g z = cc
+    go false false false false true z = cc
+    go false false false false false z = cc
 
 pub in_force_says : InForceJudged
 in_force_says store supplement d s n part g a e =

@@ -88,7 +88,7 @@ pub layers : (store lower upper : List ℕ) (below above : Under) → UnderIs st
 layers store lower upper below above h e ok = go (supplement_in (domain_of store below.index) upper) refl e
   where
     go : (a : Answer (List Replacement)) → supplement_in (domain_of store below.index) upper ≡ a → above ≡ under_of below.index a → Layers store lower upper below.index below.over above.over
-    go (refused n) q k = absurd (let b : false ≡ true = sym (ap (λ (y : Under). y.ok) k) ∙ ok in let z : ◌≡◌ {A = ℕ} 0 1 = cc in omega arith)
+    go (refused n) q k = absurd (let b : false ≡ true = sym (ap (λ (y : Under). y.ok) k) ∙ ok in cc)
     go (got u) q k = record {
       below_ones = h.replacements;
       above_ones = u;
@@ -128,7 +128,7 @@ module _ (store lower upper result : List ℕ) where
   lay_15_above h below above is e ok = refused_both h (rw (is.domain, is.accepted) (go (supplement_in (domain_of store below.index) upper) refl e))
     where
       go : (a : Answer (List Replacement)) → supplement_in (domain_of store below.index) upper ≡ a → above ≡ under_of below.index a → then a (λ u. got (laid is.replacements u)) ≡ refused 15
-      go (got u) q k = absurd (let b : true ≡ false = sym (ap (λ (y : Under). y.ok) k) ∙ ok in let z : ◌≡◌ {A = ℕ} 0 1 = cc in omega arith)
+      go (got u) q k = absurd (let b : true ≡ false = sym (ap (λ (y : Under). y.ok) k) ∙ ok in cc)
       go (refused n) q k = ap refused (supplement_15 (domain_of store below.index) upper n q)
 
   -- the frames are put, and zeros after them

@@ -1,6 +1,5 @@
 -- K8: what document 02 asks to be shown of laying, of stores, from what is so of lists of replacements. Assumes nothing.
 use Prim.Native.Nat.{ℕ, ◌-◌, ◌≤◌}
-use native.Mathlib.Omega.{arith}
 use mathlib.Core.Path.{◌≡◌, refl, sym, ap, ◌∙◌}
 use mathlib.Core.List.{List, [], ◌++◌, append-nil}
 use lib.Dec.{leb}
@@ -113,7 +112,7 @@ answered store lower upper result m e =
   where
     laid_got : (y : Answer (List Replacement)) → (into_result result y).answer ≡ got m → (s : List Replacement) × (y ≡ got s)
     laid_got (got s) e = (s, refl)
-    laid_got (refused n) e = absurd (let z : ◌≡◌ {A = ℕ} 0 1 = cc in omega arith)
+    laid_got (refused n) e = absurd cc
 
 -- ---- of what is accepted again
 

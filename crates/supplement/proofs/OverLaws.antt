@@ -1,5 +1,5 @@
 -- The replacements so far, and where they stand. Assumes nothing.
-use Prim.Native.Nat.{ℕ, zero, suc, ◌+◌, ◌-◌, ◌*◌, ◌≤◌, ◌<◌}
+use Prim.Native.Nat.{ℕ, ◌+◌, ◌-◌, ◌*◌, ◌≤◌, ◌<◌}
 use native.Mathlib.Omega.{arith}
 use mathlib.Core.Path.{◌≡◌, refl, sym, ap, ◌∙◌}
 use mathlib.Core.Bool.{Bool, true, false}
@@ -7,8 +7,11 @@ use mathlib.Core.List.{List, [], ◌∷◌, ◌++◌, map}
 use mathlib.Core.Option.{Option, none, some}
 use lib.Dec.{eqb}
 use lib.ListN.{length, get_or, set, replicate, length-append, length-set}
+use Rattle.std.specs.List.{sum_by}
+use Rattle.std.proofs.lemmas.List.Sums.{sum_by-set}
+use Rattle.std.proofs.lemmas.List.Folds.{sum_by-replicate}
 use lib.Seq.{get_or-set_same, get_or-set_other}
-use borrow.Author.Tests.{eqb-true, eqb-false, eq-eqb, ne_eqb}
+use borrow.Author.Tests.{eqb-true, eqb-false, ne_eqb}
 use Rattle.bmap.specs.Plain.{either, if_else, maybe, any, flat, numbers}
 use Rattle.bmap.specs.Line.{stored}
 use Rattle.bmap.specs.Supplement.{Replacement, replaces, payload_in, in_supplement, Part, replacement_part}
@@ -52,12 +55,12 @@ not_given at (q ∷ s) n e = go (gives n q) e (not_given (at + length (stored q.
   where
     go : (t : Bool) → either t (any (gives n) s) ≡ false → (any (gives n) s ≡ false → replacement_part (at + length (stored q.frame)) s n ≡ none)
         → if_else t (some (part_of at q)) (replacement_part (at + length (stored q.frame)) s n) ≡ none
-    go true h rec = absurd (let z : ◌≡◌ {A = ℕ} 0 1 = cc in omega arith)
+    go true h rec = absurd cc
     go false h rec = rec h
 
 pub given : (at : ℕ) (s : List Replacement) (n : ℕ) → any (gives n) s ≡ true → 1 ≤ count_place (replacement_part at s n)
 unfolding replacement_part any
-given at [] n e = absurd (let z : ◌≡◌ {A = ℕ} 0 1 = cc in omega arith)
+given at [] n e = absurd cc
 given at (q ∷ s) n e = go (gives n q) e (given (at + length (stored q.frame)) s n)
   where
     go : (t : Bool) → either t (any (gives n) s) ≡ true → (any (gives n) s ≡ true → 1 ≤ count_place (replacement_part (at + length (stored q.frame)) s n))
@@ -83,23 +86,8 @@ abbrev pub one : Bool → ℕ
 one true = 1
 one false = 0
 
-unfoldable pub free : List ℕ → ℕ
-free [] = 0
-free (x ∷ l) = one (eqb x 0) + free l
-
-free_first : (n : ℕ) → free (replicate n 0) ≡ n
-unfolding free
-free_first zero = refl
-free_first (suc n) = omega (arith, free_first n)
-
-free_less : (l : List ℕ) (n v : ℕ) → n < length l → get_or l n 0 ≡ 0 → 1 ≤ v → suc (free (set l n v)) ≡ free l
-unfolding free
-free_less [] n v h e k = absurd (omega arith)
-free_less (x ∷ l) zero v h e k =
-    let a : one (eqb v 0) ≡ one false = ap one (ne_eqb v 0 (λ z. omega arith)) in
-    let b : one (eqb x 0) ≡ one true = ap one (eq-eqb x 0 e) in
-    omega (arith, a, b)
-free_less (x ∷ l) (suc n) v h e k = omega (arith, free_less l n v (omega arith) e k)
+abbrev pub free : List ℕ → ℕ
+free l = sum_by (λ x. one (eqb x 0)) l
 
 module _ (s : List Replacement) (r : Replacement) (new : any (gives (replaces r)) s ≡ false) (few : replaces r < 128) where
   over_next_at : (n : ℕ) → n < 128 → over_at (s ++ (r ∷ [])) n ≡ get_or (set (over_of s) (replaces r) (length (bytes_of s) + 1)) n 0
@@ -167,9 +155,10 @@ module _ {earlier : List Replacement} {over : List ℕ} {at : ℕ} (h : Over ear
         before = omega (arith, h.before, n, short);
         rest =
             let free_there : get_or over (replaces r) 0 ≡ 0 = over_here (replaces r) few ∙ ap count_place (not_given 0 earlier (replaces r) new) in
-            omega (arith, h.rest, n, free_less over (replaces r) (at + 1) (omega (arith, over_long)) free_there (omega arith));
+            let taken = sum_by-set (λ x. one (eqb x 0)) over (replaces r) (at + 1) 0 (omega (arith, over_long)) in
+            omega (arith, h.rest, n, taken, ap (λ (x : ℕ). one (eqb x 0)) free_there, ap one (ne_eqb (at + 1) 0 (λ z. omega arith)));
       }
 
 pub over_first : Over [] (replicate 128 0) 0
-unfolding over_of numbers replacement_part flat free
-over_first = record { places = refl; here = refl; before = omega arith; rest = free_first 128 }
+unfolding over_of numbers replacement_part flat
+over_first = record { places = refl; here = refl; before = omega arith; rest = sum_by-replicate (λ x. one (eqb x 0)) 128 0 }

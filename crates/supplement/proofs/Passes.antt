@@ -17,8 +17,7 @@ use Rattle.bmap.specs.Payload.{law_in}
 use Rattle.bmap.specs.Accept.{counts_of}
 use Rattle.bmap.specs.Supplement.{Replacement, replaces, replacement_of, number_in, kind_in, payload_in, law_numbered, stands_for, replacement_in, supplement_from}
 use Rattle.index.specs.Index.{law_number, no_law}
-use Rattle.domain.specs.Check.{refused_in}
-use Rattle.domain.proofs.Passed.{need_got}
+use Rattle.line.proofs.Answers.{need_got}
 use Rattle.domain.proofs.Rows.{map_snoc}
 use Rattle.supplement.proofs.OverLaws.{gives, Over, over_next}
 use Rattle.supplement.proofs.CheckLaws.{numbered_none, numbered_some}
@@ -32,12 +31,11 @@ pub record Fits (d : Domain) (r : Replacement) : Type 0 where
   pub same : stands_for r.frame (law_number d (replaces r)) ≡ true
   pub law : law_in (counts_of d) (kind_in r.frame) (payload_in r.frame) ≡ some r.law
 
-pub record Passes (d : Domain) (earlier : List Replacement) (f : Frame) : Type 0 where
-  pub replacement : Replacement
-  pub is : replacement_in d earlier f ≡ got replacement
-  pub frame : replacement.frame ≡ f
-  pub new : any (gives (replaces replacement)) earlier ≡ false
-  pub fits : Fits d replacement
+-- after those before it
+pub record Passes (d : Domain) (earlier : List Replacement) (f : Frame) (r : Replacement) : Type 0 where
+  pub frame : r.frame ≡ f
+  pub new : any (gives (replaces r)) earlier ≡ false
+  pub fits : Fits d r
 
 -- the law that has the number
 module _ (d : Domain) (f : Frame) where
@@ -45,41 +43,32 @@ module _ (d : Domain) (f : Frame) where
   has_number e = elim (dec_lt (number_in f) (length d.laws)) [
     | yes h ↦ (h, sym (ap (λ (o : Option Law). maybe o false (stands_for f)) (numbered_some d.laws (number_in f) no_law h)) ∙ e)
     | no h ↦
-        absurd (let b : false ≡ true = sym (ap (λ (o : Option Law). maybe o false (stands_for f)) (numbered_none d.laws (number_in f) (omega arith))) ∙ e in let z : ◌≡◌ {A = ℕ} 0 1 = cc in omega arith)
+        absurd (let b : false ≡ true = sym (ap (λ (o : Option Law). maybe o false (stands_for f)) (numbered_none d.laws (number_in f) (omega arith))) ∙ e in cc)
   ]
 
-pub passes : (d : Domain) (earlier : List Replacement) (f : Frame) → none ≡ refused_in (replacement_in d earlier f) → Passes d earlier f
+pub passes : (d : Domain) (earlier : List Replacement) (f : Frame) (r : Replacement) → replacement_in d earlier f ≡ got r → Passes d earlier f r
 unfolding replacement_in
-passes d earlier f e =
-    let a = need_got (eqb f.kind 0xAF) 3 _ e in
-    let b = need_got (leb 3 (length f.payload)) 4 _ a.1 in
-    let c = need_got (maybe (law_numbered d (number_in f)) false (stands_for f)) 20 _ b.1 in
-    let t = need_got (not (any (gives (number_in f)) earlier)) 20 _ c.1 in
-    go (law_in (counts_of d) (kind_in f) (payload_in f)) refl a.0 b.0 c.0 t.0 t.1
+passes d earlier f r e =
+    let a = need_got (eqb f.kind 0xAF) 3 _ r e in
+    let b = need_got (leb 3 (length f.payload)) 4 _ r a.1 in
+    let c = need_got (maybe (law_numbered d (number_in f)) false (stands_for f)) 20 _ r b.1 in
+    let t = need_got (not (any (gives (number_in f)) earlier)) 20 _ r c.1 in
+    go (law_in (counts_of d) (kind_in f) (payload_in f)) refl (eqb-true f.kind 0xAF a.0) (leb-true 3 (length f.payload) b.0) (has_number d f c.0) (not-true _ t.0) t.1
   where
-    go : (o : Option Law) → law_in (counts_of d) (kind_in f) (payload_in f) ≡ o → eqb f.kind 0xAF ≡ true → leb 3 (length f.payload) ≡ true
-        → maybe (law_numbered d (number_in f)) false (stands_for f) ≡ true → not (any (gives (number_in f)) earlier) ≡ true
-        → none ≡ refused_in {A = Replacement} (then (known 4 o) (λ l. got (record { frame = f; law = l }))) → Passes d earlier f
-    go none q a b c t z = absurd (let y : ◌≡◌ {A = ℕ} 0 1 = cc in omega arith)
-    go (some l) q a b c t z =
-        let n = has_number d f c in
-        record {
-          replacement = record { frame = f; law = l };
-          is = rw (a, b, c, t, q);
-          frame = refl;
-          new = not-true _ t;
-          fits = record { kind = eqb-true f.kind 0xAF a; long = leb-true 3 (length f.payload) b; number = n.0; same = n.1; law = q };
-        }
+    go : (o : Option Law) → law_in (counts_of d) (kind_in f) (payload_in f) ≡ o → f.kind ≡ 0xAF → 3 ≤ length f.payload
+        → (number_in f < length d.laws) × (stands_for f (law_number d (number_in f)) ≡ true) → any (gives (number_in f)) earlier ≡ false
+        → then (known 4 o) (λ l. got (record { frame = f; law = l })) ≡ got r → Passes d earlier f r
+    go none q a b n t z = absurd cc
+    go (some l) q a b n t z =
+        let same : record { frame = f; law = l } ≡ r = cc in
+        subst (Passes d earlier f) same (record { frame = refl; new = t; fits = record { kind = a; long = b; number = n.0; same = n.1; law = q } })
 
 -- where it stands after the others
-pub over_passed : {d : Domain} {earlier : List Replacement} {f : Frame} {over : List ℕ} {at : ℕ} → Over earlier over at → (v : Passes d earlier f) → length d.laws ≤ 128 → length f.payload ≤ 120
-    → {number : ℕ} → number ≡ number_in f → Over (earlier ++ (v.replacement ∷ [])) (set over number (at + 1)) (at + length (stored f))
-over_passed {d} {earlier} {f} {over} {at} h v few short {number} is =
-    let its : replaces v.replacement ≡ number_in f = ap number_in v.frame in
-    let size : length v.replacement.frame.payload ≡ length f.payload = ap (λ (x : Frame). length x.payload) v.frame in
-    subst (λ (k : ℕ). Over (earlier ++ (v.replacement ∷ [])) (set over number (at + 1)) k) (ap (λ (x : Frame). at + length (stored x)) v.frame)
-    (subst (λ (k : ℕ). Over (earlier ++ (v.replacement ∷ [])) (set over k (at + 1)) (at + length (stored v.replacement.frame))) (its ∙ sym is)
-    (over_next h v.replacement v.new (omega (arith, v.fits.number, few)) (omega (arith, size, short))))
+pub over_passed : {d : Domain} {earlier : List Replacement} {f : Frame} {over : List ℕ} {at : ℕ} {r : Replacement} → Over earlier over at → Passes d earlier f r → length d.laws ≤ 128 → length f.payload ≤ 120
+    → Over (earlier ++ (r ∷ [])) (set over (replaces r) (at + 1)) (at + length (stored f))
+over_passed {d} {earlier} {f} {over} {at} {r} h v few short =
+    subst (λ (x : Frame). Over (earlier ++ (r ∷ [])) (set over (replaces r) (at + 1)) (at + length (stored x))) v.frame
+    (over_next h r v.new (omega (arith, v.fits.number, few)) (omega (arith, ap (λ (x : Frame). length x.payload) v.frame, short)))
 
 -- ---- all of a supplement's
 
@@ -98,7 +87,7 @@ pub record FoundFits (d : Domain) (n : ℕ) (r : Replacement) : Type 0 where
 
 pub found_fits : (d : Domain) (s : List Replacement) (n : ℕ) (r : Replacement) → AllFit d s → replacement_of s n ≡ some r → FoundFits d n r
 unfolding replacement_of
-found_fits d [] n r h e = absurd (let z : ◌≡◌ {A = ℕ} 0 1 = cc in omega arith)
+found_fits d [] n r h e = absurd cc
 found_fits d (q ∷ s) n r (and_more g h) e = go (eqb (replaces q) n) refl e (found_fits d s n r h)
   where
     go : (t : Bool) → eqb (replaces q) n ≡ t → if_else t (some q) (replacement_of s n) ≡ some r → (replacement_of s n ≡ some r → FoundFits d n r) → FoundFits d n r
@@ -120,15 +109,13 @@ all_read d earlier (f ∷ fs) s h e = go (replacement_in d earlier f) refl e (λ
     go : (a : Answer Replacement) → replacement_in d earlier f ≡ a → at_line (suc (length earlier)) a (λ r. supplement_from d (earlier ++ (r ∷ [])) (map got fs)) ≡ read s
         → ((r : Replacement) → AllFit d (earlier ++ (r ∷ [])) → supplement_from d (earlier ++ (r ∷ [])) (map got fs) ≡ read s → AllRead d (earlier ++ (r ∷ [])) fs s)
         → AllRead d earlier (f ∷ fs) s
-    go (refused n) a t rec = absurd (let z : ◌≡◌ {A = ℕ} 0 1 = cc in omega arith)
+    go (refused n) a t rec = absurd cc
     go (got r) a t rec =
-        let v = passes d earlier f (sym (ap refused_in a)) in
-        let same : v.replacement ≡ r = (let k = v.is in cc) in
-        let w = rec r (fit_snoc d earlier r h (subst (Fits d) same v.fits)) t in
-        let its : r.frame ≡ f = ap (λ (q : Replacement). q.frame) (sym same) ∙ v.frame in
+        let v = passes d earlier f r a in
+        let w = rec r (fit_snoc d earlier r h v.fits) t in
         record {
           fit = w.fit;
           frames_are =
               w.frames_are ∙ ap (λ (l : List Frame). l ++ fs) (map_snoc (λ (q : Replacement). q.frame) earlier r) ∙ append_assoc (frames earlier) (r.frame ∷ []) fs
-              ∙ ap (λ (x : Frame). frames earlier ++ (x ∷ fs)) its;
+              ∙ ap (λ (x : Frame). frames earlier ++ (x ∷ fs)) v.frame;
         }

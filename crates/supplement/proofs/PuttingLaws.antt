@@ -23,10 +23,6 @@ module _ (s : List ℕ) (count : ℕ) where
   pub frame_with_lem : (count ≡ 0 → ⊥) → frame_with s count ≡ take (get_or s count 0 + 2) (drop (count - 1) s)
   frame_with_lem e = ap (λ (b : Bool). if_else b [] (take (get_or s count 0 + 2) (drop (count - 1) s))) (ne_eqb count 0 e)
 
--- nothing is put
-pub none_put : (bytes out : List ℕ) → bytes ≡ [] → (0 ≡ length bytes) × (out ≡ over bytes out)
-none_put bytes out e = rw e (refl, refl)
-
 -- other bytes that are the same were put
 pub copied : (bytes part out exit : List ℕ) (n : ℕ) → part ≡ bytes → n ≡ length part → exit ≡ take (length part) part ++ drop (length part) out → (n ≡ length bytes) × (exit ≡ over bytes out)
 copied bytes part out exit n e m q =
@@ -41,10 +37,6 @@ module _ (lower : List ℕ) (low : ℕ) (upper : List ℕ) (high : ℕ) where
 
   pub upper_wins : (high ≡ 0 → ⊥) → winner lower low upper high ≡ frame_with upper high
   upper_wins e = ap (λ (b : Bool). if_else b (frame_with lower low) (frame_with upper high)) (ne_eqb high 0 e)
-
--- what was put of it
-pub won_put : (bytes won out exit : List ℕ) (n : ℕ) → won ≡ bytes → (n ≡ length bytes) × (exit ≡ over bytes out) → (n ≡ length won) × (exit ≡ over won out)
-won_put bytes won out exit n e h = rw e h
 
 -- ---- of all law numbers
 

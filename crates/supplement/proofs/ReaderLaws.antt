@@ -8,28 +8,28 @@ use mathlib.Core.List.{List, [], ◌∷◌, ◌++◌}
 use mathlib.Core.Option.{none, some}
 use lib.ListN.{length, set, take, drop, replicate}
 use borrow.Author.Tests.{le-leb, lt-leb}
-use Rattle.bmap.specs.Refusal.{got, refused, read, refused_at, number_of, at_line, afterwards}
+use Rattle.bmap.specs.Refusal.{Answer, got, refused, read, refused_at, number_of, at_line, afterwards}
 use Rattle.bmap.specs.Line.{Frame}
 use Rattle.bmap.specs.Domain.{Domain}
 use Rattle.bmap.specs.Buffer.{padded}
 use Rattle.bmap.specs.Store.{frames_of, domain_in}
-use Rattle.bmap.specs.Supplement.{Replacement, number_in, replacement_in, supplement_from, read_supplement}
+use Rattle.bmap.specs.Supplement.{Replacement, replaces, replacement_in, supplement_from, read_supplement}
 use Rattle.bmap.specs.declared.refusal.Refusal.{Refusal}
+use Rattle.bmap.specs.declared.refusal.ReadError.{ReadError}
+use Rattle.std.specs.Prelude.{Result, Ok, Err}
 use Rattle.line.specs.Read.{line_read, bytes_read}
+use Rattle.line.proofs.Answers.{then_got_inv, then_refused}
 use Rattle.line.proofs.Lists.{part_to_end}
-use Rattle.domain.specs.Check.{refused_in}
 use Rattle.domain.specs.Read.{reading_of, bytes_in, Front}
-use Rattle.domain.specs.declared.reader.ReadStore.{ReadStore}
-use Rattle.domain.specs.declared.reader.ReadStore.TheVariants.{Read, Refused}
 use Rattle.domain.proofs.Rows.{length_snoc}
 use Rattle.domain.proofs.Held.{cut}
-use Rattle.domain.proofs.Stands.{refusal_is}
 use Rattle.domain.proofs.IntoStore.{lent, renewed, Sizes, Decoded, none_left, all_used, all_stand, bad_line, line_sizes, frames_on, frame_size_lem, bytes_on, Fills, fill_ends, fill_stops}
-use Rattle.index.specs.declared.Index.{Index}
-use Rattle.supplement.specs.Read.{used_under, under_reading, RefusedAt, LinesUnder}
-use Rattle.supplement.specs.declared.reader.ReadUnder.{ReadUnder}
+use Rattle.supplement.specs.Check.{noted_at}
+use Rattle.supplement.specs.Read.{used_under, under_reading, LinesUnder}
+use Rattle.supplement.specs.declared.under.Under.{Under}
 use Rattle.supplement.proofs.OverLaws.{Over, over_first, over_most}
-use Rattle.supplement.proofs.Passes.{Passes, passes, over_passed}
+use Rattle.supplement.proofs.Passes.{passes, over_passed}
+use Rattle.supplement.proofs.UnderLaws.{made}
 
 -- ---- the lines so far
 
@@ -55,14 +55,15 @@ module _ {d : Domain} {text buffer rest over : List ℕ} {used lines : ℕ} (h :
   so_read = record { room = omega (arith, reads_used, h.enough); bytes = h.bytes }
 
   -- no line is left
-  pub reads_done : none ≡ line_read rest (lent buffer used) → (p : List ℕ) (x : Index) → LinesUnder d x text (record { answer = Read used; under = record { ok = true; index = x; over = over } }) (renewed buffer used p)
+  pub reads_done : none ≡ line_read rest (lent buffer used) → (p : List ℕ) (u u' : Under) → u'.ok ≡ true → u'.index ≡ u.index → u'.over ≡ over → LinesUnder d u text (Ok used) u' (renewed buffer used p)
   unfolding used_under supplement_from
-  reads_done e p x =
+  reads_done e p u u' ok index places =
       let all : supplement_from d [] (frames_of text) ≡ read h.so_far = h.run ∙ ap (supplement_from d h.so_far) (none_left so_read e) in
       record {
         used = sym (ap (λ r. afterwards r (λ s. read (length (bytes_in text)))) all ∙ ap read (all_used so_read e));
         front = all_stand so_read e p;
-        under = ap (λ (o : List ℕ). record { ok = true; index = x; over = o }) h.stand.places ∙ sym (ap (under_reading x) all);
+        index = index;
+        under = λ n k. made u' ok index (places ∙ h.stand.places) ∙ sym (ap (under_reading u.index) all);
       }
 
   -- a line that is refused
@@ -86,42 +87,46 @@ module _ {d : Domain} {text buffer rest over : List ℕ} {used lines : ℕ} (h :
     unfolding supplement_from
     run_on = h.run ∙ ap (supplement_from d h.so_far) (frames_on so_read size k p e b)
 
-    pub reads_refused : (m : ℕ) → some m ≡ refused_in (replacement_in d h.so_far frame) → supplement_from d [] (frames_of text) ≡ refused_at m (lines + 1)
+    pub reads_refused : (m : ℕ) → replacement_in d h.so_far frame ≡ refused m → supplement_from d [] (frames_of text) ≡ refused_at m (lines + 1)
     reads_refused m q =
-        at_next m
-        (run_on
-        ∙ ap (λ a. at_line (suc (length h.so_far)) a (λ r. supplement_from d (h.so_far ++ (r ∷ [])) (frames_of (drop k rest)))) (refusal_is (replacement_in d h.so_far frame) m q))
+        at_next m (run_on ∙ ap (λ a. at_line (suc (length h.so_far)) a (λ r. supplement_from d (h.so_far ++ (r ∷ [])) (frames_of (drop k rest)))) q)
 
-    module _ (q : none ≡ refused_in (replacement_in d h.so_far frame)) where
-      pass : Passes d h.so_far frame
-      pass = passes d h.so_far frame q
+    pub reads_next : (r : Replacement) → replacement_in d h.so_far frame ≡ got r → length d.laws ≤ 128 → length (renewed buffer used p) ≡ length buffer
+        → Reads d text (renewed buffer used p) (lent rest k) (set over (replaces r) (used + 1)) (used + size) (lines + 1)
+    reads_next r q few same =
+        let here = frame_size_lem so_read size k p e b in
+        record {
+          so_far = h.so_far ++ (r ∷ []);
+          stand =
+              subst (λ (i : ℕ). Over (h.so_far ++ (r ∷ [])) (set over (replaces r) (used + 1)) (used + i)) here
+              (over_passed h.stand (passes d h.so_far frame r q) few (omega (arith, here, reads_sizes.most)));
+          each = omega (arith, h.each, length_snoc h.so_far r);
+          enough = omega (arith, h.enough, same);
+          run =
+              run_on ∙ ap (λ a. at_line (suc (length h.so_far)) a (λ r. supplement_from d (h.so_far ++ (r ∷ [])) (frames_of (drop k rest)))) q
+              ∙ ap (λ l. supplement_from d (h.so_far ++ (r ∷ [])) (frames_of l)) (sym (part_to_end rest k));
+          bytes = bytes_on so_read size k p e b;
+        }
 
-      pub reads_number : number_in frame < length d.laws
-      reads_number = omega (arith, ap number_in pass.frame, pass.fits.number)
+    -- by what noting the frame answers
+    module _ (a : Answer Replacement) (is : a ≡ replacement_in d h.so_far frame) where
+      pub reads_not : (m : ℕ) → refused m ≡ noted_at over used a → supplement_from d [] (frames_of text) ≡ refused_at m (lines + 1)
+      reads_not m q = reads_refused m (sym is ∙ then_refused a (λ r. set over (replaces r) (used + 1)) m (sym q))
 
-      pub reads_next : length d.laws ≤ 128 → length (renewed buffer used p) ≡ length buffer → {n : ℕ} → n ≡ number_in frame
-          → Reads d text (renewed buffer used p) (lent rest k) (set over n (used + 1)) (used + size) (lines + 1)
-      reads_next few same {n} at = let here = frame_size_lem so_read size k p e b in record {
-        so_far = h.so_far ++ (pass.replacement ∷ []);
-        stand =
-            subst (λ (i : ℕ). Over (h.so_far ++ (pass.replacement ∷ [])) (set over n (used + 1)) (used + i)) here
-            (over_passed h.stand pass few (omega (arith, here, reads_sizes.most)) at);
-        each = omega (arith, h.each, length_snoc h.so_far pass.replacement);
-        enough = omega (arith, h.enough, same);
-        run =
-            run_on
-            ∙ ap (λ a. at_line (suc (length h.so_far)) a (λ r. supplement_from d (h.so_far ++ (r ∷ [])) (frames_of (drop k rest)))) pass.is
-            ∙ ap (λ l. supplement_from d (h.so_far ++ (pass.replacement ∷ [])) (frames_of l)) (sym (part_to_end rest k));
-        bytes = bytes_on so_read size k p e b;
-      }
+      pub reads_taken : length d.laws ≤ 128 → length (renewed buffer used p) ≡ length buffer → (o : List ℕ) → got o ≡ noted_at over used a → Reads d text (renewed buffer used p) (lent rest k) o (used + size) (lines + 1)
+      reads_taken few same o q =
+          let (r, there, z) = then_got_inv a (λ r. got (set over (replaces r) (used + 1))) o (sym q) in
+          let left : set over (replaces r) (used + 1) ≡ o = cc in
+          subst (λ (l : List ℕ). Reads d text (renewed buffer used p) (lent rest k) l (used + size) (lines + 1)) left (reads_next r (sym is ∙ there) few same)
 
--- a refusal, as the code makes it
-pub refusing : (d : Domain) (x : Index) (text after : List ℕ) (why : Refusal) (line : ℕ) (r : ReadUnder) → RefusedAt x why line r → supplement_from d [] (frames_of text) ≡ refused_at (number_of why) line → LinesUnder d x text r after
+-- a refusal
+pub refusing : (d : Domain) (u : Under) (text after : List ℕ) (why : Refusal) (line : ℕ) (u' : Under) → u'.index ≡ u.index → supplement_from d [] (frames_of text) ≡ refused_at (number_of why) line → LinesUnder d u text (Err (record { refusal = why; line = line })) u' after
 unfolding used_under
-refusing d x text after why line r is e = record {
-  used = ap reading_of is.answer ∙ sym (ap (λ r. afterwards r (λ s. read (length (bytes_in text)))) e);
-  front = subst (λ (a : ReadStore). Front (bytes_in text) (reading_of a) after) (sym is.answer) tt;
-  under = is.under (number_of why) ∙ sym (ap (under_reading x) e);
+refusing d u text after why line u' index e = record {
+  used = sym (ap (λ r. afterwards r (λ s. read (length (bytes_in text)))) e);
+  front = tt;
+  index = index;
+  under = λ used z. absurd cc;
 }
 
 -- ---- the reader around them
@@ -143,16 +148,16 @@ module _ (store text buffer : List ℕ) where
       unfolding read_supplement bytes_in
       read_in_room = rw (le-leb 16_000 (length buffer) h, g)
 
-      module _ (after : List ℕ) (same : length after ≡ length buffer) (r : ReadStore) (e : (reading_of r ≡ used_under d text) × Front (bytes_in text) (reading_of r) after) (exit : List ℕ) where
+      module _ (after : List ℕ) (same : length after ≡ length buffer) (r : Result ℕ ReadError) (e : (reading_of r ≡ used_under d text) × Front (bytes_in text) (reading_of r) after) (exit : List ℕ) where
         fills : Fills (supplement_from d [] (frames_of text)) (bytes_in text) (length after) (read_supplement store text buffer)
         fills = rw same read_in_room
 
-        pub read_ends : (used : ℕ) → r ≡ Read used → exit ≡ padded (length after) (take used after)
+        pub read_ends : (used : ℕ) → r ≡ Ok used → exit ≡ padded (length after) (take used after)
             → (read used ≡ (read_supplement store text buffer).answer) × (exit ≡ (read_supplement store text buffer).buffer)
         unfolding used_under
         read_ends = fill_ends (supplement_from d [] (frames_of text)) (bytes_in text) (read_supplement store text buffer) after fills r e exit
 
-        pub read_stops : (refusal : Refusal) (line : ℕ) → r ≡ Refused refusal line → exit ≡ padded (length after) (take 0 after)
+        pub read_stops : (why : ReadError) → r ≡ Err why → exit ≡ padded (length after) (take 0 after)
             → (reading_of r ≡ (read_supplement store text buffer).answer) × (exit ≡ (read_supplement store text buffer).buffer)
         unfolding used_under
         read_stops = fill_stops (supplement_from d [] (frames_of text)) (bytes_in text) (read_supplement store text buffer) after fills r e exit

@@ -18,7 +18,7 @@ use Rattle.domain.specs.Read.{bytes_in}
 use Rattle.domain.proofs.IntoStore.{fill_left}
 use Rattle.domain.proofs.RoundTrip.{First, TextFrames, text_frames, text_again, frames_again}
 use Rattle.domain.specs.Found.{found_in}
-use Rattle.supplement.specs.Under.{under_of, under_in}
+use Rattle.supplement.specs.Under.{index_found, under_of, under_in}
 use Rattle.supplement.specs.Read.{under_after, under_reading}
 use Rattle.supplement.proofs.ReaderLaws.{read_in_room}
 
@@ -65,13 +65,13 @@ module _ (store text buffer : List ℕ) (d : Domain) (g : domain_in store ≡ go
       ap (λ (f : Filled). f.answer) (read_in_room store text buffer h d g)
       ∙ ap (λ (q : Reading (List Replacement)). (fill (length buffer) (afterwards q (λ s. read (record { count = length (bytes_in text); bytes = bytes_in text })))).answer) e
 
-  pub under_after_lem : under_reading (found_in store).index (supplement_from d [] (frames_of text)) ≡ under_after (read_supplement store text buffer).answer store left_buffer
+  pub under_after_lem : under_reading (index_found (found_in store)) (supplement_from d [] (frames_of text)) ≡ under_after (read_supplement store text buffer).answer store left_buffer
   unfolding under_in
   under_after_lem = go (supplement_from d [] (frames_of text)) refl
     where
-      go : (r : Reading (List Replacement)) → supplement_from d [] (frames_of text) ≡ r → under_reading (found_in store).index r ≡ under_after (read_supplement store text buffer).answer store left_buffer
+      go : (r : Reading (List Replacement)) → supplement_from d [] (frames_of text) ≡ r → under_reading (index_found (found_in store)) r ≡ under_after (read_supplement store text buffer).answer store left_buffer
       go (read s) e =
           sym (ap (λ (a : Reading ℕ). under_after a store left_buffer) (answers e)
-          ∙ ap (λ (a : Answer Domain). under_of (found_in store).index (then a (λ d. supplement_in d left_buffer))) g
-          ∙ ap (under_of (found_in store).index) (left_supplement store text buffer d s g e h))
+          ∙ ap (λ (a : Answer Domain). under_of (index_found (found_in store)) (then a (λ d. supplement_in d left_buffer))) g
+          ∙ ap (under_of (index_found (found_in store))) (left_supplement store text buffer d s g e h))
       go (refused_at m line) e = sym (ap (λ (a : Reading ℕ). under_after a store left_buffer) (answers e))

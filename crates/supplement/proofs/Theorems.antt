@@ -1,19 +1,20 @@
 -- What document 02 asks to be shown of supplements, and that each answer is the only one that keeps its promise. Assumes nothing.
 use Prim.Native.Nat.{ℕ, ◌<◌}
-use native.Mathlib.Omega.{arith}
 use mathlib.Core.Path.{◌≡◌, sym, ap}
 use mathlib.Core.List.{List}
 use lib.ListN.{length}
 use denote.Ref.{Bor}
-use Rattle.bmap.specs.Refusal.{Answer, got, refused, number_of}
+use Rattle.std.specs.Prelude.{Result, Ok, Err}
+use Rattle.bmap.specs.declared.refusal.Refusal.{Refusal}
+use Rattle.bmap.specs.Refusal.{got, number_of}
 use Rattle.bmap.specs.Verdict.{judgement, judge_sheet}
 use Rattle.bmap.specs.Supplement.{judge_under, Where, in_domain, in_supplement, Part, law_in_force}
 use Rattle.bmap.specs.Theorems.{EmptyChangesNothing, SupplementStands, SupplementLinesReturn, InForceJudged}
 use Rattle.bmap.proofs.RefusalLaws.{same_refusal}
 use Rattle.supplement.specs.declared.force.LawPlace.{LawPlace}
-use Rattle.supplement.specs.declared.force.LawPlace.TheVariants.{InDomain, InSupplement, Refused}
+use Rattle.supplement.specs.declared.force.LawPlace.TheVariants.{InDomain, InSupplement}
 use Rattle.supplement.specs.Check.{place_in}
-use Rattle.supplement.specs.Force.{Stretch, placed, StandsIn}
+use Rattle.supplement.specs.Force.{Stretch, stretch, placed, StandsIn}
 use Rattle.index.proofs.Theorems as part
 use Rattle.supplement.proofs.EmptyLaws.{nothing_replaced, zeros_accepted, zeros_judged, zeros_asked}
 use Rattle.supplement.proofs.RoundTrip.{left_supplement, left_lines}
@@ -48,39 +49,26 @@ in_force_low = law_low
 
 -- ---- one result for each promise; the reader's answer has `same_reading` of `domain`
 
--- a place and a size, as numbers
-stretch_size : Answer Stretch → ℕ
-stretch_size (got x) = x.size
-stretch_size (refused n) = n
-
-stretch_place : Answer Stretch → ℕ
-stretch_place (got x) = place_in x.stands
-stretch_place (refused n) = n
-
-stretch_where : Answer Stretch → Where
-stretch_where (got x) = x.stands
-stretch_where (refused n) = in_domain n
-
 apart : {A : Type 0} (at bt : ℕ) → in_domain at ≡ in_supplement bt → A
-apart at bt e = absurd (let z : ◌≡◌ {A = ℕ} 0 1 = cc in omega arith)
+apart at bt e = absurd cc
 
-pub same_law_place : (a b : LawPlace) → placed a ≡ placed b → a ≡ b
-unfolding stretch_size stretch_place stretch_where
-same_law_place (InDomain a n) (InDomain b m) e =
-    let p : a ≡ b = ap stretch_place e in
-    let q : n ≡ m = ap stretch_size e in
+same_stretch : (a b : LawPlace) → stretch a ≡ stretch b → a ≡ b
+same_stretch (InDomain a n) (InDomain b m) e =
+    let p : a ≡ b = ap (λ (x : Stretch). place_in x.stands) e in
+    let q : n ≡ m = ap (λ (x : Stretch). x.size) e in
     cc
-same_law_place (InDomain a n) (InSupplement b m) e = apart a b (ap stretch_where e)
-same_law_place (InDomain a n) (Refused q) e = cc
-same_law_place (InSupplement a n) (InDomain b m) e = apart b a (sym (ap stretch_where e))
-same_law_place (InSupplement a n) (InSupplement b m) e =
-    let p : a ≡ b = ap stretch_place e in
-    let q : n ≡ m = ap stretch_size e in
+same_stretch (InDomain a n) (InSupplement b m) e = apart a b (ap (λ (x : Stretch). x.stands) e)
+same_stretch (InSupplement a n) (InDomain b m) e = apart b a (sym (ap (λ (x : Stretch). x.stands) e))
+same_stretch (InSupplement a n) (InSupplement b m) e =
+    let p : a ≡ b = ap (λ (x : Stretch). place_in x.stands) e in
+    let q : n ≡ m = ap (λ (x : Stretch). x.size) e in
     cc
-same_law_place (InSupplement a n) (Refused q) e = cc
-same_law_place (Refused r) (InDomain b m) e = cc
-same_law_place (Refused r) (InSupplement b m) e = cc
-same_law_place (Refused r) (Refused q) e = let n : number_of r ≡ number_of q = cc in ap Refused (same_refusal r q n)
+
+pub same_law_place : (a b : Result LawPlace Refusal) → placed a ≡ placed b → a ≡ b
+same_law_place (Ok a) (Ok b) e = let s : stretch a ≡ stretch b = cc in ap Ok (same_stretch a b s)
+same_law_place (Ok a) (Err q) e = cc
+same_law_place (Err r) (Ok b) e = cc
+same_law_place (Err r) (Err q) e = let n : number_of r ≡ number_of q = cc in ap Err (same_refusal r q n)
 
 -- contents, and, where there are bytes, the place
 module _ (store supplement r q : Bor (List ℕ)) (bytes : List ℕ) where

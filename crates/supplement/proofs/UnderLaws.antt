@@ -5,24 +5,33 @@ use mathlib.Core.Path.{◌≡◌, refl, sym, ap, subst, ◌∙◌}
 use mathlib.Core.Bool.{Bool, true, false}
 use mathlib.Core.List.{List, [], ◌∷◌, ◌++◌, map}
 use mathlib.Core.Option.{Option, none, some}
+use Rattle.std.specs.Prelude.{Option as Maybe, None, Some}
 use lib.ListN.{length, set, drop, replicate}
 use Rattle.bmap.specs.Plain.{maybe}
 use Rattle.bmap.specs.Refusal.{Answer, got, refused, known, then}
 use Rattle.bmap.specs.Line.{Frame, stored}
 use Rattle.bmap.specs.Domain.{Domain}
 use Rattle.bmap.specs.Store.{frame_at, zeros, frames_from, what_was_read, domain_in}
-use Rattle.bmap.specs.Supplement.{Replacement, replaces, number_in, replacement_in, supplement_from, supplement_in}
-use Rattle.index.specs.Index.{domain_of, Sound}
-use Rattle.domain.specs.Check.{refused_in}
-use Rattle.domain.specs.declared.found.Found.{Found}
+use Rattle.bmap.specs.Supplement.{Replacement, replaces, replacement_in, supplement_from, supplement_in}
+use Rattle.line.proofs.Answers.{then_got_inv, then_refused}
+use Rattle.index.specs.Index.{domain_of}
+use Rattle.index.specs.declared.Index.{Index}
 use Rattle.domain.specs.Found.{found_in}
-use Rattle.domain.proofs.Stands.{here, refusal_is}
-use Rattle.domain.proofs.Accepted.{found_got, found_not, found_ok, found_none}
-use Rattle.supplement.specs.Check.{over_of}
-use Rattle.supplement.specs.Under.{under_of, under_in, under_alone}
+use Rattle.domain.proofs.Stands.{here}
+use Rattle.domain.proofs.Held.{Framed}
+use Rattle.domain.proofs.Accepted.{found_ok, found_none}
+use Rattle.supplement.specs.Check.{over_of, frame_there, noted_at}
+use Rattle.supplement.specs.declared.under.Under.{Under}
+use Rattle.supplement.specs.Under.{index_found, under_of, under_in, under_alone}
 use Rattle.supplement.proofs.EmptyLaws.{zeros_accepted}
 use Rattle.supplement.proofs.OverLaws.{Over, over_first, over_most}
-use Rattle.supplement.proofs.Passes.{Passes, passes, over_passed}
+use Rattle.supplement.proofs.Passes.{passes, over_passed}
+
+-- what is found, part by part
+pub made : (u : Under) {ok : Bool} {x : Index} {over : List ℕ} → u.ok ≡ ok → u.index ≡ x → u.over ≡ over → u ≡ record { ok = ok; index = x; over = over }
+made u {ok} {x} {over} e f g =
+    ap (λ (b : Bool). record { ok = b; index = u.index; over = u.over }) e ∙ ap (λ (y : Index). record { ok = ok; index = y; over = u.over }) f
+    ∙ ap (λ (o : List ℕ). record { ok = ok; index = x; over = o }) g
 
 -- what the frames from a place on make, after some replacements
 abbrev run : ℕ → Domain → List Replacement → List ℕ → ℕ → Option (List Replacement)
@@ -109,70 +118,81 @@ module _ {d : Domain} {s over : List ℕ} {at : ℕ} (h : Passing d s over at) w
   -- ---- a frame
 
   module _ (f : Frame) (e : frame_at s at ≡ some f) where
-    pub passing_refused : (m : ℕ) → some m ≡ refused_in (replacement_in d h.earlier f) → supplement_in d s ≡ refused 15
-    passing_refused m q = run_on ∙ ap (known 15) (run_refused some_look.0 d h.earlier s at f e m (refusal_is (replacement_in d h.earlier f) m q))
+    pub passing_refused : (m : ℕ) → replacement_in d h.earlier f ≡ refused m → supplement_in d s ≡ refused 15
+    passing_refused m q = run_on ∙ ap (known 15) (run_refused some_look.0 d h.earlier s at f e m q)
 
-    module _ (q : none ≡ refused_in (replacement_in d h.earlier f)) (few : length d.laws ≤ 128) where
-      pass : Passes d h.earlier f
-      pass = passes d h.earlier f q
+    pub passing_next : (r : Replacement) → replacement_in d h.earlier f ≡ got r → length d.laws ≤ 128 → (next : ℕ) → next ≡ at + length (stored f) → Passing d s (set over (replaces r) (at + 1)) next
+    passing_next r q few next ex =
+        let there = here s at f e in
+        record {
+          earlier = h.earlier ++ (r ∷ []);
+          looks = some_look.0;
+          stand =
+              subst (λ (k : ℕ). Over (h.earlier ++ (r ∷ [])) (set over (replaces r) (at + 1)) k) (sym ex) (over_passed h.stand (passes d h.earlier f r q) few there.most);
+          inside = omega (arith, there.within);
+          enough = omega (arith, h.enough, some_look.1);
+          runs = run_on ∙ ap (known 15) (run_next some_look.0 d h.earlier s at f e r q) ∙ ap (λ (k : ℕ). known 15 (run some_look.0 d (h.earlier ++ (r ∷ [])) s k)) (sym ex);
+        }
 
-      its : replaces pass.replacement ≡ number_in f
-      its = ap number_in pass.frame
+  -- by what noting a frame answers
+  module _ {size : ℕ} (g : Framed s at size) (a : Answer Replacement) (is : a ≡ replacement_in d h.earlier (frame_there s at size)) where
+    pub passing_taken : length d.laws ≤ 128 → (o : List ℕ) → got o ≡ noted_at over at a → Passing d s o (at + size)
+    passing_taken few o e =
+        let (r, q, z) = then_got_inv a (λ r. got (set over (replaces r) (at + 1))) o (sym e) in
+        let same : set over (replaces r) (at + 1) ≡ o = cc in
+        subst (λ (l : List ℕ). Passing d s l (at + size)) same (passing_next (frame_there s at size) g.stands r (sym is ∙ q) few (at + size) (ap (λ (n : ℕ). at + n) g.is))
 
-      pub passing_number : number_in f < 128
-      passing_number = omega (arith, its, pass.fits.number, few)
-
-      pub passing_next : (number next : ℕ) → number ≡ number_in f → next ≡ at + length (stored f) → Passing d s (set over number (at + 1)) next
-      passing_next number next is ex =
-          let there = here s at f e in
-          record {
-            earlier = h.earlier ++ (pass.replacement ∷ []);
-            looks = some_look.0;
-            stand =
-                subst (λ (k : ℕ). Over (h.earlier ++ (pass.replacement ∷ [])) (set over number (at + 1)) k) (sym ex) (over_passed h.stand pass few there.most is);
-            inside = omega (arith, there.within);
-            enough = omega (arith, h.enough, some_look.1);
-            runs = run_on ∙ ap (known 15) (run_next some_look.0 d h.earlier s at f e pass.replacement pass.is) ∙ ap (λ (k : ℕ). known 15 (run some_look.0 d (h.earlier ++ (pass.replacement ∷ [])) s k)) (sym ex);
-          }
+    pub passing_not : (m : ℕ) → refused m ≡ noted_at over at a → supplement_in d s ≡ refused 15
+    passing_not m e = passing_refused (frame_there s at size) g.stands m (sym is ∙ then_refused a (λ r. set over (replaces r) (at + 1)) m (sym e))
 
 -- ---- around the pass
 
-module _ (store supplement : List ℕ) (f : Found) (e : f ≡ found_in store) where
-  its_ok : (b : Bool) → f.ok ≡ b → (found_in store).ok ≡ b
-  its_ok b k = ap (λ (x : Found). x.ok) (sym e) ∙ k
-
-  pub under_sound : f.ok ≡ true → Sound store f.index
-  under_sound k = subst (λ (x : Found). Sound store x.index) (sym e) (found_ok store (its_ok true k)).sound
-
-  pub under_not : f.ok ≡ false → under_of f.index (refused 15) ≡ under_in store supplement
+module _ (store supplement : List ℕ) where
+  pub under_by : (x : Index) → found_in store ≡ Some x → under_of x (supplement_in (domain_of store x) supplement) ≡ under_in store supplement
   unfolding under_in
-  under_not k =
-      ap (λ (x : Found). under_of x.index (refused 15)) e
-      ∙ ap (λ a. under_of (found_in store).index (then a (λ d. supplement_in d supplement))) (sym (found_none store (its_ok false k)))
+  under_by x e =
+      ap (λ (o : Maybe Index). under_of (index_found o) (supplement_in (domain_of store x) supplement)) (sym e)
+      ∙ ap (λ a. under_of (index_found (found_in store)) (then a (λ d. supplement_in d supplement))) (sym (found_ok store x e).domain)
 
-  pub under_by : f.ok ≡ true → under_of f.index (supplement_in (domain_of store f.index) supplement) ≡ under_in store supplement
+  pub under_not : found_in store ≡ None → under_alone None ≡ under_in store supplement
   unfolding under_in
-  under_by k =
-      ap (λ (x : Found). under_of x.index (supplement_in (domain_of store x.index) supplement)) e
-      ∙ ap (λ a. under_of (found_in store).index (then a (λ d. supplement_in d supplement))) (sym (found_ok store (its_ok true k)).domain)
+  under_not e =
+      ap (λ (o : Maybe Index). under_of (index_found o) (refused 15)) (sym e)
+      ∙ ap (λ a. under_of (index_found (found_in store)) (then a (λ d. supplement_in d supplement))) (sym (found_none store e))
 
 -- an empty supplement, which is accepted for every domain: nothing more is found
 pub alone_is : (store : List ℕ) → under_alone (found_in store) ≡ under_in store []
-unfolding under_in
-alone_is store = go (domain_in store) refl
+alone_is store = go (found_in store) refl
   where
-    go : (a : Answer Domain) → domain_in store ≡ a → under_alone (found_in store) ≡ under_of (found_in store).index (then a (λ d. supplement_in d []))
-    go (got d) e =
-        ap (λ (b : Bool). record { ok = b; index = (found_in store).index; over = replicate 128 0 }) (ap (λ (f : Found). f.ok) (found_got store d e))
-        ∙ ap (λ (o : List ℕ). record { ok = true; index = (found_in store).index; over = o }) over_first.places
-        ∙ sym (ap (under_of (found_in store).index) (zeros_accepted d 0))
-    go (refused n) e = ap (λ (b : Bool). record { ok = b; index = (found_in store).index; over = replicate 128 0 }) (ap (λ (f : Found). f.ok) (found_not store n e))
+    go : (o : Maybe Index) → found_in store ≡ o → under_alone o ≡ under_in store []
+    go (Some x) e =
+        ap (λ (o : List ℕ). record { ok = true; index = x; over = o }) over_first.places
+        ∙ sym (ap (under_of x) (zeros_accepted (domain_of store x) 0)) ∙ under_by store [] x e
+    go None e = under_not store [] e
 
 -- the counts are the domain's, whatever the supplement is
-pub under_counts : (store supplement : List ℕ) → (under_in store supplement).index.counts ≡ (found_in store).index.counts
+pub under_counts : (store supplement : List ℕ) → (under_in store supplement).index.counts ≡ (index_found (found_in store)).counts
 unfolding under_in
 under_counts store supplement = go (then (domain_in store) (λ d. supplement_in d supplement))
   where
-    go : (a : Answer (List Replacement)) → (under_of (found_in store).index a).index.counts ≡ (found_in store).index.counts
+    go : (a : Answer (List Replacement)) → (under_of (index_found (found_in store)) a).index.counts ≡ (index_found (found_in store)).counts
     go (got s) = refl
     go (refused n) = refl
+
+-- ---- a domain alone, by what was found
+
+pub alone_index : (o : Maybe Index) → (under_alone o).index ≡ index_found o
+alone_index None = refl
+alone_index (Some x) = refl
+
+pub alone_some : (o : Maybe Index) → (under_alone o).ok ≡ true → o ≡ Some (under_alone o).index
+alone_some None e = absurd cc
+alone_some (Some x) e = refl
+
+pub alone_none : (o : Maybe Index) → (under_alone o).ok ≡ false → o ≡ None
+alone_none None e = refl
+alone_none (Some x) e = absurd cc
+
+pub alone_over : (o : Maybe Index) → (under_alone o).over ≡ replicate 128 0
+alone_over None = refl
+alone_over (Some x) = refl

@@ -1,12 +1,13 @@
 -- The law in force: which bytes of which store.
-use Rattle.std.specs.Prelude.{ℕ, ◌+◌, ◌-◌, ◌≡◌, List, [], eqb, length, get_or}
+use Rattle.std.specs.Prelude.{ℕ, ◌+◌, ◌-◌, ◌≡◌, List, [], eqb, length, get_or, Result, Ok, Err}
 use Rattle.std.specs.Borrow.{Bor}
 use Rattle.bmap.specs.Plain.{if_else}
 use Rattle.bmap.specs.Refusal.{Answer, got, refused, then, number_of}
+use Rattle.bmap.specs.declared.refusal.Refusal.{Refusal}
 use Rattle.bmap.specs.Supplement.{Where, in_domain, in_supplement, Part, bytes_there}
 use Rattle.index.specs.Place.{StandsAt}
 use Rattle.supplement.specs.declared.force.LawPlace.{LawPlace}
-use Rattle.supplement.specs.declared.force.LawPlace.TheVariants.{InDomain, InSupplement, Refused}
+use Rattle.supplement.specs.declared.force.LawPlace.TheVariants.{InDomain, InSupplement}
 
 -- ---- a part of one of two stores
 
@@ -15,11 +16,14 @@ pub record Stretch : Type 0 where
   pub stands : Where
   pub size : ℕ
 
+abbrev pub stretch : LawPlace → Stretch
+stretch (InDomain at size) = record { stands = in_domain at; size = size }
+stretch (InSupplement at size) = record { stands = in_supplement at; size = size }
+
 -- what an answer says
-abbrev pub placed : LawPlace → Answer Stretch
-placed (InDomain at size) = got (record { stands = in_domain at; size = size })
-placed (InSupplement at size) = got (record { stands = in_supplement at; size = size })
-placed (Refused r) = refused (number_of r)
+abbrev pub placed : Result LawPlace Refusal → Answer Stretch
+placed (Ok place) = got (stretch place)
+placed (Err why) = refused (number_of why)
 
 -- that of a part
 abbrev pub stretch_of : Answer Part → Answer Stretch
@@ -32,11 +36,6 @@ StandsIn (in_supplement at) store supplement bytes r = StandsAt supplement at by
 
 abbrev pub bytes_in : Stretch → List ℕ → List ℕ → List ℕ
 bytes_in x store supplement = bytes_there x.stands x.size store supplement
-
--- the bytes of a stretch where they stand; "a refusal gives no bytes"
-abbrev pub HandedOut : Answer Stretch → Bor (List ℕ) → Bor (List ℕ) → Bor (List ℕ) → Type 0
-HandedOut (got x) store supplement r = StandsIn x.stands store supplement (bytes_in x store.now supplement.now) r
-HandedOut (refused n) store supplement r = r.now ≡ []
 
 -- "handed out as the bytes where they already stand": contents and place; "a refusal gives no bytes"
 abbrev pub InForce : Answer Part → Bor (List ℕ) → Bor (List ℕ) → Bor (List ℕ) → Type 0

@@ -1,19 +1,17 @@
 // The law in force: the bytes of its payload where they already stand, in the domain's store or in the supplement's.
 ghost use Rattle.std.specs.Prelude.{◌≡◌, ◌-◌, get_or};
-ghost use Rattle.bmap.specs.Refusal.{got};
 ghost use Rattle.bmap.specs.Supplement.{law_in_force};
-ghost use Rattle.supplement.specs.Force.{placed, stretch_of, law_stretch, payload_of, StandsIn, HandedOut, InForce};
+ghost use Rattle.supplement.specs.Force.{stretch, placed, stretch_of, law_stretch, payload_of, bytes_in, StandsIn, InForce};
 
 use crate::under::index_of;
 use bmap::{Counts, Refusal};
 use index::{byte_at, part};
 
 // Where a law's payload stands, and how many bytes it has.
-#[derive(Clone, Copy)]
+#[derive(Debug, Clone, Copy, PartialEq, Eq)]
 pub enum LawPlace {
     InDomain { at: usize, size: usize },
     InSupplement { at: usize, size: usize },
-    Refused(Refusal),
 }
 
 // "For any law number, the law in force is handed out as the bytes where they already stand, its payload alone, in domain or
@@ -21,28 +19,28 @@ pub enum LawPlace {
 pub fn in_force<'a>(store: &'a [u8], supplement: &'a [u8], n: usize) -> &'a [u8]
     ensures { InForce (law_in_force store.now supplement.now n) store.entry supplement.entry result }
 {
-    handed_out(store, supplement, place_in_force(store, supplement, n))
+    match place_in_force(store, supplement, n) {
+        Ok(place) => handed_out(store, supplement, place),
+        Err(_) => &[],
+    }
 }
 
 // The same by numbers. "15, before 20".
-pub fn place_in_force(store: &[u8], supplement: &[u8], n: usize) -> LawPlace
+pub fn place_in_force(store: &[u8], supplement: &[u8], n: usize) -> Result<LawPlace, Refusal>
     ensures { placed result ≡ stretch_of (law_in_force store.now supplement.now n) }
 {
     let under = index_of(store, supplement);
     if !under.ok {
-        return LawPlace::Refused(Refusal::NotDomain);
+        return Err(Refusal::NotDomain);
     }
-    let index = under.index;
-    let counts = index.counts;
-    if counts.laws <= n {
-        return LawPlace::Refused(Refusal::OtherLaw);
+    if under.index.counts.laws <= n {
+        return Err(Refusal::OtherLaw);
     }
-    let laws = index.laws;
-    let over = under.over;
-    standing(store, &laws, supplement, &over, n)
+    Ok(standing(store, &under.index.laws, supplement, &under.over, n))
 }
 
 // The payload of law i, where it stands, by what was found of the two stores: everything that reads a law asks here.
+// It takes any two arrays of places: the laws' frames, as an index has them, and what replaces them, as an `Under` has it.
 pub fn payload_at<'a>(
     store: &'a [u8],
     laws: &[u16; Counts::LAWS],
@@ -64,7 +62,7 @@ pub fn payload_at<'a>(
 fn place_in(places: &[u16], i: usize) -> u16
     ensures { result ≡ get_or places.now i 0 }
 {
-    if i < places.len() { places[i] } else { 0 }
+    places.get(i).copied().unwrap_or(0)
 }
 
 fn standing(
@@ -74,7 +72,7 @@ fn standing(
     over: &[u16; Counts::LAWS],
     i: usize,
 ) -> LawPlace
-    ensures { placed result ≡ got (law_stretch store.now laws.now supplement.now over.now i) }
+    ensures { stretch result ≡ law_stretch store.now laws.now supplement.now over.now i }
 {
     let count = place_in(over, i) as usize;
     if count == 0 {
@@ -84,24 +82,17 @@ fn standing(
         return LawPlace::InDomain { at, size };
     }
     let at = count + 3;
-    let size = payload_size(byte_at(supplement, count));
+    // The law's number and its kind stand before its payload.
+    let size = (byte_at(supplement, count) as usize).saturating_sub(2);
     LawPlace::InSupplement { at, size }
-}
-
-// What a supplement's frame leaves to the law's payload after number and kind.
-fn payload_size(count: u8) -> usize
-    ensures { result ≡ count - 2 }
-{
-    if count < 2 { 0 } else { count as usize - 2 }
 }
 
 // One function hands out a law.
 fn handed_out<'a>(store: &'a [u8], supplement: &'a [u8], place: LawPlace) -> &'a [u8]
-    ensures { HandedOut (placed place) store.entry supplement.entry result }
+    ensures { StandsIn (stretch place).stands store.entry supplement.entry (bytes_in (stretch place) store.now supplement.now) result }
 {
     match place {
         LawPlace::InDomain { at, size } => part(store, at, size),
         LawPlace::InSupplement { at, size } => part(supplement, at, size),
-        LawPlace::Refused(_) => part(store, 0, 0),
     }
 }

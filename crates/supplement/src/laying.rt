@@ -8,34 +8,33 @@ ghost use Rattle.supplement.specs.Laid.{frame_with, winner, frames_laid};
 use crate::under::{index_of, places_of};
 use bmap::{Counts, Refusal, SUPPLEMENT};
 use index::{byte_at, part};
-use line::{Written, zero_from};
+use line::zero_from;
 
 // "keeps each law number of either, the upper one winning; the result is ordered by law number, zeros after, its bytes used
 // returned"; "Refusals: 10 for a result buffer under 16,000 bytes, then 15 for the domain or for either supplement store; both
 // leave the result buffer untouched".
-pub fn lay(store: &[u8], lower: &[u8], upper: &[u8], res: &mut [u8]) -> Written
-    ensures { (answer_of result ≡ (lay_supplements store.now lower.now upper.now res.old).answer) × (res.new ≡ (lay_supplements store.now lower.now upper.now res.old).buffer) }
+pub fn lay(store: &[u8], lower: &[u8], upper: &[u8], res: &mut [u8]) -> Result<usize, Refusal>
+    ensures answer { answer_of result ≡ (lay_supplements store.now lower.now upper.now res.old).answer }
+    ensures buffer { res.new ≡ (lay_supplements store.now lower.now upper.now res.old).buffer }
 {
     if res.len() < SUPPLEMENT {
-        return Written::Refused(Refusal::NoRoom);
+        return Err(Refusal::NoRoom);
     }
     let below = index_of(store, lower);
     if !below.ok {
-        return Written::Refused(Refusal::NotDomain);
+        return Err(Refusal::NotDomain);
     }
-    let index = below.index;
-    let above = places_of(store, index, upper);
+    let above = places_of(store, below.index, upper);
     if !above.ok {
-        return Written::Refused(Refusal::NotDomain);
+        return Err(Refusal::NotDomain);
     }
-    let low = below.over;
-    let high = above.over;
-    let used = put_frames(lower, &low, upper, &high, res);
+    let used = put_frames(lower, &below.over, upper, &above.over, res);
     zero_from(res, used);
-    Written::Wrote(used)
+    Ok(used)
 }
 
 // Law number after law number, the frame that wins: so many bytes at the front of the result, which has room for them.
+// Each supplement comes with its places; no function but this one takes both pairs, so that they have no struct.
 fn put_frames(
     lower: &[u8],
     low: &[u16; Counts::LAWS],
@@ -47,10 +46,8 @@ fn put_frames(
     ensures { (result ≡ length (frames_laid lower.now low.now upper.now high.now)) × (res.new ≡ over (frames_laid lower.now low.now upper.now high.now) res.old) }
 {
     let mut used: usize = 0;
-    let mut n: usize = 0;
-    while n < Counts::LAWS {
+    for n in 0..Counts::LAWS {
         used += put_winner(lower, low[n], upper, high[n], &mut res[used..]);
-        n += 1;
     }
     used
 }

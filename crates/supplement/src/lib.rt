@@ -9,9 +9,11 @@ mod checks;
 mod force;
 mod laying;
 mod reader;
+mod shown;
 mod under;
 
 pub use force::{LawPlace, in_force, payload_at, place_in_force};
 pub use laying::lay;
 pub use reader::{ReadUnder, read, read_under};
+pub use shown::{layings, replacements};
 pub use under::{Under, alone, index_of};

@@ -32,7 +32,7 @@ each_passes g n (a ∷ l) (suc i) x e h =
 
 both_passed : (f : ℕ) (a b : Bool) → next (unless 5 f a) (λ _. unless 10 f b) ≡ pass → b ≡ true
 both_passed f a true e = refl
-both_passed f a false e = absurd (let y = (next_fine (unless 5 f a) (λ _. unless 10 f false) e).then in let z : ◌≡◌ {A = ℕ} 0 1 = cc in omega arith)
+both_passed f a false e = absurd (let y = (next_fine (unless 5 f a) (λ _. unless 10 f false) e).then in cc)
 
 module _ (d : Domain) (x : Fluent) (f : ℕ) (h : f < length d.fluents) where
   abbrev kept : State → State → Type 0

@@ -238,7 +238,7 @@ bounded_is z q e = by_test (in_bounds z) e
   where
     by_test : (t : Bool) → if_else t (value z) (no_value OutOfRange) ≡ value q → z ≡ q
     by_test true h = cc
-    by_test false h = absurd (let y : ◌≡◌ {A = ℕ} 0 1 = cc in omega arith)
+    by_test false h = absurd cc
 
 -- a value of a division: its divisor is not 0, and what it is
 record Divides (b z q : ℤ) : Type 0 where
@@ -246,7 +246,7 @@ record Divides (b z q : ℤ) : Type 0 where
   pub is : z ≡ q
 
 divides : (b z q : ℤ) → unless_zero b (bounded z) ≡ value q → Divides b z q
-divides (pos zero) z q e = absurd (let y : ◌≡◌ {A = ℕ} 0 1 = cc in omega arith)
+divides (pos zero) z q e = absurd cc
 divides (pos (suc n)) z q e = record { some = omega arith; is = bounded_is z q e }
 divides (negsuc n) z q e = record { some = omega arith; is = bounded_is z q e }
 

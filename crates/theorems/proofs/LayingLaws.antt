@@ -22,7 +22,7 @@ use Rattle.theorems.proofs.ByNumberLaws.{Has, Numbered, upper_or, upper_or_none,
 
 pub numbered_in : (s : List Replacement) → Numbered (replacement_of s)
 unfolding replacement_of
-numbered_in [] n r e = absurd (let z : ◌≡◌ {A = ℕ} 0 1 = cc in omega arith)
+numbered_in [] n r e = absurd cc
 numbered_in (q ∷ s) n r e = go (eqb (replaces q) n) refl (numbered_in s n) r e
   where
     go : (t : Bool) → eqb (replaces q) n ≡ t → Has n (replacement_of s n) → Has n (if_else t (some q) (replacement_of s n))

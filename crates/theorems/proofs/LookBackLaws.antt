@@ -21,8 +21,8 @@ record Sides (o : Junction) (v w : Valued Bool) (b : Bool) : Type 0 where
   joins : join o left right ≡ b
 
 sides : (o : Junction) (v w : Valued Bool) (b : Bool) → with2 (λ x y. value (join o x y)) v w ≡ value b → Sides o v w b
-sides o (no_value why) w b e = absurd (let z : ◌≡◌ {A = ℕ} 0 1 = cc in omega arith)
-sides o (value x) (no_value why) b e = absurd (let z : ◌≡◌ {A = ℕ} 0 1 = cc in omega arith)
+sides o (no_value why) w b e = absurd cc
+sides o (value x) (no_value why) b e = absurd cc
 sides o (value x) (value y) b e = record { left = x; right = y; is_left = refl; is_right = refl; joins = cc }
 
 -- what a junction gives where both sides give it, and only there; the other it gives where one side does
@@ -32,8 +32,8 @@ neutral Or = false
 
 both_neutral : (o : Junction) (x y : Bool) → join o x y ≡ neutral o → (x ≡ neutral o) × (y ≡ neutral o)
 both_neutral And true y e = (refl, e)
-both_neutral And false y e = absurd (let z : ◌≡◌ {A = ℕ} 0 1 = cc in omega arith)
-both_neutral Or true y e = absurd (let z : ◌≡◌ {A = ℕ} 0 1 = cc in omega arith)
+both_neutral And false y e = absurd cc
+both_neutral Or true y e = absurd cc
 both_neutral Or false y e = (refl, e)
 
 of_neutral : (o : Junction) → join o (neutral o) (neutral o) ≡ neutral o
@@ -124,7 +124,7 @@ module _ (at : ℕ → Valued Bool) where
     first_lacks : (j : ℕ) (v w : Valued Bool) → up_to o at j ≡ v → at (suc j) ≡ w → with2 (λ x y. value (join o x y)) v w ≡ no_value why → (up_to o at j ≡ no_value why → First j) → First (suc j)
     first_lacks j (no_value r) w u l h before = let p = before (u ∙ h) in (p.0, omega (arith, p.1), p.2, p.3)
     first_lacks j (value x) (no_value r) u l h before = (suc j, omega arith, l ∙ h, λ k lt. all_values o j x u k (omega arith))
-    first_lacks j (value x) (value y) u l h before = absurd (let z : ◌≡◌ {A = ℕ} 0 1 = cc in omega arith)
+    first_lacks j (value x) (value y) u l h before = absurd cc
 
     earliest : (j : ℕ) → up_to o at j ≡ no_value why → First j
     unfolding up_to

@@ -3,7 +3,6 @@ use Prim.Native.Nat.{ℕ, suc}
 use mathlib.Core.Path.{◌≡◌, refl, ap, ◌∙◌}
 use mathlib.Core.List.{List, [], ◌∷◌, ◌++◌}
 use native.Mathlib.Numerals.{add-one}
-use native.Mathlib.Omega.{arith}
 use lib.ListN.{length, get_or, length-append}
 use Rattle.bmap.specs.Domain.{Domain, Names, State, static, concurrency, goal}
 use Rattle.bmap.specs.Judge.{Checked, fine, fault, Pass, pass, next, each, placed, may_occur, all_hold, Setting, settled, state_after, fits, history, landed, step, Verdict, accepted, broken, judged_at, passed, carried, start_of, ran, goals_after, judge}
@@ -18,7 +17,7 @@ pub record Next {A B : Type 0} (c : Checked A) (k : A → Checked B) (b : B) : T
 
 pub next_fine : {A B : Type 0} (c : Checked A) (k : A → Checked B) {b : B} → next c k ≡ fine b → Next c k b
 next_fine (fine a) k e = record { found = a; first = refl; then = e }
-next_fine (fault kind n) k e = absurd (let z : ◌≡◌ {A = ℕ} 0 1 = cc in omega arith)
+next_fine (fault kind n) k e = absurd cc
 
 -- a step that is fine leads from the old state to what its settings make of it, which check 5 passed
 pub record Stepped (d : Domain) (old new : State) : Type 0 where

@@ -37,7 +37,7 @@ below_none p q s up h = beyond_none (replaces p) (q ∷ s) go
     go (suc j) k = omega (arith, up 0 (suc j) (omega arith) k)
 
 some_none : {A : Type 0} (a : A) → ◌≡◌ {A = Option A} (some a) none → {B : Type 0} → B
-some_none a e = absurd (let z : ◌≡◌ {A = ℕ} 0 1 = cc in omega arith)
+some_none a e = absurd cc
 
 some_same : {A : Type 0} (a b : A) → ◌≡◌ {A = Option A} (some a) (some b) → a ≡ b
 some_same a b e = cc

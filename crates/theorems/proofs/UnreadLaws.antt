@@ -53,11 +53,11 @@ word_line : (word digits : List ℕ) (ended : Bool) → NoFeed digits
     → starts_with (word ++ (line_feed ∷ [])) (digits ++ if_else ended (line_feed ∷ []) []) ≡ true → (length digits ≡ length word) × (ended ≡ true)
 unfolding starts_with
 word_line [] [] true n e = (refl, refl)
-word_line [] [] false n e = absurd (let z : ◌≡◌ {A = ℕ} 0 1 = cc in omega arith)
+word_line [] [] false n e = absurd cc
 word_line [] (d ∷ digits) ended n e = absurd (n.0 (eqb-true d line_feed (both_true (eqb d line_feed) true e).0))
-word_line (w ∷ word) [] false n e = absurd (let z : ◌≡◌ {A = ℕ} 0 1 = cc in omega arith)
-word_line (w ∷ []) [] true n e = absurd (let y = (both_true (eqb line_feed w) false e).1 in let z : ◌≡◌ {A = ℕ} 0 1 = cc in omega arith)
-word_line (w ∷ v ∷ word) [] true n e = absurd (let y = (both_true (eqb line_feed w) false e).1 in let z : ◌≡◌ {A = ℕ} 0 1 = cc in omega arith)
+word_line (w ∷ word) [] false n e = absurd cc
+word_line (w ∷ []) [] true n e = absurd (let y = (both_true (eqb line_feed w) false e).1 in cc)
+word_line (w ∷ v ∷ word) [] true n e = absurd (let y = (both_true (eqb line_feed w) false e).1 in cc)
 word_line (w ∷ word) (d ∷ digits) ended n e =
     let rest = word_line word digits ended n.1 (both_true (eqb d w) (starts_with (word ++ (line_feed ∷ [])) (digits ++ if_else ended (line_feed ∷ []) [])) e).1 in
     (ap suc rest.0, rest.1)

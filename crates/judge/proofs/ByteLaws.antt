@@ -46,7 +46,7 @@ Spelt n k p (must s c) = (k ≡ scope_kind s) × Constrained n (asks s) p c
 
 executable_spelt : (n : Counts) (k : ℕ) (p more : List ℕ) {l : Law} → k ≡ 0xA5 → executable_in n p ≡ some l → Spelt n k (p ++ more) l
 unfolding executable_in
-executable_spelt n k [] more {l} q e = let z : ◌≡◌ {A = ℕ} 0 1 = cc in absurd (omega arith)
+executable_spelt n k [] more {l} q e = absurd cc
 executable_spelt n k (i ∷ p) more {l} q e =
     let b = only_some (ltb i n.entries) (con_in (context n true) p (λ c. last (executable i c))) e in
     let t = taken_some (allowed_c (context n true)) p (parse_c most_depth p) (λ c. last (executable i c)) b.1 in
@@ -55,7 +55,7 @@ executable_spelt n k (i ∷ p) more {l} q e =
 
 effect_last : (n : Counts) (i : ℕ) (p more : List ℕ) (c : Con) (u : ℕ) → parse_c most_depth p ≡ some (record { tree = c; used = u }) → allowed_c (context n true) c ≡ true → i < n.entries → (r : List ℕ) → drop u p ≡ r
     → {l : Law} → below n.fluents r (λ f rest. expr_in (context n true) rest (λ x. last (effect i c f x))) ≡ some l → {k : ℕ} → k ≡ 0xA6 → Spelt n k (i ∷ (p ++ more)) l
-effect_last n i p more c u read fit h [] d {l} e q = let z : ◌≡◌ {A = ℕ} 0 1 = cc in absurd (omega arith)
+effect_last n i p more c u read fit h [] d {l} e q = absurd cc
 effect_last n i p more c u read fit h (f ∷ r) d {l} e {k} q =
     let b = only_some (ltb f n.fluents) (expr_in (context n true) r (λ x. last (effect i c f x))) e in
     let t = taken_some (allowed_e (context n true)) r (parse_e most_depth r) (λ x. last (effect i c f x)) b.1 in
@@ -73,7 +73,7 @@ effect_last n i p more c u read fit h (f ∷ r) d {l} e {k} q =
 
 effect_spelt : (n : Counts) (k : ℕ) (p more : List ℕ) {l : Law} → k ≡ 0xA6 → effect_in n p ≡ some l → Spelt n k (p ++ more) l
 unfolding effect_in
-effect_spelt n k [] more {l} q e = let z : ◌≡◌ {A = ℕ} 0 1 = cc in absurd (omega arith)
+effect_spelt n k [] more {l} q e = absurd cc
 effect_spelt n k (i ∷ p) more {l} q e =
     let go : Con → List ℕ → Option Law = λ c rest. below n.fluents rest (λ f rest. expr_in (context n true) rest (λ x. last (effect i c f x))) in
     let b = only_some (ltb i n.entries) (con_in (context n true) p go) e in
@@ -99,7 +99,7 @@ spelt n k p more {l} e =
     ⊎_elim (λ w. effect_spelt n k p more w.0 w.1) (λ e₂.
     ⊎_elim (λ w. must_spelt static n k p more w.0 w.1) (λ e₃.
     ⊎_elim (λ w. must_spelt concurrency n k p more w.0 w.1) (λ e₄.
-    ⊎_elim (λ w. must_spelt goal n k p more w.0 w.1) (λ e₅. let z : ◌≡◌ {A = ℕ} 0 1 = cc in absurd (omega arith))
+    ⊎_elim (λ w. must_spelt goal n k p more w.0 w.1) (λ e₅. absurd cc)
     (by_kind k 0xA9 (eqb k 0xA9) (must_in goal n p) none refl e₄))
     (by_kind k 0xA8 (eqb k 0xA8) (must_in concurrency n p) (if_else (eqb k 0xA9) (must_in goal n p) none) refl e₃))
     (by_kind k 0xA7 (eqb k 0xA7) (must_in static n p) (if_else (eqb k 0xA8) (must_in concurrency n p) (if_else (eqb k 0xA9) (must_in goal n p) none)) refl e₂))

@@ -23,10 +23,12 @@ use Rattle.supplement.specs.declared.under.Under.{Under}
 use Rattle.supplement.proofs.Accepted.{UnderIs}
 use Rattle.supplement.proofs.EmptyLaws.{zeros_judged}
 use Rattle.supplement.proofs.Theorems.{empty_changes_nothing}
-use Rattle.judge.specs.Answer.{states_in, states_written, states_written_under, judge_for, states_written_for, Bounded, turned_back}
+use Rattle.judge.specs.Answer.{states_in, states_written, states_written_under, judge_for, states_written_for, Bounded}
 use Rattle.bmap.specs.declared.refusal.Refusal.TheVariants.{NoRoom, NotDomain}
 use Rattle.judge.specs.Prepared.{InLimits, Anyhow}
-use Rattle.judge.specs.declared.judgement.Counted.{Counted}
+use Rattle.std.specs.Prelude.{Result, Err}
+use Rattle.bmap.specs.declared.refusal.Refusal.{Refusal}
+use Rattle.judge.specs.declared.verdict.Judged as answered
 use Rattle.judge.proofs.IndexLaws.{domain_here}
 
 -- a sheet of whole steps
@@ -74,11 +76,11 @@ module _ (store supplement sheet : List ℕ) (levels : List ℤ) where
 
 -- ---- whatever was found
 
-module _ (u : Under) (levels : List ℤ) (r : Counted) where
-  pub turned_short : r ≡ turned_back NoRoom → length levels < levels_size → Anyhow u levels r levels
+module _ (u : Under) (levels : List ℤ) (r : Result answered.Judged Refusal) where
+  pub turned_short : r ≡ Err NoRoom → length levels < levels_size → Anyhow u levels r levels
   turned_short e h = rw e (record { bounded = record { few = omega arith; past = refl }; short = λ g. refl; unfound = λ g n. absurd (omega (arith, g, h)) })
 
-  pub turned_unfound : r ≡ turned_back NotDomain → levels_size ≤ length levels → Anyhow u levels r levels
+  pub turned_unfound : r ≡ Err NotDomain → levels_size ≤ length levels → Anyhow u levels r levels
   turned_unfound e h = rw e (record { bounded = record { few = omega arith; past = refl }; short = λ g. absurd (omega (arith, g, h)); unfound = λ g n. refl })
 
   pub judged_anyhow : {left : List ℤ} → Bounded u.index.counts.fluents levels r left → levels_size ≤ length levels → u.ok ≡ true → InLimits u.index.counts → Anyhow u levels r left

@@ -1,25 +1,25 @@
 -- The checks of a step, turn by turn. Assumes nothing.
-use Prim.Native.Nat.{ℕ, suc, ◌+◌, ◌-◌, ◌≤◌, ◌<◌}
+use Prim.Native.Nat.{ℕ, suc, ◌+◌, ◌≤◌, ◌<◌}
 use mathlib.Core.Path.{◌≡◌, refl, sym, ap, ◌∙◌, subst}
 use mathlib.Core.List.{List, [], ◌∷◌}
 use mathlib.Core.Bool.{Bool, true, false}
 use native.Mathlib.Omega.{arith}
-use native.Mathlib.Decide.{dec_lt}
 use lib.Dec.{eqb}
 use lib.ListN.{length, get_or, drop}
 use lib.Seq.{get_or-drop}
 use borrow.Author.Tests.{eq-eqb, ne_eqb, eqb-true}
+use Rattle.std.specs.Prelude.{Option, Some, None}
 use Rattle.bmap.specs.Plain.{either, if_else, any}
-use Rattle.bmap.specs.Number.{Valued, value, no_value}
-use Rattle.bmap.specs.declared.Reason.{Reason}
+use Rattle.bmap.specs.Number.{Valued, value}
 use Rattle.bmap.specs.Tree.{Con}
 use Rattle.bmap.specs.Meaning.{History, eval_c}
 use Rattle.bmap.specs.Domain.{Domain, Names, Entry, Law, executable, effect, must, Scope, static, concurrency, goal, has, entry_at, occurs_in, readable}
 use Rattle.bmap.specs.Payload.{scope_kind}
 use Rattle.bmap.specs.Accept.{counts_of}
-use Rattle.bmap.specs.Judge.{pass, fault, unless, next, trouble_kind, reads, placed, carries, same_scope, each_from, holds, permits, permitted, may_occur}
+use Rattle.bmap.specs.Judge.{Checked, pass, fault, unless, next, reads, placed, carries, same_scope, each_from, holds, permits, permitted, may_occur}
 use Rattle.index.specs.Index.{law_number, no_law}
 use Rattle.judge.specs.Told.{Belonging, Says, Lawful, Within, Owned, Own, owner_of, frame_of, con_of, place_of, asks_of}
+use Rattle.judge.specs.declared.reading.Run.{Run}
 use Rattle.judge.proofs.LoopLaws.{starts, rests, each_on}
 use Rattle.judge.proofs.ByteLaws.{Spelt, spelt}
 
@@ -28,20 +28,20 @@ use Rattle.judge.proofs.ByteLaws.{Spelt, spelt}
 abbrev pub no_entry : Entry
 no_entry = record { name = 0; crew = 0 }
 
-module _ {Y : Type 0} (R : ℕ → List Law → Y) (d : Domain) (held : List ℕ) (n kind from to : ℕ)
-    (lawful : Lawful d held n) (within : Within held n kind from to)
+module _ {Y : Type 0} (R : ℕ → List Law → Y) (d : Domain) (held : List ℕ) (n kind : ℕ) (run : Run)
+    (lawful : Lawful d held n) (within : Within held n kind run)
     (idle : (k : ℕ) (l : Law) (rest : List Law) → Says d (frame_of held k) l → (get_or (frame_of held k) 0 0 ≡ kind → ⊥) → R k (l ∷ rest) ≡ R (suc k) rest) where
-  pub run_starts : R 0 d.laws ≡ R from (drop from d.laws)
+  pub run_starts : R 0 d.laws ≡ R run.from (drop run.from d.laws)
   run_starts =
-      starts R d.laws no_law from (omega (arith, lawful.count, within.starts))
-      (λ k p q. idle k (law_number d k) _ (lawful.law k (omega (arith, within.starts))) (within.before k q))
+      starts R d.laws no_law run.from (omega (arith, lawful.count, within.starts))
+      (λ k p q. idle k (law_number d k) _ (lawful.law k (omega (arith, within.starts))) (within.before k q (omega (arith, within.starts))))
 
-  pub run_ends : (l : ℕ) {y : Y} → to ≤ l → ((k : ℕ) → R k [] ≡ y) → R l (drop l d.laws) ≡ y
+  pub run_ends : (l : ℕ) {y : Y} → run.to ≤ l → ((k : ℕ) → R k [] ≡ y) → R l (drop l d.laws) ≡ y
   run_ends l h e =
       rests R d.laws no_law l e
       (λ k p q. let r : k < n = omega (arith, lawful.count) in idle k (law_number d k) _ (lawful.law k r) (within.after k (omega arith) r))
 
-module _ (d : Domain) (held : List ℕ) (n kind from to l : ℕ) (lawful : Lawful d held n) (within : Within held n kind from to) (h : l < to) where
+module _ (d : Domain) (held : List ℕ) (n kind : ℕ) (run : Run) (l : ℕ) (lawful : Lawful d held n) (within : Within held n kind run) (h : l < run.to) where
   pub run_law : l < length d.laws
   run_law = omega (arith, lawful.count, within.ends)
 
@@ -133,25 +133,25 @@ module _ (d : Domain) (held : List ℕ) (s : Scope) (kind : ℕ) (h : History) (
 -- ---- 2: the laws of an entry
 
 module _ (d : Domain) (h : History) (j i : ℕ) where
-  entry_owns : (b : Bool) (e : ℕ) (c : Con) → readable d (entry_at d e) c ≡ b → if_else b e 255 ≡ i → i < 64 → permits d h j i (executable e c) ≡ eval_c c h j
+  entry_owns : (b : Bool) (e : ℕ) (c : Con) → readable d (entry_at d e) c ≡ b → if_else b (Some e) None ≡ Some i → permits d h j i (executable e c) ≡ eval_c c h j
   unfolding permits
-  entry_owns true e c r q p = rw (eq-eqb e i q, ← q, r)
-  entry_owns false e c r q p = absurd (omega arith)
+  entry_owns true e c r q = let z : e ≡ i = cc in rw (eq-eqb e i z, ← z, r)
+  entry_owns false e c r q = absurd cc
 
-  pub permits_mine : (l : Law) {o : ℕ} → o ≡ owner_of d l → o ≡ i → i < 64 → permits d h j i l ≡ eval_c (con_of l) h j
-  permits_mine (executable e c) w q p = entry_owns (readable d (entry_at d e) c) e c refl (sym w ∙ q) p
-  permits_mine (effect e c f x) w q p = absurd (omega arith)
-  permits_mine (must s c) w q p = absurd (omega arith)
+  pub permits_mine : (l : Law) {o : Option ℕ} → o ≡ owner_of d l → o ≡ Some i → permits d h j i l ≡ eval_c (con_of l) h j
+  permits_mine (executable e c) w q = entry_owns (readable d (entry_at d e) c) e c refl (sym w ∙ q)
+  permits_mine (effect e c f x) w q = let z : ◌≡◌ {A = Option ℕ} None (Some i) = sym w ∙ q in absurd cc
+  permits_mine (must s c) w q = let z : ◌≡◌ {A = Option ℕ} None (Some i) = sym w ∙ q in absurd cc
 
-  entry_not : (b : Bool) (t : Bool) (e : ℕ) (c : Con) → eqb e i ≡ t → readable d (entry_at d i) c ≡ b → (if_else (readable d (entry_at d e) c) e 255 ≡ i → ⊥) → permits d h j i (executable e c) ≡ value false
+  entry_not : (b : Bool) (t : Bool) (e : ℕ) (c : Con) → eqb e i ≡ t → readable d (entry_at d i) c ≡ b → (if_else (readable d (entry_at d e) c) (Some e) None ≡ Some i → ⊥) → permits d h j i (executable e c) ≡ value false
   unfolding permits
   entry_not true true e c t r n =
       let q : e ≡ i = eqb-true e i t in
-      absurd (n (ap (λ (b : Bool). if_else b e 255) (ap (λ (k : ℕ). readable d (entry_at d k) c) q ∙ r) ∙ q))
+      absurd (n (ap (λ (b : Bool). if_else b (Some e) None) (ap (λ (k : ℕ). readable d (entry_at d k) c) q ∙ r) ∙ ap Some q))
   entry_not false true e c t r n = rw (t, r)
   entry_not b false e c t r n = rw t
 
-  pub permits_other : (l : Law) {o : ℕ} → o ≡ owner_of d l → (o ≡ i → ⊥) → permits d h j i l ≡ value false
+  pub permits_other : (l : Law) {o : Option ℕ} → o ≡ owner_of d l → (o ≡ Some i → ⊥) → permits d h j i l ≡ value false
   unfolding permits
   permits_other (executable e c) w n = entry_not (readable d (entry_at d i) c) (eqb e i) e c refl refl (λ q. n (w ∙ q))
   permits_other (effect e c f x) w n = refl
@@ -162,44 +162,38 @@ module _ (d : Domain) (h : History) (j i : ℕ) where
     unfolding permitted
     permitted_on e = rw e
 
-    pub permitted_true : permits d h j i l ≡ value true → permitted d h j i n (l ∷ rest) ≡ pass
+    -- by what it gives
+    pub permitted_by : {r : Checked Bool} → reads n (permits d h j i l) ≡ r → permitted d h j i n (l ∷ rest) ≡ next r (λ b. if_else b pass (permitted d h j i (suc n) rest))
     unfolding permitted
-    permitted_true e = rw e
-
-    pub permitted_blank : (why : Reason) → permits d h j i l ≡ no_value why → permitted d h j i n (l ∷ rest) ≡ fault (trouble_kind why) n
-    unfolding permitted
-    permitted_blank why e = rw e
+    permitted_by e = rw e
 
   pub permitted_none : (n : ℕ) → permitted d h j i n [] ≡ fault 2 i
   unfolding permitted
   permitted_none n = refl
 
 -- the laws that entry i does not own are left out
-module _ (d : Domain) (h : History) (j i : ℕ) (held owners : List ℕ) (n from to : ℕ) (lawful : Lawful d held n) (owned : Owned d owners) (own : Own owners n i from to) where
-  not_own : (k : ℕ) → k < n → (get_or owners k 0 ≡ i → ⊥) → permitted d h j i k (law_number d k ∷ drop (suc k) d.laws) ≡ permitted d h j i (suc k) (drop (suc k) d.laws)
+module _ (d : Domain) (h : History) (j i : ℕ) (held : List ℕ) (owners : List (Option ℕ)) (n : ℕ) (run : Run) (lawful : Lawful d held n) (owned : Owned d owners) (own : Own owners n i run) where
+  not_own : (k : ℕ) → k < n → (get_or owners k None ≡ Some i → ⊥) → permitted d h j i k (law_number d k ∷ drop (suc k) d.laws) ≡ permitted d h j i (suc k) (drop (suc k) d.laws)
   not_own k p q = permitted_on d h j i k (law_number d k) (drop (suc k) d.laws) (permits_other d h j i (law_number d k) (owned k (omega (arith, lawful.count))) q)
 
-  pub own_starts : permitted d h j i 0 d.laws ≡ permitted d h j i from (drop from d.laws)
+  pub own_starts : permitted d h j i 0 d.laws ≡ permitted d h j i run.from (drop run.from d.laws)
   own_starts =
-      starts (λ k r. permitted d h j i k r) d.laws no_law from (omega (arith, lawful.count, own.starts))
-      (λ k p q. not_own k (omega (arith, own.starts)) (own.before k q))
+      starts (λ k r. permitted d h j i k r) d.laws no_law run.from (omega (arith, lawful.count, own.starts))
+      (λ k p q. not_own k (omega (arith, own.starts)) (own.before k q (omega (arith, own.starts))))
 
-  pub own_ends : (l : ℕ) → to ≤ l → permitted d h j i l (drop l d.laws) ≡ fault 2 i
+  pub own_ends : (l : ℕ) → run.to ≤ l → permitted d h j i l (drop l d.laws) ≡ fault 2 i
   own_ends l p =
       rests (λ k r. permitted d h j i k r) d.laws no_law l (permitted_none d h j i)
       (λ k q r. let s : k < n = omega (arith, lawful.count) in not_own k s (own.after k (omega arith) s))
 
-  pub own_law : (l : ℕ) → l < to → l < length d.laws
+  pub own_law : (l : ℕ) → l < run.to → l < length d.laws
   own_law l p = omega (arith, lawful.count, own.ends)
 
-pub own_moved : {owners : List ℕ} {n i from from' to to' : ℕ} → from ≡ from' → to ≡ to' → Own owners n i from' to' → Own owners n i from to
-own_moved {owners} {n} {i} {from} {from'} {to} {to'} e q own = subst (λ (k : ℕ). Own owners n i k to) (sym e) (subst (λ (k : ℕ). Own owners n i from' k) (sym q) own)
-
 -- an owned law is one of an entry, with its constraint after the entry
-pub owned_place : (d : Domain) (l : Law) {o i : ℕ} → o ≡ owner_of d l → o ≡ i → i < 64 → (3 ≡ place_of l) × (true ≡ asks_of l)
-owned_place d (executable e c) w q p = (refl, refl)
-owned_place d (effect e c f x) w q p = absurd (omega arith)
-owned_place d (must s c) w q p = absurd (omega arith)
+pub owned_place : (d : Domain) (l : Law) {o : Option ℕ} {i : ℕ} → o ≡ owner_of d l → o ≡ Some i → (3 ≡ place_of l) × (true ≡ asks_of l)
+owned_place d (executable e c) w q = (refl, refl)
+owned_place d (effect e c f x) {o} {i} w q = let z : ◌≡◌ {A = Option ℕ} None (Some i) = sym w ∙ q in absurd cc
+owned_place d (must s c) {o} {i} w q = let z : ◌≡◌ {A = Option ℕ} None (Some i) = sym w ∙ q in absurd cc
 
 module _ (d : Domain) (h : History) (j : ℕ) (names : Names) (i : ℕ) (e : Entry) where
   pub occurs_may : true ≡ occurs_in d names e → may_occur d h j names i e ≡ permitted d h j i 0 d.laws
@@ -209,11 +203,3 @@ module _ (d : Domain) (h : History) (j : ℕ) (names : Names) (i : ℕ) (e : Ent
   pub occurs_not : false ≡ occurs_in d names e → may_occur d h j names i e ≡ pass
   unfolding may_occur
   occurs_not o = ap (λ (b : Bool). if_else b (permitted d h j i 0 d.laws) pass) (sym o)
-
--- ---- where the laws of a kind stand
-
-pub above_more : (P : ℕ → Type 0) (i : ℕ) → 0 < i → ((k : ℕ) → i ≤ k → P k) → P (i - 1) → (k : ℕ) → i - 1 ≤ k → P k
-above_more P i h more p k q = elim (dec_lt k i) [
-  | yes r ↦ let z : i - 1 ≡ k = omega arith in subst P z p
-  | no r ↦ more k (omega arith)
-]

@@ -6,7 +6,7 @@ use mathlib.Core.Option.{some}
 use native.Mathlib.Omega.{arith}
 use native.Mathlib.Decide.{dec_lt}
 use lib.ListN.{length, get_or, take, drop, set, length-set, length-take, take-append-drop}
-use lib.Seq.{take_all, paste, length-paste, take-paste, take-take, take-length, take_at, take-set-le, drop_at, drop-drop, get_or-take, get_or-drop, get_or-set_same, length-take-le}
+use lib.Seq.{take_all, paste, take-paste, take-take, take-length, take_at, take-set-le, drop_at, drop-drop, get_or-take, get_or-drop, get_or-set_same, length-take-le}
 use denote.Ref.{Bor}
 use Rattle.bmap.specs.Limits.{most_laws, most_payload, frame_size}
 use Rattle.bmap.specs.Domain.{Domain, Law}
@@ -15,6 +15,7 @@ use Rattle.bmap.specs.Accept.{counts_of}
 use Rattle.bmap.specs.Supplement.{Where, in_domain, in_supplement}
 use Rattle.index.specs.Place.{StandsAt}
 use Rattle.supplement.specs.Force.{StandsIn, law_stretch, payload_of}
+use Rattle.law.specs.Evaluate.{held_size}
 use Rattle.judge.specs.Told.{Says, HeldLaw, Held, kind_there, frame_of}
 use Rattle.judge.proofs.StateLaws.{part_take}
 
@@ -64,9 +65,6 @@ module _ (held payload : List ℕ) (at kind : ℕ) (room : at + 2 + length paylo
   front : take (at + 2) laid ≡ take (at + 2) (set held at kind)
   front = before_copy (set held at kind) payload (at + 2) fits
 
-  length_laid : length laid ≡ length held
-  length_laid = length-paste (set held at kind) (at + 2) payload (length payload) fits (omega arith) ∙ length-set held at kind
-
   before_laid : take at laid ≡ take at held
   before_laid = sym (take-take at (at + 2) laid (omega arith)) ∙ (ap (take at) front ∙ (take-take at (at + 2) (set held at kind) (omega arith) ∙ take-set-le at held at kind (omega arith)))
 
@@ -88,14 +86,13 @@ law_kept held held' at n kind payload e h w =
 
 -- ---- one law more
 
-module _ (store laws supplement over held : List ℕ) (i : ℕ) (before : Held store laws supplement over i held) (few : i < most_laws)
+module _ (store laws supplement over held : List ℕ) (i : ℕ) (before : Held store laws supplement over i held) (few : i < most_laws) (long : length held ≡ held_size)
     {payload : List ℕ} (its_payload : payload ≡ take most_payload (payload_of store laws supplement over i)) where
   pub room_for_law : frame_size * i + 2 + length payload ≤ length held
-  room_for_law = let z : length payload ≡ length (take most_payload (payload_of store laws supplement over i)) = ap length its_payload in omega (arith, z, length-take most_payload (payload_of store laws supplement over i), before.long)
+  room_for_law = let z : length payload ≡ length (take most_payload (payload_of store laws supplement over i)) = ap length its_payload in omega (arith, z, length-take most_payload (payload_of store laws supplement over i), long)
 
   pub hold_more : {kind : ℕ} {held' : List ℕ} → kind ≡ kind_there store laws i → held' ≡ paste (set held (frame_size * i) kind) (frame_size * i + 2) payload (length payload) → Held store laws supplement over (i + 1) held'
   hold_more {kind} {held'} its-kind e = record {
-    long = ap length e ∙ (length_laid held payload (frame_size * i) kind room_for_law ∙ before.long);
     law = λ k h short. elim (dec_lt k i) [
       | yes q ↦
           let p : frame_size * k + 2 + length (payload_of store laws supplement over k) ≤ frame_size * i = omega (arith, short) in

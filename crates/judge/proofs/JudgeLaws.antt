@@ -1,17 +1,23 @@
 -- The judgement of a whole sheet. Assumes nothing.
-use Prim.Native.Nat.{ℕ, zero, suc, ◌+◌, ◌≤◌}
+use Prim.Native.Nat.{ℕ, zero, suc, ◌≤◌}
 use mathlib.Core.Path.{◌≡◌, refl, sym, ap, ◌∙◌}
-use mathlib.Core.List.{List, [], ◌∷◌, ◌++◌, map}
+use mathlib.Core.List.{List, [], ◌∷◌, map}
 use native.Mathlib.Omega.{arith}
 use lib.IntN.{ℤ, pos}
-use lib.ListN.{length, get_or, take, drop, replicate}
-use lib.Seq.{paste, drop-paste, take-suc, take_at, length-take-le}
+use lib.ListN.{length, get_or, drop, replicate}
 use Rattle.bmap.specs.Plain.{numbers}
 use Rattle.bmap.specs.Limits.{most_fluents}
-use Rattle.bmap.specs.Domain.{Domain, Names, State, static, goal}
+use Rattle.bmap.specs.Domain.{Domain, Fluent, Names, State, static, goal}
 use Rattle.bmap.specs.Judge.{pass, fault, Verdict, accepted, broken, Judged, history, all_hold, carried, start_of, judge, ran, goals_after}
-use Rattle.judge.specs.States.{state_at, Blank, marks_from}
-use Rattle.judge.proofs.StateLaws.{map_snoc, same_after}
+use Rattle.index.specs.declared.Fluent.{Fluent as Row}
+use Rattle.index.specs.Index.{no_fluent, fluent_said}
+use Rattle.judge.specs.Landing.{Ranged}
+use Rattle.judge.specs.States.{starts_of, Blank, marks_from}
+use Rattle.judge.proofs.StateLaws.{same_after}
+
+map-map : {A B C : Type 0} (f : B → C) (g : A → B) (l : List A) → map f (map g l) ≡ map (λ x. f (g x)) l
+map-map f g [] = refl
+map-map {A} {B} {C} f g (x ∷ l) = ap (λ (t : List C). f (g x) ∷ t) (map-map f g l)
 
 module _ (d : Domain) (sheet : List Names) where
   pub judge_start : {kind n : ℕ} → all_hold static 6 d (history d sheet (start_of d ∷ [])) 0 ≡ fault kind n → record { states = []; verdict = broken kind 0 n } ≡ judge d sheet
@@ -36,25 +42,15 @@ module _ (d : Domain) (sheet : List Names) where
     pub judge_accepted : {k : ℕ} → v ≡ accepted → k ≡ length sheet → all_hold goal 8 d (history d sheet states) k ≡ pass → record { states = states; verdict = v } ≡ judge d sheet
     judge_accepted {k} p r g = ap (λ (u : Verdict). record { states = states; verdict = u }) p ∙ (sym (ap (goals_after d sheet states) p ∙ rw (← r, g)) ∙ judge_is)
 
--- state 0, where the start values were copied
-pub start_copied : (w : ℕ) (levels start h : List ℤ) {s : State} → w ≤ length start → h ≡ paste levels 0 (drop 0 start) w → s ≡ take w start → state_at w h 0 ≡ s
-start_copied w levels start h p e q =
-    ap (λ (l : List ℤ). take w l) e
-    ∙ (take_at (take w start) (drop (0 + w) levels) w (length-take-le w start p) ∙ sym q)
+-- the start values
+pub started : (d : Domain) (fluents : List Row) (w : ℕ) → Ranged d fluents w → start_of d ≡ starts_of fluents w
+started d fluents w ranges = ap (map (λ (f : Fluent). f.start)) ranges ∙ map-map (λ (f : Fluent). f.start) (λ f. fluent_said (get_or fluents f no_fluent)) (numbers 0 w)
 
--- nothing is written after it
-pub start_blank : (w : ℕ) (history start h : List ℤ) → w ≤ most_fluents → w ≤ length start → h ≡ paste history 0 (drop 0 start) w → Blank 0 history → Blank (marks_from 0) h
-start_blank w history start h p q e blank i r =
-    same_after (pos 0) (0 + w) i history h (ap (drop (0 + w)) e ∙ drop-paste history 0 (drop 0 start) w (omega arith) q) (omega arith) ∙ blank i (omega arith)
+-- nothing is written after state 0
+pub start_blank : (w : ℕ) (history h : List ℤ) → w ≤ most_fluents → drop w h ≡ drop w history → Blank 0 history → Blank (marks_from 0) h
+start_blank w history h p e blank i r = same_after (pos 0) w i history h e (omega arith) ∙ blank i (omega arith)
 
 pub blank_zeros : (n i : ℕ) → get_or (replicate n (pos 0)) i (pos 0) ≡ pos 0
 blank_zeros zero i = refl
 blank_zeros (suc n) zero = refl
 blank_zeros (suc n) (suc i) = blank_zeros n i
-
--- the first levels of a list, one by one
-pub firsts : {A : Type 0} (z : A) (l : List A) (w : ℕ) → w ≤ length l → map (λ f. get_or l f z) (numbers 0 w) ≡ take w l
-unfolding numbers
-firsts z l zero h = refl
-firsts {A} z l (suc w) h = map_snoc (λ f. get_or l f z) 0 w ∙ (ap (λ (r : List A). r ++ (get_or l (0 + w) z ∷ [])) (firsts z l w (omega arith))
-    ∙ (ap (λ (k : ℕ). take w l ++ (get_or l k z ∷ [])) (let y : 0 + w ≡ w = omega arith in y) ∙ sym (take-suc l w z (omega arith))))

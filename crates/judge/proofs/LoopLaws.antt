@@ -8,7 +8,10 @@ use native.Mathlib.Omega.{arith}
 use native.Mathlib.Decide.{dec_lt}
 use lib.ListN.{length, get_or, drop, drop_of_length-le}
 use lib.Seq.{drop-cons}
-use Rattle.bmap.specs.Judge.{Pass, pass, fault, each_from}
+use Rattle.std.specs.Prelude.{Ok, Err}
+use Rattle.bmap.specs.Number.{Valued}
+use Rattle.bmap.specs.declared.Reason.{Reason}
+use Rattle.bmap.specs.Judge.{Pass, pass, fine, fault, reads, trouble_kind, each_from}
 
 module _ {A Y : Type 0} (R : ℕ → List A → Y) (l : List A) (d : A) where
   module _ (i : ℕ) where
@@ -46,6 +49,23 @@ module _ {A Y : Type 0} (R : ℕ → List A → Y) (l : List A) (d : A) where
     | yes h ↦ idles i (length l) (omega arith) (omega arith) idle ∙ (ends (length l) (omega arith) ∙ e (length l))
     | no h ↦ ends i (omega arith) ∙ e i
   ]
+
+-- ---- what is read of a value
+
+pub read_fine : {A : Type 0} {r : Valued A} {x : A} (n : ℕ) → fine x ≡ reads n r → r ≡ Ok x
+read_fine {A} {r = Ok y} {x} n e = let z : y ≡ x = cc in ap Ok z
+read_fine {A} {r = Err why} {x} n e = absurd cc
+
+-- why there is none
+pub record Blank (kind m n : ℕ) {A : Type 0} (r : Valued A) : Type 0 where
+  pub why : Reason
+  pub is : r ≡ Err why
+  pub kinds : kind ≡ trouble_kind why
+  pub places : m ≡ n
+
+pub read_fault : {A : Type 0} {r : Valued A} {kind m n : ℕ} → fault kind m ≡ reads n r → Blank kind m n r
+read_fault {A} {r = Ok y} {kind} {m} {n} e = absurd cc
+read_fault {A} {r = Err why} {kind} {m} {n} e = record { why = why; is = refl; kinds = cc; places = cc }
 
 -- ---- checks of a list in turn
 

@@ -1,13 +1,12 @@
 -- Masks, bit by bit. Assumes nothing.
 use Prim.Native.Nat.{ℕ, zero, suc, ◌+◌, ◌-◌, ◌*◌, ◌/◌, ◌%◌, ◌^◌, ◌≤◌, ◌<◌, min, max}
 use mathlib.Core.Path.{◌≡◌, refl, sym, ap, ◌∙◌}
-use mathlib.Core.List.{List, map}
+use mathlib.Core.List.{map}
 use mathlib.Core.Bool.{Bool, true, false, not}
 use native.Mathlib.Numerals.{add-one}
 use native.Mathlib.Omega.{arith}
 use lib.Bits.{bit_and, bit_or, or_shr, or_step, and_step, and_zero_l}
 use lib.Dec.{eqb}
-use lib.ListN.{get_or}
 use lib.Pow.{pow-add, pow_mono, shr-shr, field, mod-mod-pow, shl_exact, pow_pos}
 use native.Mathlib.Nat.{mod-le, lt_of_lt_of_le, div-eq_of_lt}
 use native.Mathlib.Decide.{dec_lt}
@@ -66,21 +65,21 @@ module _ (p : ℕ → Bool) where
       ap (λ (k : ℕ). (mask_from p (suc i) n * 2 + flag_of (p i)) / 2 ^ k) (let w : suc e ≡ 1 + e = omega arith in w) ∙ (sym (shr-shr (mask_from p (suc i) n * 2 + flag_of (p i)) 1 e) ∙ ap (λ (k : ℕ). k / 2 ^ e) z) in
       ap (λ (k : ℕ). eqb (k % 2) 1) y ∙ (mask_bit (suc i) n e (omega arith) ∙ ap p (omega arith))
 
-module _ (p : ℕ → Bool) (masks : List ℕ) where
-  pub union_none : (n : ℕ) → 0 ≡ union_from p masks n (n - n)
+module _ (p : ℕ → Bool) (one : ℕ → ℕ) where
+  pub union_none : (n : ℕ) → 0 ≡ union_from p one n (n - n)
   unfolding union_from
   union_none n = let z : n - n ≡ 0 = omega arith in rw z
 
-  pub union_more : (n i : ℕ) {agents one : ℕ} {t : Bool} → 0 < i → i ≤ n → agents ≡ union_from p masks i (n - i) → one ≡ get_or masks (i - 1) 0 → t ≡ p (i - 1)
-      → if_else t (bit_or agents one) agents ≡ union_from p masks (i - 1) (n - (i - 1))
+  pub union_more : (n i : ℕ) {agents : ℕ} {t : Bool} → 0 < i → i ≤ n → agents ≡ union_from p one i (n - i) → t ≡ p (i - 1)
+      → if_else t (bit_or agents (one (i - 1))) agents ≡ union_from p one (i - 1) (n - (i - 1))
   unfolding union_from
-  union_more n i h q e o b =
+  union_more n i h q e b =
       let z : n - (i - 1) ≡ suc (n - i) = omega arith in
       let y : i ≡ suc (i - 1) = omega arith in
-      rw (z, e, b, o) (ap (λ (k : ℕ). if_else (p (i - 1)) (bit_or (union_from p masks k (n - i)) (get_or masks (i - 1) 0)) (union_from p masks k (n - i))) y)
+      rw (z, e, b) (ap (λ (k : ℕ). if_else (p (i - 1)) (bit_or (union_from p one k (n - i)) (one (i - 1))) (union_from p one k (n - i))) y)
 
-  pub union_whole : (n i : ℕ) {agents : ℕ} → i ≤ 0 → agents ≡ union_from p masks i (n - i) → agents ≡ union_from p masks 0 n
-  union_whole n i h e = let z : i ≡ 0 = omega arith in e ∙ (ap (λ (k : ℕ). union_from p masks k (n - k)) z ∙ ap (union_from p masks 0) (let y : n - 0 ≡ n = omega arith in y))
+  pub union_whole : (n i : ℕ) {agents : ℕ} → i ≤ 0 → agents ≡ union_from p one i (n - i) → agents ≡ union_from p one 0 n
+  union_whole n i h e = let z : i ≡ 0 = omega arith in e ∙ (ap (λ (k : ℕ). union_from p one k (n - k)) z ∙ ap (union_from p one 0) (let y : n - 0 ≡ n = omega arith in y))
 
 -- ---- the bits of a union, and of what two masks share
 
@@ -114,10 +113,10 @@ union_step : (t : Bool) (u m a : ℕ) (rest : Bool) → has u a ≡ rest → has
 union_step true u m a rest e = or_bit u m a ∙ (ap (λ (s : Bool). either s (has m a)) e ∙ either_comm rest (has m a))
 union_step false u m a rest e = e
 
-pub union_bit : (p : ℕ → Bool) (masks : List ℕ) (i n a : ℕ) → has (union_from p masks i n) a ≡ any (λ k. both (p k) (has (get_or masks k 0) a)) (numbers i n)
+pub union_bit : (p : ℕ → Bool) (one : ℕ → ℕ) (i n a : ℕ) → has (union_from p one i n) a ≡ any (λ k. both (p k) (has (one k) a)) (numbers i n)
 unfolding union_from any numbers
-union_bit p masks i zero a = no_bits a
-union_bit p masks i (suc n) a = union_step (p i) (union_from p masks (suc i) n) (get_or masks i 0) a (any (λ k. both (p k) (has (get_or masks k 0) a)) (numbers (suc i) n)) (union_bit p masks (suc i) n a)
+union_bit p one i zero a = no_bits a
+union_bit p one i (suc n) a = union_step (p i) (union_from p one (suc i) n) (one i) a (any (λ k. both (p k) (has (one k) a)) (numbers (suc i) n)) (union_bit p one (suc i) n a)
 
 pub any_same : (p q : ℕ → Bool) (i n : ℕ) → ((k : ℕ) → i ≤ k → k < i + n → p k ≡ q k) → any p (numbers i n) ≡ any q (numbers i n)
 unfolding any numbers

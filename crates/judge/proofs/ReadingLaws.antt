@@ -13,7 +13,6 @@ use borrow.Author.Tests.{le-leb}
 use lib.Dec.{leb}
 use Rattle.bmap.specs.Limits.{most_depth, most_steps}
 use Rattle.bmap.specs.Number.{Valued, value, no_value, with1}
-use Rattle.bmap.specs.declared.Reason.{Reason}
 use Rattle.bmap.specs.declared.Reason.TheVariants.{ZeroDivisor}
 use Rattle.bmap.specs.Tree.{Expr, Con, allowed_e, allowed_c}
 use Rattle.bmap.specs.Code.{parse_e, parse_c}
@@ -22,20 +21,9 @@ use Rattle.bmap.specs.Domain.{Domain, Names, Law, executable, effect, must, has}
 use Rattle.bmap.specs.Payload.{context}
 use Rattle.bmap.specs.Accept.{counts_of}
 use Rattle.bmap.specs.Judge.{fine, sets_if, sets, settled}
-use Rattle.law.specs.Evaluate.{history_of, Meant, malformed, gives, at_position, value_at, truth_at, evaluated, judged}
-use Rattle.law.specs.declared.eval.Evaluated.{Evaluated}
-use Rattle.law.specs.declared.eval.Evaluated.TheVariants as value_as
-use Rattle.law.specs.declared.eval.Judged.{Judged}
-use Rattle.law.specs.declared.eval.Judged.TheVariants as truth_as
-use Rattle.number.specs.declared.Value.{Value}
-use Rattle.number.specs.declared.Value.TheVariants as number_as
-use Rattle.number.specs.declared.Truth.{Truth}
-use Rattle.number.specs.Answer.{valued_of, truth_of}
-use mir.Syntax.{w32}
-use mir.Val.{to_z, of_z}
-use lib.Signed.{mag}
+use Rattle.law.specs.Evaluate.{history_of, Meant, malformed, gives, at_position, value_at, truth_at, evaluated}
+use Rattle.std.specs.Prelude.{Option as Maybe, Some, None}
 use Rattle.law.proofs.Agree.{Agree, agree_e, agree_c}
-use Rattle.number.proofs.BackLaws.{back32}
 use Rattle.law.proofs.Bits.{no_bit}
 use Rattle.index.specs.Index.{law_number, no_law}
 use Rattle.judge.specs.Told.{Says, Lawful, Seen, Occurring, frame_of, con_of, place_of, asks_of}
@@ -70,23 +58,11 @@ truth_told d held p l h history j {at} w e seen =
     rw (le-leb j most_steps seen.within, read) (ap (λ (v : Valued Bool). gives v (at + s.used)) (con_seen d (asks_of l) h history j seen (con_of l) s.fit))
 
 -- the same, of an answer that gives something, and of one that does not
-pub judged_given : {r : Judged} {t : Truth} {k : ℕ} {m : Meant (Valued Bool)} {v : Valued Bool} {n : ℕ} → judged r ≡ m → r ≡ truth_as.Gives t k → m ≡ gives v n → (truth_of t ≡ v) × (k ≡ n)
-judged_given {r} {t} {k} {m} {v} {n} e q w = let z : gives (truth_of t) k ≡ gives v n = sym (ap judged q) ∙ (e ∙ w) in ((cc), (cc))
+pub told_some : {A : Type 0} {r : Maybe (A × ℕ)} {t v : A} {k n : ℕ} {m : Meant A} → evaluated r ≡ m → r ≡ Some (t, k) → m ≡ gives v n → (t ≡ v) × (k ≡ n)
+told_some {A} {r} {t} {v} {k} {n} e q w = let z : gives t k ≡ gives v n = sym (ap evaluated q) ∙ (e ∙ w) in ((cc), (cc))
 
-pub judged_malformed : {r : Judged} {m : Meant (Valued Bool)} {v : Valued Bool} {n : ℕ} → judged r ≡ m → r ≡ truth_as.Malformed → m ≡ gives v n → ⊥
-judged_malformed {r} {m} {v} {n} e q w = let z : malformed ≡ gives v n = sym (ap judged q) ∙ (e ∙ w) in let y : ◌≡◌ {A = ℕ} 0 1 = cc in omega arith
-
-pub setting_given : (f : ℕ) {r : Evaluated} {v : Value} {k : ℕ} {m : Meant (Valued ℤ)} → evaluated r ≡ m → r ≡ value_as.Gives v k → with1 (λ z. value (some (setting f z))) (valued_of v) ≡ setting_from f m
-setting_given f {r} {v} {k} e q = ap (setting_from f) (sym (ap evaluated q) ∙ e)
-
-pub setting_malformed : (f : ℕ) {r : Evaluated} {m : Meant (Valued ℤ)} → evaluated r ≡ m → r ≡ value_as.Malformed → no_value ZeroDivisor ≡ setting_from f m
-setting_malformed f {r} e q = ap (setting_from f) (sym (ap evaluated q) ∙ e)
-
-pub setting_number : (f : ℕ) {v : Value} {z : ℤ} → v ≡ number_as.Number z → mag z < 2147483648 → value (some (setting f (to_z w32 (of_z w32 z)))) ≡ with1 (λ y. value (some (setting f y))) (valued_of v)
-setting_number f {v} {z} e h = ap (λ (y : ℤ). value (some (setting f y))) (back32 z h) ∙ sym (ap (λ (u : Value). with1 (λ y. value (some (setting f y))) (valued_of u)) e)
-
-pub setting_blank : (f : ℕ) {v : Value} {why : Reason} → v ≡ number_as.NoValue why → no_value why ≡ with1 (λ y. value (some (setting f y))) (valued_of v)
-setting_blank f {v} e = sym (ap (λ (u : Value). with1 (λ y. value (some (setting f y))) (valued_of u)) e)
+pub told_none : {A : Type 0} {r : Maybe (A × ℕ)} {v : A} {n : ℕ} {m : Meant A} → evaluated r ≡ m → r ≡ None → m ≡ gives v n → ⊥
+told_none {A} {r} {v} {n} e q w = let z : ◌≡◌ {A = Meant A} malformed (gives v n) = sym (ap evaluated q) ∙ (e ∙ w) in cc
 
 -- ---- an effect law
 

@@ -1,7 +1,7 @@
 -- The run over the steps of a sheet. Assumes nothing.
 use Prim.Native.Nat.{ℕ, zero, suc, ◌+◌, ◌-◌, ◌*◌, ◌≤◌, ◌<◌}
 use mathlib.Core.Path.{◌≡◌, refl, sym, ap, subst, ◌∙◌}
-use mathlib.Core.List.{List, [], ◌∷◌, ◌++◌}
+use mathlib.Core.List.{List, [], ◌∷◌, ◌++◌, map}
 use mathlib.Core.Bool.{Bool, true, false}
 use native.Mathlib.Numerals.{add-one}
 use native.Mathlib.Omega.{arith}
@@ -10,52 +10,64 @@ use native.Mathlib.Nat.{suc-mul}
 use lib.Dec.{eqb}
 use lib.IntN.{ℤ, pos}
 use lib.ListN.{length, get_or, take, drop, length-drop}
-use lib.Seq.{get_or-drop, drop-drop, take_all}
+use lib.Seq.{get_or-drop, length-take-le, drop-drop, take_all}
 use borrow.Author.Tests.{eq-eqb, eqb-true}
 use Rattle.bmap.specs.Plain.{both, implies, all, any, numbers}
 use Rattle.bmap.proofs.PlainLaws.{both_false}
 use Rattle.bmap.specs.Domain.{Domain, Names, State, Entry, has, follows, occurs_in, entry_at}
 use Rattle.bmap.specs.Limits.{most_fluents, most_entries}
 use Rattle.bmap.specs.Sheet.{rows}
-use Rattle.bmap.specs.Judge.{Judged, broken, accepted, carries, step, carried}
-use Rattle.law.specs.Evaluate.{row_size, history_size, marked, in_step}
+use Rattle.bmap.specs.Judge as paper
+use Rattle.bmap.specs.Judge.{broken, accepted, carries, step, carried}
+use Rattle.law.specs.Evaluate.{row_size, marked, in_step}
 use Rattle.judge.specs.Answer.{kind_of}
-use Rattle.judge.specs.Masks.{joins, joins_at, mask_from, union_from}
+use Rattle.judge.specs.Masks.{joins, joins_at, crew_at, mask_from, union_from}
 use Rattle.judge.specs.States.{state_at, states_of, leaving, marks_from, Blank}
 use Rattle.judge.specs.Landing.{Laid}
 use Rattle.judge.specs.Told.{Occurring, Belonging, Acts, Acted}
 use Rattle.judge.specs.Prepared.{Entered, RanThrough, judged_of}
 use Rattle.judge.specs.declared.acting.Acting.{Acting}
-use Rattle.judge.specs.declared.steps.Ran.{Ran}
+use Rattle.std.specs.Prelude.{Result, Ok, Err}
+use Rattle.judge.specs.declared.verdict.Judged.{Judged}
 use Rattle.judge.specs.declared.verdict.Verdict.TheVariants.{Broken}
-use Rattle.judge.specs.declared.verdict.Check.{Check}
-use Rattle.judge.specs.declared.verdict.Check.TheVariants.{Passed, Failed}
-use Rattle.judge.specs.declared.verdict.Fault.{Fault}
+use Rattle.judge.specs.declared.verdict.Breach.{Breach}
 use Rattle.bmap.proofs.NumbersLaws.{map_at, map_length, all_at}
-use Rattle.judge.proofs.StateLaws.{same_before}
+use Rattle.index.specs.declared.Entry.{Entry as Row}
+use Rattle.index.specs.Index.{no_entry as no_row, entry_said}
+use Rattle.judge.proofs.CheckLaws.{no_entry}
+use Rattle.judge.proofs.StateLaws.{same_before, first_same}
 use Rattle.judge.proofs.MaskLaws.{mask_bit, union_bit, any_map, any_same}
 
 -- ---- who acts
 
-module _ (d : Domain) (names : Names) (actions crews : List ℕ) (count : ℕ) (entered : Entered d actions crews count) (all_named : length names ≡ d.agents) where
+-- the first entries alone
+pub entered_first : (d : Domain) (entries : List Row) (count : ℕ) → count ≤ length entries → Entered d entries count → Entered d (take count entries) (length (take count entries))
+entered_first d entries count h entered =
+    entered ∙ (first_same entry_said no_row entries count
+    ∙ ap (λ (k : ℕ). map (λ e. entry_said (get_or (take count entries) e no_row)) (numbers 0 k)) (sym (length-take-le count entries h)))
+
+pub entries_many : (d : Domain) (entries : List Row) (count : ℕ) → Entered d entries count → length d.entries ≡ count
+entries_many d entries count entered = ap length entered ∙ map_length (λ i. entry_said (get_or entries i no_row)) 0 count
+
+module _ (d : Domain) (names : Names) (entries : List Row) (count : ℕ) (entered : Entered d entries count) (all_named : length names ≡ d.agents) where
   abbrev entry : ℕ → Entry
-  entry i = record { name = get_or actions i 0; crew = get_or crews i 0 }
+  entry i = entry_said (get_or entries i no_row)
 
   entry_is : (e : ℕ) → e < count → entry_at d e ≡ entry e
-  entry_is e h = ap (λ (l : List Entry). get_or l e (record { name = 0; crew = 0 })) entered ∙ map_at entry count e (record { name = 0; crew = 0 }) h
+  entry_is e h = ap (λ (l : List Entry). get_or l e no_entry) entered ∙ map_at entry count e no_entry h
 
-  joins_is : (e : ℕ) → joins_at names actions crews e ≡ occurs_in d names (entry e)
+  joins_is : (e : ℕ) → joins_at names entries e ≡ occurs_in d names (entry e)
   unfolding joins occurs_in
   joins_is e = ap (λ (n : ℕ). all (follows names (entry e)) (numbers 0 n)) all_named
 
   pub entries_count : length d.entries ≡ count
-  entries_count = ap length entered ∙ map_length entry 0 count
+  entries_count = entries_many d entries count entered
 
-  pub occurring_is : {mask : ℕ} → mask ≡ mask_from (joins_at names actions crews) 0 count → Occurring d names mask
+  pub occurring_is : {mask : ℕ} → mask ≡ mask_from (joins_at names entries) 0 count → Occurring d names mask
   occurring_is {mask} m e h =
       let p : e < count = omega (arith, entries_count) in
-      sym (ap (λ (k : ℕ). has k e) m ∙ (mask_bit (joins_at names actions crews) 0 count e p
-      ∙ (ap (joins_at names actions crews) (let z : 0 + e ≡ e = omega arith in z) ∙ (joins_is e ∙ ap (occurs_in d names) (sym (entry_is e p))))))
+      sym (ap (λ (k : ℕ). has k e) m ∙ (mask_bit (joins_at names entries) 0 count e p
+      ∙ (ap (joins_at names entries) (let z : 0 + e ≡ e = omega arith in z) ∙ (joins_is e ∙ ap (occurs_in d names) (sym (entry_is e p))))))
 
   -- an agent in the crew of an entry that occurs names its action
   named : (a : ℕ) (e : Entry) → a < length names → (t : Bool) → occurs_in d names e ≡ t → (u : Bool) → has e.crew a ≡ u → both (eqb e.name (get_or names a 0)) (both u t) ≡ both t u
@@ -67,14 +79,14 @@ module _ (d : Domain) (names : Names) (actions crews : List ℕ) (count : ℕ) (
   named a e h true o false u = both_false (eqb e.name (get_or names a 0))
   named a e h false o u q = rw (both_false u, both_false (eqb e.name (get_or names a 0)))
 
-  pub belonging_is : {mask : ℕ} → mask ≡ union_from (joins_at names actions crews) crews 0 count → Belonging d names mask
+  pub belonging_is : {mask : ℕ} → mask ≡ union_from (joins_at names entries) (crew_at entries) 0 count → Belonging d names mask
   unfolding carries
   belonging_is {mask} m a h =
       ap (any (carries d names a (get_or names a 0))) entered
       ∙ (any_map (carries d names a (get_or names a 0)) entry 0 count
-      ∙ (any_same (λ k. carries d names a (get_or names a 0) (entry k)) (λ k. both (joins_at names actions crews k) (has (get_or crews k 0) a)) 0 count
-      (λ k p q. named a (entry k) h (occurs_in d names (entry k)) refl (has (get_or crews k 0) a) refl ∙ ap (λ (t : Bool). both t (has (get_or crews k 0) a)) (sym (joins_is k)))
-      ∙ (sym (union_bit (joins_at names actions crews) crews 0 count a) ∙ ap (λ (k : ℕ). has k a) (sym m))))
+      ∙ (any_same (λ k. carries d names a (get_or names a 0) (entry k)) (λ k. both (joins_at names entries k) (has (crew_at entries k) a)) 0 count
+      (λ k p q. named a (entry k) h (occurs_in d names (entry k)) refl (has (crew_at entries k) a) refl ∙ ap (λ (t : Bool). both t (has (crew_at entries k) a)) (sym (joins_is k)))
+      ∙ (sym (union_bit (joins_at names entries) (crew_at entries) 0 count a) ∙ ap (λ (k : ℕ). has k a) (sym m))))
 
 -- ---- the marks of the steps
 
@@ -123,12 +135,12 @@ module _ (a : ℕ) where
     unfolding carried rows
     carried_end h = let z : n - j ≡ 0 = omega arith in rw z
 
-    module _ (h : j < n) (r : Check) (s : State) (told : leaving r s ≡ step d sheet states j (take a rest)) where
-      pub carried_stop : {f : Fault} {m : ℕ} {after : List State} → r ≡ Failed f m → after ≡ states → carried d sheet j states (rows a (n - j) rest) ≡ record { states = after; verdict = broken (kind_of f) (j + 1) m }
+    module _ (h : j < n) (r : Result (Unit {0}) Breach) (s : State) (told : leaving r s ≡ step d sheet states j (take a rest)) where
+      pub carried_stop : {b : Breach} {after : List State} → r ≡ Err b → after ≡ states → carried d sheet j states (rows a (n - j) rest) ≡ record { states = after; verdict = broken (kind_of b.fault) (j + 1) b.number }
       unfolding carried
       carried_stop e q = rw (row_first n j rest h, ← told, e, add-one, q)
 
-      pub carried_on : {after : List State} → r ≡ Passed → after ≡ states ++ (s ∷ []) → carried d sheet j states (rows a (n - j) rest) ≡ carried d sheet (j + 1) after (rows a (n - (j + 1)) (drop a rest))
+      pub carried_on : {after : List State} → r ≡ Ok tt → after ≡ states ++ (s ∷ []) → carried d sheet j states (rows a (n - j) rest) ≡ carried d sheet (j + 1) after (rows a (n - (j + 1)) (drop a rest))
       unfolding carried
       carried_on e q = rw (row_first n j rest h, ← told, e, add-one j, q)
 
@@ -146,12 +158,9 @@ rest_is a l = take_all (length l - a) (drop a l) (omega (arith, length-drop a l)
 -- ---- the loop over the steps
 
 -- before the step from state j: the rest of the sheet, and what was not written of the history
-pub record Round (n agents : ℕ) (history levels : List ℤ) (rest : List ℕ) (j : ℕ) : Type 0 where
-  pub within : j ≤ n
+pub record Round (n agents : ℕ) (history : List ℤ) (rest : List ℕ) (j : ℕ) : Type 0 where
   pub whole : length rest ≡ (n - j) * agents
-  pub room : length history ≡ history_size
   pub blank : Blank (marks_from j) history
-  pub wide : length levels ≡ most_fluents
 
 -- and what was done is a domain's: the marks, the steps that are left, the run, the levels of state j, who acted in the step before
 pub record Going (d : Domain) (agents n w : ℕ) (sheet : List Names) (begun : List State) (j : ℕ) (history levels : List ℤ) (acting : Acting) (before rest : List ℕ) : Type 0 where
@@ -162,9 +171,9 @@ pub record Going (d : Domain) (agents n w : ℕ) (sheet : List Names) (begun : L
   pub last : 0 < length before → Acts d before acting
 
 -- a fault at the step from state j
-module _ (j : ℕ) (f : Fault) (m : ℕ) (r : Ran) (e : r ≡ record { verdict = Broken f (j + 1) m; reached = j + 1 }) where
-  pub broken_through : {n : ℕ} {history : List ℤ} → j < n → length history ≡ history_size → RanThrough r n history
-  broken_through {n} {history} h room = subst (λ (t : Ran). RanThrough t n history) (sym e) (record { most = omega arith; all = λ q. absurd (let z : ◌≡◌ {A = ℕ} 0 1 = cc in omega arith); room = room })
+module _ (j : ℕ) (b : Breach) (r : Judged) (e : r ≡ record { verdict = Broken b.fault (j + 1) b.number; states = j + 1 }) where
+  pub broken_through : {n : ℕ} → j < n → RanThrough r n
+  broken_through {n} h = subst (λ (t : Judged). RanThrough t n) (sym e) (record { most = omega arith; all = λ q. absurd cc })
 
-  pub broken_judged : (w : ℕ) (history : List ℤ) {run : Judged} → run ≡ record { states = states_of w (j + 1) history; verdict = broken (kind_of f) (j + 1) m } → judged_of w r history ≡ run
-  broken_judged w history q = ap (λ (t : Ran). judged_of w t history) e ∙ sym q
+  pub broken_judged : (w : ℕ) (history : List ℤ) {run : paper.Judged} → run ≡ record { states = states_of w (j + 1) history; verdict = broken (kind_of b.fault) (j + 1) b.number } → judged_of w r history ≡ run
+  broken_judged w history q = ap (λ (t : Judged). judged_of w t history) e ∙ sym q

@@ -3,16 +3,19 @@ use Prim.Native.Nat.{ℕ, zero, suc, ◌+◌, ◌-◌, ◌≤◌, ◌<◌}
 use mathlib.Core.Path.{◌≡◌, refl, sym, ap, ◌∙◌}
 use mathlib.Core.List.{List, [], ◌∷◌}
 use mathlib.Core.Option.{some, none}
-use mathlib.Core.Bool.{Bool, true, false}
+use mathlib.Core.Bool.{true, false}
 use native.Mathlib.Numerals.{add-one}
 use native.Mathlib.Omega.{arith}
-use lib.IntN.{ℤ, pos}
-use lib.ListN.{length, get_or, drop, set}
-use lib.Seq.{get_or-set_same, get_or-set_other}
+use lib.IntN.{ℤ, pos, negsuc}
+use lib.ListN.{length, get_or, take, drop, set}
+use lib.Seq.{get_or-set_same, get_or-set_other, get_or-take, length-take-le}
 use lib.Signed.{mag}
 use mir.Syntax.{w32}
 use mir.Val.{to_z, of_z}
-use borrow.Author.Tests.{eq-eqb, ne_eqb}
+use native.Mathlib.Decide.{dec_lt}
+use borrow.Author.Tests.{eq-eqb, ne_eqb, le-leb, lt-leb}
+use lib.Dec.{leb}
+use Rattle.bmap.proofs.PlainLaws.{both_false}
 use Rattle.bmap.specs.Plain.{all}
 use Rattle.bmap.specs.Number.{value, no_value, same}
 use Rattle.bmap.specs.declared.Reason.{Reason}
@@ -22,44 +25,79 @@ use Rattle.bmap.specs.Judge.{fine, fault, trouble_kind, Setting, agrees, sets, s
 use Rattle.index.specs.Index.{no_law}
 use Rattle.number.proofs.BackLaws.{back32}
 use Rattle.judge.specs.Told.{Says}
-use Rattle.judge.specs.Settings.{setting, settings_of}
+use Rattle.judge.specs.Settings.{said, no_setting, settings_of}
+use Rattle.judge.specs.declared.reading.Setting.{Setting as Wanted}
 use Rattle.judge.proofs.LoopLaws.{stops}
 use Rattle.judge.proofs.CheckLaws.{says}
 
 -- ---- the earlier settings of a fluent
 
-pub settings_none : (new : Setting) (fs : List ℕ) (vs : List ℤ) {i : ℕ} → i ≤ 0 → all (agrees new) (settings_of i fs vs) ≡ true
+pub settings_none : (new : Setting) (list : List Wanted) {i : ℕ} → i ≤ 0 → all (agrees new) (settings_of i list) ≡ true
 unfolding settings_of all
-settings_none new fs vs {i} h = let z : i ≡ 0 = omega arith in rw z
+settings_none new list {i} h = let z : i ≡ 0 = omega arith in rw z
 
-module _ (f : ℕ) (v : ℤ) (fs : List ℕ) (vs : List ℤ) (i : ℕ) (h : 0 < i) where
+module _ (new : Setting) (list : List Wanted) (i : ℕ) (h : 0 < i) where
+  abbrev last : Wanted
+  last = get_or list (i - 1) no_setting
+
   last_one : i ≡ suc (i - 1)
   last_one = omega arith
 
-  pub settings_clash : get_or fs (i - 1) 0 ≡ f → same (get_or vs (i - 1) (pos 0)) v ≡ false → all (agrees (setting f v)) (settings_of i fs vs) ≡ false
+  pub settings_clash : last.fluent ≡ new.fluent → same last.level new.level ≡ false → all (agrees new) (settings_of i list) ≡ false
   unfolding settings_of all
-  settings_clash e q = rw (last_one, eq-eqb (get_or fs (i - 1) 0) f e, q)
+  settings_clash e q = rw (last_one, eq-eqb last.fluent new.fluent e, q)
 
-  pub settings_same : get_or fs (i - 1) 0 ≡ f → same (get_or vs (i - 1) (pos 0)) v ≡ true → all (agrees (setting f v)) (settings_of i fs vs) ≡ all (agrees (setting f v)) (settings_of (i - 1) fs vs)
+  pub settings_same : last.fluent ≡ new.fluent → same last.level new.level ≡ true → all (agrees new) (settings_of i list) ≡ all (agrees new) (settings_of (i - 1) list)
   unfolding settings_of all
-  settings_same e q = ap (λ (n : ℕ). all (agrees (setting f v)) (settings_of n fs vs)) last_one ∙ rw (eq-eqb (get_or fs (i - 1) 0) f e, q)
+  settings_same e q = ap (λ (n : ℕ). all (agrees new) (settings_of n list)) last_one ∙ rw (eq-eqb last.fluent new.fluent e, q)
 
-  pub settings_other : (get_or fs (i - 1) 0 ≡ f → ⊥) → all (agrees (setting f v)) (settings_of i fs vs) ≡ all (agrees (setting f v)) (settings_of (i - 1) fs vs)
+  pub settings_other : (last.fluent ≡ new.fluent → ⊥) → all (agrees new) (settings_of i list) ≡ all (agrees new) (settings_of (i - 1) list)
   unfolding settings_of all
-  settings_other e = ap (λ (n : ℕ). all (agrees (setting f v)) (settings_of n fs vs)) last_one ∙ rw (ne_eqb (get_or fs (i - 1) 0) f e)
+  settings_other e = ap (λ (n : ℕ). all (agrees new) (settings_of n list)) last_one ∙ rw (ne_eqb last.fluent new.fluent e)
 
-settings_set : (n i f : ℕ) (v : ℤ) (fs : List ℕ) (vs : List ℤ) → n ≤ i → settings_of n (set fs i f) (set vs i v) ≡ settings_of n fs vs
+settings_set : (n i : ℕ) (new : Wanted) (list : List Wanted) → n ≤ i → settings_of n (set list i new) ≡ settings_of n list
 unfolding settings_of
-settings_set zero i f v fs vs h = refl
-settings_set (suc n) i f v fs vs h = rw (get_or-set_other fs i n f 0 (λ e. omega arith), get_or-set_other vs i n v (pos 0) (λ e. omega arith), settings_set n i f v fs vs (omega arith))
+settings_set zero i new list h = refl
+settings_set (suc n) i new list h = rw (get_or-set_other list i n new no_setting (λ e. omega arith), settings_set n i new list (omega arith))
 
-pub settings_put : (m f : ℕ) (v : ℤ) (fs : List ℕ) (vs : List ℤ) → m < length fs → m < length vs → settings_of (m + 1) (set fs m f) (set vs m v) ≡ setting f v ∷ settings_of m fs vs
+pub settings_put : (m : ℕ) (new : Wanted) (list : List Wanted) → m < length list → settings_of (m + 1) (set list m new) ≡ said new ∷ settings_of m list
 unfolding settings_of
-settings_put m f v fs vs p q = rw (add-one m, get_or-set_same fs m f 0 p, get_or-set_same vs m v (pos 0) q, settings_set m m f v fs vs (omega arith))
+settings_put m new list p = rw (add-one m, get_or-set_same list m new no_setting p, settings_set m m new list (omega arith))
 
--- a comparison of an element that the machine read
-pub same_back : (z y : ℤ) {t u : Bool} → mag z < 2147483648 → t ≡ same (to_z w32 (of_z w32 z)) y → t ≡ u → same z y ≡ u
-same_back z y h e q = ap (λ (x : ℤ). same x y) (sym (back32 z h)) ∙ (sym e ∙ q)
+-- those at the front
+settings_front : (m n : ℕ) (list : List Wanted) → m ≤ n → settings_of m (take n list) ≡ settings_of m list
+unfolding settings_of
+settings_front zero n list h = refl
+settings_front (suc m) n list h = rw (get_or-take n list m no_setting (omega arith), settings_front m n list (omega arith))
+
+pub settings_sliced : (m : ℕ) (list : List Wanted) → m ≤ length list → settings_of (length (take m list)) (take m list) ≡ settings_of m list
+settings_sliced m list h = ap (λ (n : ℕ). settings_of n (take m list)) (length-take-le m list h) ∙ settings_front m m list (omega arith)
+
+-- levels are the same by order twice, and by equality
+same_self : (z : ℤ) → same z z ≡ true
+same_self (pos n) = rw (le-leb n n (omega arith))
+same_self (negsuc n) = rw (le-leb n n (omega arith))
+
+same_if : {a b : ℤ} → a ≡ b → same a b ≡ true
+same_if {a} {b} e = ap (same a) (sym e) ∙ same_self a
+
+not_same : (a b : ℤ) → (a ≡ b → ⊥) → same a b ≡ false
+not_same (pos m) (pos n) q = elim (dec_lt m n) [
+  | yes h ↦ rw (lt-leb n m h, both_false (leb m n))
+  | no h ↦ rw (lt-leb m n (elim (dec_lt n m) [ yes g ↦ g | no g ↦ absurd (q (ap pos (let z : m ≡ n = omega arith in z))) ]))
+]
+not_same (pos m) (negsuc n) q = refl
+not_same (negsuc m) (pos n) q = refl
+not_same (negsuc m) (negsuc n) q = elim (dec_lt m n) [
+  | yes h ↦ rw (lt-leb n m h)
+  | no h ↦ rw (lt-leb m n (elim (dec_lt n m) [ yes g ↦ g | no g ↦ absurd (q (ap negsuc (let z : m ≡ n = omega arith in z))) ]), both_false (leb n m))
+]
+
+pub same_bits : (x y : ℤ) → mag x < 2147483648 → mag y < 2147483648 → of_z w32 x ≡ of_z w32 y → same x y ≡ true
+same_bits x y p q e = same_if (sym (back32 x p) ∙ (ap (to_z w32) e ∙ back32 y q))
+
+pub other_bits : (x y : ℤ) → (of_z w32 x ≡ of_z w32 y → ⊥) → same x y ≡ false
+other_bits x y n = not_same x y (λ e. n (ap (of_z w32) e))
 
 -- ---- the effect laws
 

@@ -1,6 +1,6 @@
 -- The states of a history, kept, filled and copied out. Assumes nothing.
 use Prim.Native.Nat.{ℕ, zero, suc, ◌+◌, ◌-◌, ◌*◌, ◌≤◌, ◌<◌}
-use mathlib.Core.Path.{◌≡◌, refl, sym, ap, ◌∙◌}
+use mathlib.Core.Path.{◌≡◌, refl, sym, ap, subst, ◌∙◌}
 use mathlib.Core.Bool.{Bool, true, false}
 use mathlib.Core.List.{List, [], ◌∷◌, ◌++◌, map, append_assoc, append-nil}
 use native.Mathlib.Numerals.{add-one}
@@ -8,7 +8,8 @@ use native.Mathlib.Nat.{suc-mul}
 use native.Mathlib.Omega.{arith}
 use native.Mathlib.Decide.{dec_lt}
 use lib.IntN.{ℤ, pos}
-use lib.ListN.{length, get_or, take, drop, set, length-drop, length-append, length-set, get_or-append}
+use mir.Val.{bool_byte}
+use lib.ListN.{length, get_or, take, drop, set, length-drop, length-append, get_or-append}
 use lib.Seq.{get_or-set_same, get_or-set_other, get_or-append_seam, get_or-take, get_or-drop, take-take, take-suc-set, take-set-le, drop-set-lt, drop-set-add, length-take-le, paste, paste-suc, length-paste, take-paste, drop-paste, take_at, drop_at, take-append-add, drop-drop}
 use Rattle.bmap.specs.Plain.{flat, numbers}
 use Rattle.bmap.specs.Limits.{most_fluents, most_entries, most_steps}
@@ -16,7 +17,20 @@ use Rattle.bmap.specs.Domain.{State, has}
 use Rattle.law.proofs.Bits.{no_bit}
 use Rattle.bmap.specs.Buffer.{over}
 use Rattle.law.specs.Evaluate.{row_size, history_size, cell_at, marked, in_step}
-use Rattle.judge.specs.States.{state_at, states_of, Between, Blank, marks_from, mark_of}
+use Rattle.index.specs.declared.Fluent.{Fluent}
+use Rattle.index.specs.Index.{no_fluent}
+use Rattle.judge.specs.States.{state_at, starts_of, states_of, Between, Blank, marks_from}
+
+-- ---- the first elements alone
+
+module _ {A B : Type 0} (g : A → B) (z : A) where
+  same_from : (l m : List A) (i n : ℕ) → ((k : ℕ) → i ≤ k → k < i + n → get_or l k z ≡ get_or m k z) → map (λ k. g (get_or l k z)) (numbers i n) ≡ map (λ k. g (get_or m k z)) (numbers i n)
+  unfolding numbers
+  same_from l m i zero e = refl
+  same_from l m i (suc n) e = rw (e i (omega arith) (omega arith), same_from l m (suc i) n (λ k p q. e k (omega arith) (omega arith)))
+
+  pub first_same : (l : List A) (n : ℕ) → map (λ k. g (get_or l k z)) (numbers 0 n) ≡ map (λ k. g (get_or (take n l) k z)) (numbers 0 n)
+  first_same l n = same_from l (take n l) 0 n (λ k p q. sym (get_or-take n l k z (omega arith)))
 
 -- ---- numbers copied one by one
 
@@ -86,7 +100,7 @@ same_after {A} z n i h h' e p =
 
 module _ (from to : ℕ) (h h' : List ℤ) (b : Between from to h h') where
   pub between_set : (i : ℕ) (v : ℤ) → from ≤ i → i < to → Between from to h (set h' i v)
-  between_set i v p q = record { before = take-set-le from h' i v p ∙ b.before; after = drop-set-lt to h' i v q ∙ b.after; long = length-set h' i v ∙ b.long }
+  between_set i v p q = record { before = take-set-le from h' i v p ∙ b.before; after = drop-set-lt to h' i v q ∙ b.after }
 
   -- what was blank from a place on is so from the end of what may have changed
   pub between_blank : (n : ℕ) → n ≤ to → Blank n h → Blank to h'
@@ -100,6 +114,15 @@ in_step_lem h j e = ap (λ (k : ℕ). marked (get_or h k (pos 0))) (let z : row_
 -- none where nothing was written
 pub marks_none : (h : List ℤ) (j e : ℕ) → Blank (marks_from j) h → in_step h e (j + 1) ≡ has 0 e
 marks_none h j e blank = in_step_lem h j e ∙ (ap marked (blank (marks_from j + e) (omega arith)) ∙ no_bit 0 0 e (omega arith) (omega arith))
+
+-- 1 where an entry occurs
+abbrev pub mark_of : Bool → ℤ
+mark_of true = pos 1
+mark_of false = pos 0
+
+pub mark_byte : (b : Bool) → pos (bool_byte b) ≡ mark_of b
+mark_byte true = refl
+mark_byte false = refl
 
 marked_is : (b : Bool) → marked (mark_of b) ≡ b
 marked_is true = refl
@@ -132,6 +155,21 @@ row_more g n f v h p e q =
 
 pub row_whole : (g : ℕ → ℤ) (n f w : ℕ) (h : List ℤ) → f ≡ w → take f (drop n h) ≡ map g (numbers 0 f) → take w (drop n h) ≡ map g (numbers 0 w)
 row_whole g n f w h e p = rw (← e) p
+
+-- the start values
+pub starts_none : (fluents : List Fluent) (h : List ℤ) → take 0 h ≡ starts_of fluents 0
+unfolding numbers
+starts_none fluents h = refl
+
+pub starts_more : (fluents : List Fluent) (f : ℕ) (h : List ℤ) {v : ℤ} → f < length h → take f h ≡ starts_of fluents f → v ≡ (get_or fluents f no_fluent).start → take (f + 1) (set h f v) ≡ starts_of fluents (f + 1)
+starts_more fluents f h {v} p e q =
+    rw (add-one f, take-suc-set h f v p, e, map_snoc (λ f. (get_or fluents f no_fluent).start) 0 f)
+    (ap (λ (z : ℤ). starts_of fluents f ++ (z ∷ [])) (q ∙ ap (λ (k : ℕ). (get_or fluents k no_fluent).start) (omega arith)))
+
+pub starts_taken : (w : ℕ) (fluents : List Fluent) (h : List ℤ) → w ≤ length fluents → take (length (take w fluents)) h ≡ starts_of (take w fluents) (length (take w fluents)) → take w h ≡ starts_of fluents w
+starts_taken w fluents h p e =
+    subst (λ (k : ℕ). take k h ≡ starts_of (take w fluents) k) (length-take-le w fluents p) e
+    ∙ sym (first_same (λ (f : Fluent). f.start) no_fluent fluents w)
 
 -- ---- the states, copied out
 

@@ -16,10 +16,9 @@ use Rattle.judge.specs.Answer.{pass_of, kind_of}
 use Rattle.judge.specs.States.{states_of, leaving}
 use Rattle.judge.specs.Landing.{allowed, Laid, Ranged, ranged}
 use Rattle.judge.specs.Told.{Seen, Acted}
-use Rattle.judge.specs.declared.landing.Ranges.{Ranges}
-use Rattle.judge.specs.declared.verdict.Check.{Check}
-use Rattle.judge.specs.declared.verdict.Check.TheVariants.{Passed, Failed}
-use Rattle.judge.specs.declared.verdict.Fault.{Fault}
+use Rattle.index.specs.declared.Fluent.{Fluent as Row}
+use Rattle.std.specs.Prelude.{Result, Ok, Err}
+use Rattle.judge.specs.declared.verdict.Breach.{Breach}
 use Rattle.bmap.proofs.NumbersLaws.{map_at}
 use Rattle.judge.proofs.StateLaws.{level_in_lem}
 use Rattle.judge.proofs.LandingLaws.{level_then, after_is}
@@ -32,7 +31,7 @@ module _ (d : Domain) (sheet : List Names) (w : ℕ) (cells : List ℤ) (j : ℕ
   seen_level k f p q = level_in_lem w (j + 1) k f cells (omega arith) (omega arith)
 
   pub seen_states : Seen false d (history d sheet (states_of w (j + 1) cells)) cells j
-  seen_states = record { within = within; level = seen_level; acted = λ e. absurd (let z : ◌≡◌ {A = ℕ} 0 1 = cc in omega arith) }
+  seen_states = record { within = within; level = seen_level; acted = λ e. absurd cc }
 
   pub seen_at : {states : List State} → states_of w (j + 1) cells ≡ states → Seen false d (history d sheet states) cells j
   seen_at e = subst (λ (s : List State). Seen false d (history d sheet s) cells j) e seen_states
@@ -43,17 +42,21 @@ module _ (d : Domain) (sheet : List Names) (w : ℕ) (cells : List ℤ) (j : ℕ
 
 -- ---- checks 4 to 6
 
+-- what a check of the code answers
+abbrev pub Check : Type 0
+Check = Result (Unit {0}) Breach
+
 passed_fault : (e : Pass) (new : State) (k : Checked State) {kind n : ℕ} → fault kind n ≡ next e (λ _. fine new) → fault kind n ≡ next e (λ _. k)
-passed_fault (fine u) new k q = let z : ◌≡◌ {A = ℕ} 0 1 = cc in absurd (omega arith)
+passed_fault (fine u) new k q = absurd cc
 passed_fault (fault a b) new k q = q
 
 passed_fine : (e : Pass) (new : State) (k : Checked State) {s : State} → fine s ≡ next e (λ _. fine new) → (k ≡ next e (λ _. k)) × (s ≡ new)
 passed_fine (fine u) new k q = (refl, (cc))
-passed_fine (fault a b) new k q = let z : ◌≡◌ {A = ℕ} 0 1 = cc in absurd (omega arith)
+passed_fine (fault a b) new k q = absurd cc
 
 leaving_next : (r : Check) (s : State) → leaving r s ≡ next (pass_of r) (λ _. fine s)
-leaving_next Passed s = refl
-leaving_next (Failed f n) s = refl
+leaving_next (Ok u) s = refl
+leaving_next (Err b) s = refl
 
 module _ (d : Domain) (sheet : List Names) (states : List State) (j : ℕ) (names : Names) where
   pub landed_clash : {kind n : ℕ} → fault kind n ≡ settled d (history d sheet states) j names 0 [] d.laws → fault kind n ≡ landed d sheet states j names
@@ -69,11 +72,11 @@ module _ (d : Domain) (sheet : List Names) (states : List State) (j : ℕ) (name
     unfolding landed
     landed_on = rw (← e, o)
 
-    pub landed_fault : (r : Check) (s : State) {f : Fault} {n : ℕ} → leaving r s ≡ ranged d settings old → r ≡ Failed f n → fault (kind_of f) n ≡ landed d sheet states j names
-    landed_fault r s {f} {n} q p =
+    pub landed_fault : (r : Check) (s : State) {b : Breach} → leaving r s ≡ ranged d settings old → r ≡ Err b → fault (kind_of b.fault) b.number ≡ landed d sheet states j names
+    landed_fault r s {b} q p =
         passed_fault (each (fits old (state_after d settings old)) d.fluents) (state_after d settings old) (lasting (state_after d settings old)) (ap (λ (t : Check). leaving t s) (sym p) ∙ q) ∙ landed_on
 
-    pub landed_fine : (r r₃ : Check) (s : State) (states' : List State) → leaving r s ≡ ranged d settings old → r ≡ Passed → states' ≡ states ++ (s ∷ [])
+    pub landed_fine : (r r₃ : Check) (s : State) (states' : List State) → leaving r s ≡ ranged d settings old → r ≡ Ok tt → states' ≡ states ++ (s ∷ [])
         → pass_of r₃ ≡ all_hold static 6 d (history d sheet states') (j + 1) → leaving r₃ s ≡ landed d sheet states j names
     landed_fine r r₃ s states' q p more c =
         let both' = passed_fine (each (fits old (state_after d settings old)) d.fluents) (state_after d settings old) (lasting (state_after d settings old)) (ap (λ (t : Check). leaving t s) (sym p) ∙ q) in
@@ -108,17 +111,17 @@ module _ (d : Domain) (sheet : List Names) (states : List State) (j : ℕ) (name
       ap (λ (p : Pass). next p (λ _. landed d sheet states j names)) e
       ∙ three_next (each (placed d names) names) (each (may_occur d (history d sheet states) j names) d.entries) (all_hold concurrency 3 d (history d sheet states) j) (landed d sheet states j names)
 
-  pub step_barred : (s : State) {f : Fault} {n : ℕ} → r ≡ Failed f n → leaving r s ≡ step d sheet states j names
+  pub step_barred : (s : State) {b : Breach} → r ≡ Err b → leaving r s ≡ step d sheet states j names
   step_barred s p = ap (λ (t : Check). leaving t s) p ∙ (ap (λ (t : Check). next (pass_of t) (λ _. landed d sheet states j names)) (sym p) ∙ step_then)
 
-  pub step_on : r ≡ Passed → landed d sheet states j names ≡ step d sheet states j names
+  pub step_on : r ≡ Ok tt → landed d sheet states j names ≡ step d sheet states j names
   step_on p = ap (λ (t : Check). next (pass_of t) (λ _. landed d sheet states j names)) (sym p) ∙ step_then
 
 -- ---- the levels of a state that was stored
 
-pub laid_again : (d : Domain) (settings : List Setting) (old : State) (ranges : Ranges) (w : ℕ) → Ranged d ranges w → (r : Check) (s : State) (new : List ℤ)
-    → leaving r s ≡ ranged d settings old → r ≡ Passed → Laid w new settings old → Laid w new [] s
+pub laid_again : (d : Domain) (settings : List Setting) (old : State) (fluents : List Row) (w : ℕ) → Ranged d fluents w → (r : Check) (s : State) (new : List ℤ)
+    → leaving r s ≡ ranged d settings old → r ≡ Ok tt → Laid w new settings old → Laid w new [] s
 unfolding level_after
-laid_again d settings old ranges w bounds r s new q p laid f h =
+laid_again d settings old fluents w bounds r s new q p laid f h =
     let is : s ≡ state_after d settings old = (passed_fine (each (fits old (state_after d settings old)) d.fluents) (state_after d settings old) (fine s) (ap (λ (t : Check). leaving t s) (sym p) ∙ q)).1 in
-    laid f h ∙ sym (ap (λ (l : State). get_or l f (pos 0)) (is ∙ after_is d settings old ranges w bounds) ∙ map_at (level_then settings old) w f (pos 0) h)
+    laid f h ∙ sym (ap (λ (l : State). get_or l f (pos 0)) (is ∙ after_is d settings old fluents w bounds) ∙ map_at (level_then settings old) w f (pos 0) h)

@@ -5,13 +5,14 @@ use mathlib.Core.List.{List, [], ◌∷◌}
 use lib.ListN.{get_or}
 use Rattle.bmap.specs.Refusal.{number_of}
 use Rattle.bmap.proofs.RefusalLaws.{same_refusal}
-use Rattle.judge.specs.Answer.{kind_of, verdict_of, answer_of}
+use Rattle.judge.specs.Answer.{kind_of, verdict_of, answer_of, counted_of, states_counted}
 use Rattle.judge.specs.declared.verdict.Fault.{Fault}
 use Rattle.judge.specs.declared.verdict.Fault.TheVariants.{Misplaced, Barred, Concurrency, Conflict, Range, Static, ZeroDivisor, Goal, Beyond, TooFast}
 use Rattle.judge.specs.declared.verdict.Verdict.{Verdict}
 use Rattle.judge.specs.declared.verdict.Verdict.TheVariants.{Accepted, Broken}
-use Rattle.judge.specs.declared.verdict.Judgement.{Judgement}
-use Rattle.judge.specs.declared.verdict.Judgement.TheVariants.{Refused, Judged}
+use Rattle.bmap.specs.declared.refusal.Refusal.{Refusal}
+use Rattle.std.specs.Prelude.{Result, Ok, Err}
+use Rattle.judge.specs.declared.verdict.Judged.{Judged}
 
 -- the faults by their number
 faults : List Fault
@@ -39,8 +40,17 @@ same_verdict Accepted (Broken f k n) e = cc
 same_verdict (Broken f k n) Accepted e = cc
 same_verdict (Broken f k n) (Broken g j m) e = let q : kind_of f ≡ kind_of g = cc in cc (same_fault f g q)
 
-pub same_judgement : (a b : Judgement) → answer_of a ≡ answer_of b → a ≡ b
-same_judgement (Refused r) (Refused q) e = let n : number_of r ≡ number_of q = cc in ap Refused (same_refusal r q n)
-same_judgement (Refused r) (Judged v) e = cc
-same_judgement (Judged v) (Refused r) e = cc
-same_judgement (Judged v) (Judged w) e = let q : verdict_of v ≡ verdict_of w = cc in ap Judged (same_verdict v w q)
+pub same_judgement : (a b : Result Verdict Refusal) → answer_of a ≡ answer_of b → a ≡ b
+same_judgement (Err r) (Err q) e = let n : number_of r ≡ number_of q = cc in ap Err (same_refusal r q n)
+same_judgement (Err r) (Ok v) e = cc
+same_judgement (Ok v) (Err r) e = cc
+same_judgement (Ok v) (Ok w) e = let q : verdict_of v ≡ verdict_of w = cc in ap Ok (same_verdict v w q)
+
+-- and so is one that counts the states written
+pub same_judged : (a b : Result Judged Refusal) → counted_of a ≡ counted_of b → states_counted a ≡ states_counted b → a ≡ b
+same_judged (Err r) (Err q) e s = let n : number_of r ≡ number_of q = cc in ap Err (same_refusal r q n)
+same_judged (Err r) (Ok j) e s = cc
+same_judged (Ok j) (Err r) e s = cc
+same_judged (Ok i) (Ok j) e s =
+    let q : verdict_of i.verdict ≡ verdict_of j.verdict = cc in
+    ap (λ (v : Verdict). Ok (record { verdict = v; states = i.states })) (same_verdict i.verdict j.verdict q) ∙ ap (λ (n : ℕ). Ok (record { verdict = j.verdict; states = n })) s

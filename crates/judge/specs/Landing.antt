@@ -1,19 +1,16 @@
 -- What a step may do, and its new state, level by level.
-use Rattle.std.specs.Prelude.{ℕ, ◌≤◌, ◌<◌, ◌≡◌, List, [], ℤ, pos, length, get_or}
+use Rattle.std.specs.Prelude.{ℕ, ◌≤◌, ◌<◌, ◌≡◌, List, [], map, ℤ, pos, get_or, Option, Some, None, Result, Ok, Err}
 use Rattle.std.specs.Int.Signed.{le_z}
-use Rattle.bmap.specs.Plain.{both, if_else}
+use Rattle.bmap.specs.Plain.{both, if_else, numbers}
+use Rattle.index.specs.declared.Fluent.{Fluent as Row}
+use Rattle.index.specs.Index.{no_fluent, fluent_said}
 use Rattle.bmap.specs.Limits.{most_fluents, most_steps}
-use Rattle.bmap.specs.Domain.{Domain, Fluent, Names, State, concurrency}
+use Rattle.bmap.specs.Domain.{Domain, Names, State, concurrency}
 use Rattle.bmap.specs.Meaning.{History}
 use Rattle.bmap.specs.Judge.{Checked, Pass, fine, fault, next, each, placed, may_occur, all_hold, Setting, level_after, state_after, fits}
-use Rattle.law.specs.Evaluate.{history_size}
 use Rattle.judge.specs.Answer.{kind_of}
 use Rattle.judge.specs.States.{leaving}
-use Rattle.judge.specs.declared.verdict.Check.{Check}
-use Rattle.judge.specs.declared.verdict.Check.TheVariants.{Passed, Failed}
-use Rattle.judge.specs.declared.landing.Ranges.{Ranges}
-use Rattle.judge.specs.declared.landing.Fit.{Fit}
-use Rattle.judge.specs.declared.landing.Fit.TheVariants.{Out, In}
+use Rattle.judge.specs.declared.verdict.Breach.{Breach}
 
 -- checks 1 to 3 of the step from state j
 abbrev pub allowed : Domain → History → ℕ → Names → Pass
@@ -23,38 +20,22 @@ allowed d h j names =
     all_hold concurrency 3 d h j))
 
 -- v where it lies within the bounds
-unfoldable pub fit_of : ℤ → ℤ → ℤ → Fit
-fit_of lowest v highest = if_else (both (le_z lowest v) (le_z v highest)) (In v) Out
+unfoldable pub fit_of : ℤ → ℤ → ℤ → Option ℤ
+fit_of lowest v highest = if_else (both (le_z lowest v) (le_z v highest)) (Some v) None
 
 -- the levels of state j can be read into an array
-pub record Readable (w j : ℕ) (history new : List ℤ) : Type 0 where
+pub record Readable (w j : ℕ) : Type 0 where
   pub step : j ≤ most_steps
   pub fluents : w ≤ most_fluents
-  pub room : length history ≡ history_size
-  pub wide : length new ≡ most_fluents
-
-abbrev pub ranges_of : List ℤ → List ℤ → List ℕ → Ranges
-ranges_of lowest highest limit = record { lowest = lowest; highest = highest; limit = limit }
 
 -- state j + 1 can be stored
-pub record Storable (r : Ranges) (w : ℕ) (history : List ℤ) (j : ℕ) : Type 0 where
+pub record Storable (w j : ℕ) : Type 0 where
   pub step : j < most_steps
   pub fluents : w ≤ most_fluents
-  pub low : w ≤ length r.lowest
-  pub high : w ≤ length r.highest
-  pub limits : w ≤ length r.limit
-  pub room : length history ≡ history_size
 
--- some fluent, where there is none
-abbrev pub no_fluent : Fluent
-no_fluent = record { lowest = pos 0; highest = pos 0; start = pos 0; limit = 0 }
-
--- the ranges and limits of a domain's fluents
-pub record Ranged (d : Domain) (r : Ranges) (w : ℕ) : Type 0 where
-  pub count : length d.fluents ≡ w
-  pub low : (f : ℕ) → f < w → (get_or d.fluents f no_fluent).lowest ≡ get_or r.lowest f (pos 0)
-  pub high : (f : ℕ) → f < w → (get_or d.fluents f no_fluent).highest ≡ get_or r.highest f (pos 0)
-  pub limits : (f : ℕ) → f < w → (get_or d.fluents f no_fluent).limit ≡ get_or r.limit f 0
+-- the fluents of a domain, with their ranges and limits
+abbrev pub Ranged : Domain → List Row → ℕ → Type 0
+Ranged d fluents w = d.fluents ≡ map (λ f. fluent_said (get_or fluents f no_fluent)) (numbers 0 w)
 
 -- "Fluents that no law set keep their value": settings laid over a state
 abbrev pub Laid : ℕ → List ℤ → List Setting → State → Type 0
@@ -67,15 +48,15 @@ pub record LaidOver (w : ℕ) (new : List ℤ) (settled : Checked (List Setting)
   pub laid : Laid w new settings old
 
 -- a check that lays them, or gives their fault
-abbrev pub Lays : Check → ℕ → List ℤ → Checked (List Setting) → State → Type 0
-Lays Passed w new settled old = LaidOver w new settled old
-Lays (Failed f n) w new settled old = fault (kind_of f) n ≡ settled
+abbrev pub Lays : Result (Unit {0}) Breach → ℕ → List ℤ → Checked (List Setting) → State → Type 0
+Lays (Ok u) w new settled old = LaidOver w new settled old
+Lays (Err b) w new settled old = fault (kind_of b.fault) b.number ≡ settled
 
 -- check 5 of the state that settings make of an old one
 abbrev pub ranged : Domain → List Setting → State → Checked State
 ranged d settings old = next (each (fits old (state_after d settings old)) d.fluents) (λ _. fine (state_after d settings old))
 
 -- a check that leaves a state, or its fault, and where it passes the levels of that state in an array
-pub record Landed (r : Check) (w : ℕ) (new : List ℤ) (state : State) (is : Checked State) : Type 0 where
+pub record Landed (r : Result (Unit {0}) Breach) (w : ℕ) (new : List ℤ) (state : State) (is : Checked State) : Type 0 where
   pub leaves : leaving r state ≡ is
-  pub levels : r ≡ Passed → Laid w new [] state
+  pub levels : r ≡ Ok tt → Laid w new [] state

@@ -4,6 +4,8 @@ use Rattle.std.specs.Int.Bits.{bit_or}
 use Rattle.bmap.specs.Plain.{if_else, all, numbers}
 use Rattle.bmap.specs.Limits.{most_agents, most_entries}
 use Rattle.bmap.specs.Domain.{Names, follows}
+use Rattle.index.specs.declared.Entry.{Entry}
+use Rattle.index.specs.Index.{no_entry}
 use Rattle.judge.specs.declared.acting.Occurs.{Occurs}
 
 abbrev pub flag_of : Bool → ℕ
@@ -16,9 +18,9 @@ mask_from p i zero = 0
 mask_from p i (suc n) = mask_from p (suc i) n * 2 + flag_of (p i)
 
 -- the agents of those of the n masks from i on that pass
-unfoldable pub union_from : (ℕ → Bool) → List ℕ → ℕ → ℕ → ℕ
-union_from p masks i zero = 0
-union_from p masks i (suc n) = if_else (p i) (bit_or (union_from p masks (suc i) n) (get_or masks i 0)) (union_from p masks (suc i) n)
+unfoldable pub union_from : (ℕ → Bool) → (ℕ → ℕ) → ℕ → ℕ → ℕ
+union_from p mask i zero = 0
+union_from p mask i (suc n) = if_else (p i) (bit_or (union_from p mask (suc i) n) (mask i)) (union_from p mask (suc i) n)
 
 -- "An entry occurs in a step when every agent of its crew names its action", for a step that names something for each agent
 unfoldable pub joins : Names → ℕ → ℕ → Bool
@@ -36,22 +38,23 @@ differs names k a = not (eqb (get_or names a 0) k)
 abbrev pub Others : Names → List ℕ → Type 0
 Others names others = (k : ℕ) → k < name_count → get_or others k 0 ≡ mask_from (differs names k) 0 (length names)
 
-abbrev pub joins_at : Names → List ℕ → List ℕ → ℕ → Bool
-joins_at names actions crews i = joins names (get_or actions i 0) (get_or crews i 0)
+abbrev pub joins_at : Names → List Entry → ℕ → Bool
+joins_at names entries i = joins names (get_or entries i no_entry).name (get_or entries i no_entry).crew
+
+abbrev pub crew_at : List Entry → ℕ → ℕ
+crew_at entries i = (get_or entries i no_entry).crew
 
 -- the entries that occur, and the agents who belong to one of them
-abbrev pub occurs_of : Names → List ℕ → List ℕ → ℕ → Occurs
-occurs_of names actions crews n = record {
-  entries = mask_from (joins_at names actions crews) 0 n;
-  agents = union_from (joins_at names actions crews) crews 0 n;
+abbrev pub occurs_of : Names → List Entry → ℕ → Occurs
+occurs_of names entries n = record {
+  entries = mask_from (joins_at names entries) 0 n;
+  agents = union_from (joins_at names entries) (crew_at entries) 0 n;
 }
 
--- so many agents, and so many entries, each with an action and a crew
-pub record Crewed (agents : ℕ) (actions crews : List ℕ) (n : ℕ) : Type 0 where
+-- so many agents, and so many entries
+pub record Crewed (agents n : ℕ) : Type 0 where
   pub few : agents ≤ most_agents
   pub entries : n ≤ most_entries
-  pub named : n ≤ length actions
-  pub crewed : n ≤ length crews
 
 -- there was a step before, and it had the same names
 pub record Again (names before : Names) : Type 0 where

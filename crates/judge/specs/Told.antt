@@ -1,5 +1,5 @@
 -- What the judge's functions may take for granted of the bytes and numbers that they are lent: that they are a domain's.
-use Rattle.std.specs.Prelude.{ℕ, ◌+◌, ◌-◌, ◌*◌, ◌^◌, ◌≤◌, ◌<◌, ◌≡◌, Bool, true, List, [], ◌++◌, ℤ, length, get_or, take, drop}
+use Rattle.std.specs.Prelude.{Option, Some, None, ℕ, ◌+◌, ◌-◌, ◌*◌, ◌^◌, ◌≤◌, ◌<◌, ◌≡◌, Bool, true, List, [], ◌++◌, ℤ, length, eqb, get_or, take, drop}
 use Rattle.std.proofs.Math.Option.{some}
 use Rattle.bmap.specs.Plain.{any, if_else}
 use Rattle.bmap.specs.Limits.{most_agents, most_fluents, most_steps, most_entries, most_laws, most_payload, frame_size}
@@ -10,11 +10,15 @@ use Rattle.bmap.specs.Domain.{Domain, Names, Law, executable, effect, must, entr
 use Rattle.bmap.specs.Judge.{each, placed, carries}
 use Rattle.bmap.specs.Payload.{law_in, asks}
 use Rattle.bmap.specs.Accept.{counts_of}
-use Rattle.index.specs.Index.{frame_bytes, law_number}
-use Rattle.law.specs.Evaluate.{held_size, cell_at, in_step}
+use Rattle.index.specs.declared.Entry.{Entry}
+use Rattle.index.specs.declared.Knowledge.{Knowledge}
+use Rattle.index.specs.Index.{frame_bytes, law_number, no_knowledge}
+use Rattle.judge.specs.Masks.{union_from, crew_at}
+use Rattle.law.specs.Evaluate.{cell_at, in_step}
 use Rattle.supplement.specs.Force.{payload_of}
 use Rattle.judge.specs.Answer.{pass_of}
 use Rattle.judge.specs.declared.acting.Acting.{Acting}
+use Rattle.judge.specs.declared.reading.Run.{Run}
 use Rattle.judge.specs.declared.reading.Runs.{Runs}
 
 -- the parts that the laws of every kind have
@@ -58,88 +62,71 @@ kind_there store laws i = get_or (frame_bytes store (get_or laws i 0)) 0 0
 
 -- the first n laws in force are held, those that a frame has room for
 pub record Held (store laws supplement over : List ℕ) (n : ℕ) (held : List ℕ) : Type 0 where
-  pub long : length held ≡ held_size
   pub law : (i : ℕ) → i < n → length (payload_of store laws supplement over i) ≤ most_payload → HeldLaw (kind_there store laws i) (payload_of store laws supplement over i) (frame_of held i)
-
--- and there is room for them
-pub record Holdable (n : ℕ) (held : List ℕ) : Type 0 where
-  pub long : length held ≡ held_size
-  pub few : n ≤ most_laws
 
 -- the held laws are the domain's
 pub record Lawful (d : Domain) (held : List ℕ) (n : ℕ) : Type 0 where
-  pub long : length held ≡ held_size
   pub count : length d.laws ≡ n
   pub law : (i : ℕ) → i < n → Says d (frame_of held i) (law_number d i)
 
--- no entry has this number
-abbrev pub nobody : ℕ
-nobody = 255
-
 -- whose law it is, if its crew may read it: "a law that names a fluent known to nobody in the crew counts as false"
-abbrev pub owner_of : Domain → Law → ℕ
-owner_of d (executable e c) = if_else (readable d (entry_at d e) c) e nobody
-owner_of d (effect e c f x) = nobody
-owner_of d (must s c) = nobody
+abbrev pub owner_of : Domain → Law → Option ℕ
+owner_of d (executable e c) = if_else (readable d (entry_at d e) c) (Some e) None
+owner_of d (effect e c f x) = None
+owner_of d (must s c) = None
 
 -- a table has the owner of each law
-abbrev pub Owned : Domain → List ℕ → Type 0
-Owned d owners = (i : ℕ) → i < length d.laws → get_or owners i 0 ≡ owner_of d (law_number d i)
+abbrev pub Owned : Domain → List (Option ℕ) → Type 0
+Owned d owners = (i : ℕ) → i < length d.laws → get_or owners i None ≡ owner_of d (law_number d i)
 
--- so many fluents, each with agents who know it
-pub record Listed (known knowers : List ℕ) (n : ℕ) : Type 0 where
-  pub fluents : n ≤ length known
-  pub agents : n ≤ length knowers
+-- the agents who know a fluent: "several frames add up"
+abbrev pub knowers_of : List Knowledge → ℕ → ℕ
+knowers_of knowledge f = union_from (λ i. eqb (get_or knowledge i no_knowledge).fluent f) (λ i. (get_or knowledge i no_knowledge).knowers) 0 (length knowledge)
 
 -- a table for so many fluents and agents
-pub record Tabled (table : List ℕ) (w agents : ℕ) : Type 0 where
+pub record Tabled (w agents : ℕ) : Type 0 where
   pub fluents : w ≤ most_fluents
-  pub whole : length table ≡ most_fluents
   pub few : agents ≤ most_agents
 
 -- a table has the agents who know each fluent, and a list the crew of each entry
-pub record Knowing (d : Domain) (table : List ℕ) (w : ℕ) (crews : List ℕ) (agents : ℕ) : Type 0 where
-  pub fluents : length d.fluents ≡ w
+pub record Knowing (d : Domain) (table : List ℕ) (entries : List Entry) (agents : ℕ) : Type 0 where
+  pub fluents : length d.fluents ≡ length table
   pub count : d.agents ≡ agents
-  pub knowers : (f a : ℕ) → f < w → has (get_or table f 0) a ≡ knows d a f
-  pub crew : (e : ℕ) → e < length d.entries → (entry_at d e).crew ≡ get_or crews e 0
+  pub knowers : (f a : ℕ) → f < length table → has (get_or table f 0) a ≡ knows d a f
+  pub crew : (e : ℕ) → e < length d.entries → (entry_at d e).crew ≡ crew_at entries e
 
--- the laws of a kind lie from one number to another
-pub record Within (held : List ℕ) (n kind from to : ℕ) : Type 0 where
-  pub starts : from ≤ n
-  pub ends : to ≤ n
-  pub before : (i : ℕ) → i < from → get_or (frame_of held i) 0 0 ≡ kind → ⊥
-  pub after : (i : ℕ) → to ≤ i → i < n → get_or (frame_of held i) 0 0 ≡ kind → ⊥
+-- of the first k numbers, those that have something lie in a run, which starts at n where there is none
+pub record Spans (has : ℕ → Type 0) (n k : ℕ) (run : Run) : Type 0 where
+  pub starts : run.from ≤ n
+  pub ends : run.to ≤ k
+  pub before : (i : ℕ) → i < run.from → i < k → has i → ⊥
+  pub after : (i : ℕ) → run.to ≤ i → i < k → has i → ⊥
 
--- the laws of an owner lie from one number to another
-pub record Own (owners : List ℕ) (n i from to : ℕ) : Type 0 where
-  pub starts : from ≤ n
-  pub ends : to ≤ n
-  pub before : (k : ℕ) → k < from → get_or owners k 0 ≡ i → ⊥
-  pub after : (k : ℕ) → to ≤ k → k < n → get_or owners k 0 ≡ i → ⊥
+-- the laws of a kind lie in a run
+abbrev pub Within : List ℕ → ℕ → ℕ → Run → Type 0
+Within held n kind = Spans (λ i. get_or (frame_of held i) 0 0 ≡ kind) n n
 
--- a table has, for each entry, where its laws among those from k on start
-abbrev pub FromOwn : List ℕ → ℕ → ℕ → List ℕ → Type 0
-FromOwn owners n k first = (i : ℕ) → i < most_entries → (get_or first i 0 ≤ n) × ((m : ℕ) → k ≤ m → m < get_or first i 0 → get_or owners m 0 ≡ i → ⊥)
+-- the laws of an owner lie in a run
+abbrev pub Own : List (Option ℕ) → ℕ → ℕ → Run → Type 0
+Own owners n i = Spans (λ l. get_or owners l None ≡ Some i) n n
 
--- and where its laws among the first k end
-abbrev pub ToOwn : List ℕ → ℕ → List ℕ → Type 0
-ToOwn owners k last = (i : ℕ) → i < most_entries → (get_or last i 0 ≤ k) × ((m : ℕ) → get_or last i 0 ≤ m → m < k → get_or owners m 0 ≡ i → ⊥)
+abbrev pub no_run : Run
+no_run = record { from = 0; to = 0 }
 
 -- the laws of each entry
-abbrev pub Owns : List ℕ → ℕ → List ℕ → List ℕ → Type 0
-Owns owners n first last = (i : ℕ) → i < most_entries → Own owners n i (get_or first i 0) (get_or last i 0)
+abbrev pub Owns : List (Option ℕ) → ℕ → List Run → Type 0
+Owns owners n own = (i : ℕ) → i < most_entries → Own owners n i (get_or own i no_run)
 
-pub record Ordered (held owners : List ℕ) (n : ℕ) (runs : Runs) : Type 0 where
-  pub executable : Owns owners n runs.first runs.last
-  pub effect : Within held n effect_kind runs.effect.from runs.effect.to
-  pub fixed : Within held n static_kind runs.fixed.from runs.fixed.to
-  pub concurrency : Within held n concurrency_kind runs.concurrency.from runs.concurrency.to
-  pub goal : Within held n goal_kind runs.goal.from runs.goal.to
+pub record Ordered (held : List ℕ) (owners : List (Option ℕ)) (n : ℕ) (runs : Runs) : Type 0 where
+  pub executable : Owns owners n runs.own
+  pub effect : Within held n effect_kind runs.effect
+  pub fixed : Within held n static_kind runs.fixed
+  pub concurrency : Within held n concurrency_kind runs.concurrency
+  pub goal : Within held n goal_kind runs.goal
 
 -- the numbers of laws keep their limit
 pub record Few (runs : Runs) : Type 0 where
-  pub own : (i : ℕ) → i < most_entries → get_or runs.last i 0 ≤ most_laws
+  pub own : (i : ℕ) → i < most_entries → (get_or runs.own i no_run).to ≤ most_laws
   pub effect : runs.effect.to ≤ most_laws
   pub fixed : runs.fixed.to ≤ most_laws
   pub concurrency : runs.concurrency.to ≤ most_laws

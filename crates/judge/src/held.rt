@@ -4,8 +4,9 @@
 // nothing reads where a frame has its count, and its payload.
 ghost use Rattle.std.specs.Prelude.{◌≡◌, ◌+◌, ◌≤◌, length, set};
 ghost use Rattle.std.proofs.Math.Seq.{paste};
+ghost use Rattle.bmap.specs.Limits.{most_laws};
 ghost use Rattle.law.specs.Evaluate.{held_size};
-ghost use Rattle.judge.specs.Told.{Held, Holdable};
+ghost use Rattle.judge.specs.Told.{Held};
 
 use bmap::{Counts, FRAME, PAYLOAD};
 use index::{byte_at, law_at, part};
@@ -13,18 +14,15 @@ use law::HELD;
 use supplement::payload_at;
 
 fn hold(held: &mut [u8; HELD], at: usize, kind: u8, payload: &[u8])
-    requires { (length held.old ≡ held_size) × (at + 2 + length payload.now ≤ held_size) }
+    requires { at + 2 + length payload.now ≤ held_size }
     ensures { held.new ≡ paste (set held.old at kind) (at + 2) payload.now (length payload.now) }
 {
     held[at] = kind;
     let from = at + 2;
-    let mut i = 0;
-    while i < payload.len() {
-        held[from + i] = payload[i];
-        i += 1;
-    }
+    held[from..from + payload.len()].copy_from_slice(payload);
 }
 
+// `law_at` and `payload_at` take the whole tables, so both come whole, with the number of laws beside them.
 pub(crate) fn hold_laws<'a>(
     held: &mut [u8; HELD],
     store: &'a [u8],
@@ -33,15 +31,13 @@ pub(crate) fn hold_laws<'a>(
     over: &[u16; Counts::LAWS],
     n: usize,
 )
-    requires { Holdable n held.old }
+    requires { n ≤ most_laws }
     ensures { Held store.now laws.now supplement.now over.now n held.new }
 {
-    let mut i = 0;
-    while i < n {
+    for i in 0..n {
         let kind = byte_at(law_at(store, laws, i), 0);
         let payload = payload_at(store, laws, supplement, over, i);
         // An accepted law has no more bytes than this.
         hold(held, FRAME * i, kind, part(payload, 0, PAYLOAD));
-        i += 1;
     }
 }

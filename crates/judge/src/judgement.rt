@@ -1,5 +1,5 @@
 // The judgement of a sheet against a store, under a supplement or under none.
-ghost use Rattle.std.specs.Prelude.{◌≡◌, ◌+◌, ◌≤◌, length};
+ghost use Rattle.std.specs.Prelude.{◌≡◌, ◌+◌, ◌≤◌, ◌↔◌, IsTrue, length};
 ghost use Rattle.bmap.specs.Limits.{most_steps, levels_size};
 ghost use Rattle.bmap.specs.Refusal.{got, then};
 ghost use Rattle.bmap.specs.Domain.{Domain};
@@ -7,23 +7,22 @@ ghost use Rattle.bmap.specs.Sheet.{rows, sheet_of};
 ghost use Rattle.bmap.specs.Supplement.{judge_under};
 ghost use Rattle.bmap.specs.Judge.{judge};
 ghost use Rattle.bmap.specs.Verdict.{judgement, judge_sheet};
-ghost use Rattle.law.specs.Evaluate.{history_size};
-ghost use Rattle.judge.specs.Answer.{answer_of, states_in, states_written, states_written_under, judge_for, states_written_for, Bounded, turned_back};
-ghost use Rattle.judge.specs.Prepared.{judged_of, Governs, InLimits, KeepsLimits, Anyhow, Judgeable};
+ghost use Rattle.judge.specs.Answer.{answer_of, counted_of, states_counted, states_in, states_written, states_written_under, judge_for, states_written_for, Bounded};
+ghost use Rattle.judge.specs.Prepared.{judged_of, Governs, InLimits, Anyhow, Judgeable};
 ghost use Rattle.supplement.specs.Under.{under_in};
 
 use crate::held::hold_laws;
 use crate::knowledge::{all_knowers, all_owners};
-use crate::landing::Ranges;
 use crate::reading::all_runs;
 use crate::states::copy_states;
-use crate::steps::{Plan, Ran, run_sheet};
-use crate::verdict::Judgement;
+use crate::steps::{Plan, run_sheet};
+use crate::verdict::{Judged, Verdict};
 use bmap::{Counts, LEVELS, Refusal, Sheet};
 use law::{HELD, HISTORY};
 use supplement::{Under, index_of};
 
 // What the checks need is found once: the laws in force, who knows what, whose laws count, where those of each kind stand.
+// n counts steps, as the sheet's rows, whose length only a domain tells.
 fn judge_steps<'a>(
     store: &'a [u8],
     supplement: &'a [u8],
@@ -31,56 +30,40 @@ fn judge_steps<'a>(
     sheet: &[u8],
     n: usize,
     history: &mut [i16; HISTORY],
-) -> Ran
+) -> Judged
     requires { Judgeable under sheet.now n history.old }
-    ensures { ((result.reached ≤ most_steps + 1) × (length history.new ≡ history_size))
-        × ((d : Domain) → Governs store.now supplement.now under d
-        → judged_of under.index.counts.fluents result history.new ≡ judge d (rows under.index.counts.agents n sheet.now)) }
+    ensures few { result.states ≤ most_steps + 1 }
+    ensures judged { (d : Domain) → Governs store.now supplement.now under d
+        → judged_of under.index.counts.fluents result history.new ≡ judge d (rows under.index.counts.agents n sheet.now) }
 {
-    let counts = under.index.counts;
-    let laws = under.index.laws;
-    let over = under.over;
-    let known = under.index.known;
-    let knowers = under.index.knowers;
-    let crews = under.index.crews;
+    let index = under.index;
+    let counts = index.counts;
     let mut held = [0u8; HELD];
-    hold_laws(&mut held, store, &laws, supplement, &over, counts.laws);
-    let table = all_knowers(&known, &knowers, counts.knowledge, counts.fluents);
+    hold_laws(
+        &mut held,
+        store,
+        &index.laws,
+        supplement,
+        &under.over,
+        counts.laws,
+    );
+    let table = all_knowers(&index.knowledge[..counts.knowledge], counts.fluents);
     let owners = all_owners(
         &held,
         counts.laws,
-        &table,
-        counts.fluents,
-        &crews,
+        &table[..counts.fluents],
+        &index.entries,
         counts.agents,
     );
-    let runs = all_runs(&held, &owners, counts.laws);
-    let start = under.index.start;
-    let lowest = under.index.lowest;
-    let highest = under.index.highest;
-    let limit = under.index.limit;
-    let ranges = Ranges {
-        lowest,
-        highest,
-        limit,
-    };
-    let names = under.index.names;
+    let runs = all_runs(&held, &owners[..counts.laws]);
     let plan = Plan {
         counts,
         owners,
         runs,
-        ranges,
-        names,
-        crews,
+        fluents: index.fluents,
+        entries: index.entries,
     };
-    run_sheet(&held, plan, &start, sheet, n, history)
-}
-
-// A judgement, and how many states the levels buffer received.
-#[derive(Clone, Copy)]
-pub struct Counted {
-    pub judgement: Judgement,
-    pub states: usize,
+    run_sheet(&held, &plan, sheet, n, history)
 }
 
 // By what was found: "8, 9", then the states go to the caller's buffer once.
@@ -90,45 +73,43 @@ fn judge_by<'a>(
     under: Under,
     sheet: &[u8],
     levels: &mut [i16],
-) -> Counted
-    requires { InLimits under.index.counts × (levels_size ≤ length levels.old) }
+) -> Result<Judged, Refusal>
+    requires limits { InLimits under.index.counts }
+    requires room { levels_size ≤ length levels.old }
     ensures levels_after { (d : Domain) → Governs store.now supplement.now under d
-        → (record { answer = answer_of result.judgement; levels = levels.new }
-        ≡ judgement levels.old (then (sheet_of under.index.counts.agents sheet.now) (λ steps. got (judge d steps))))
-        × (result.states ≡ states_in (then (sheet_of under.index.counts.agents sheet.now) (λ steps. got (judge d steps)))) }
+        → record { answer = counted_of result; levels = levels.new }
+        ≡ judgement levels.old (then (sheet_of under.index.counts.agents sheet.now) (λ steps. got (judge d steps))) }
+    ensures states { (d : Domain) → Governs store.now supplement.now under d
+        → states_counted result ≡ states_in (then (sheet_of under.index.counts.agents sheet.now) (λ steps. got (judge d steps))) }
     ensures bounded { Bounded under.index.counts.fluents levels.old result levels.new }
 {
     let counts = under.index.counts;
     let agents = counts.agents;
     if sheet.len() % agents != 0 {
-        return refused(Refusal::NotWhole);
+        return Err(Refusal::NotWhole);
     }
     let n = sheet.len() / agents;
     if Sheet::STEPS < n {
-        return refused(Refusal::TooLong);
+        return Err(Refusal::TooLong);
     }
     let mut history = [0i16; HISTORY];
-    let ran = judge_steps(store, supplement, under, sheet, n, &mut history);
-    copy_states(&mut history, ran.reached, counts.fluents, levels);
-    let verdict = ran.verdict;
-    Counted {
-        judgement: Judgement::Judged(verdict),
-        states: ran.reached,
-    }
+    let judged = judge_steps(store, supplement, under, sheet, n, &mut history);
+    copy_states(&mut history, judged.states, counts.fluents, levels);
+    Ok(judged)
 }
 
 // "Judge: 10, 15, 8, 9": the verdict, and the states reached in the levels buffer; a refusal touches nothing.
-pub fn judge(store: &[u8], sheet: &[u8], levels: &mut [i16]) -> Judgement
+pub fn judge(store: &[u8], sheet: &[u8], levels: &mut [i16]) -> Result<Verdict, Refusal>
     ensures { record { answer = answer_of result; levels = levels.new } ≡ judge_sheet store.now sheet.now levels.old }
 {
-    let counted = judge_counted(store, sheet, levels);
-    counted.judgement
+    let judged = judge_counted(store, sheet, levels)?;
+    Ok(judged.verdict)
 }
 
 // The same, with the number of states written: kind 7 or 9 at step n leaves n or n + 1 of them.
-pub fn judge_counted(store: &[u8], sheet: &[u8], levels: &mut [i16]) -> Counted
-    ensures { (record { answer = answer_of result.judgement; levels = levels.new } ≡ judge_sheet store.now sheet.now levels.old)
-        × (result.states ≡ states_written store.now sheet.now levels.old) }
+pub fn judge_counted(store: &[u8], sheet: &[u8], levels: &mut [i16]) -> Result<Judged, Refusal>
+    ensures levels_after { record { answer = counted_of result; levels = levels.new } ≡ judge_sheet store.now sheet.now levels.old }
+    ensures states { states_counted result ≡ states_written store.now sheet.now levels.old }
 {
     // "an empty supplement changes nothing"
     judge_under_counted(store, &store[..0], sheet, levels)
@@ -141,11 +122,11 @@ pub fn judge_under<'a>(
     supplement: &'a [u8],
     sheet: &[u8],
     levels: &mut [i16],
-) -> Judgement
+) -> Result<Verdict, Refusal>
     ensures { record { answer = answer_of result; levels = levels.new } ≡ judge_under store.now supplement.now sheet.now levels.old }
 {
-    let counted = judge_under_counted(store, supplement, sheet, levels);
-    counted.judgement
+    let judged = judge_under_counted(store, supplement, sheet, levels)?;
+    Ok(judged.verdict)
 }
 
 pub fn judge_under_counted<'a>(
@@ -153,9 +134,9 @@ pub fn judge_under_counted<'a>(
     supplement: &'a [u8],
     sheet: &[u8],
     levels: &mut [i16],
-) -> Counted
-    ensures { (record { answer = answer_of result.judgement; levels = levels.new } ≡ judge_under store.now supplement.now sheet.now levels.old)
-        × (result.states ≡ states_written_under store.now supplement.now sheet.now levels.old) }
+) -> Result<Judged, Refusal>
+    ensures levels_after { record { answer = counted_of result; levels = levels.new } ≡ judge_under store.now supplement.now sheet.now levels.old }
+    ensures states { states_counted result ≡ states_written_under store.now supplement.now sheet.now levels.old }
 {
     judge_found(
         store,
@@ -174,72 +155,57 @@ pub fn judge_found<'a>(
     under: Under,
     sheet: &[u8],
     levels: &mut [i16],
-) -> Counted
+) -> Result<Judged, Refusal>
     ensures levels_after { under ≡ under_in store.now supplement.now
-        → (record { answer = answer_of result.judgement; levels = levels.new } ≡ judge_under store.now supplement.now sheet.now levels.old)
-        × (result.states ≡ states_written_under store.now supplement.now sheet.now levels.old) }
+        → record { answer = counted_of result; levels = levels.new } ≡ judge_under store.now supplement.now sheet.now levels.old }
+    ensures states { under ≡ under_in store.now supplement.now
+        → states_counted result ≡ states_written_under store.now supplement.now sheet.now levels.old }
     ensures anyhow { Anyhow under levels.old result levels.new }
 {
     if levels.len() < LEVELS {
-        return refused(Refusal::NoRoom);
+        return Err(Refusal::NoRoom);
     }
     if !under.ok {
-        return refused(Refusal::NotDomain);
+        return Err(Refusal::NotDomain);
     }
     if !keeps_limits(under.index.counts) {
-        return refused(Refusal::NotDomain);
+        return Err(Refusal::NotDomain);
     }
     judge_by(store, supplement, under, sheet, levels)
 }
 
 // The numbers of every domain.
 fn keeps_limits(n: Counts) -> bool
-    ensures { KeepsLimits n result }
+    ensures { IsTrue result ↔ InLimits n }
 {
-    if n.agents == 0 {
-        return false;
-    }
-    if Counts::AGENTS < n.agents {
-        return false;
-    }
-    if Counts::FLUENTS < n.fluents {
-        return false;
-    }
-    if Counts::KNOWLEDGE < n.knowledge {
-        return false;
-    }
-    if Counts::ENTRIES < n.entries {
-        return false;
-    }
-    n.laws <= Counts::LAWS
+    n.agents != 0
+        && n.agents <= Counts::AGENTS
+        && n.fluents <= Counts::FLUENTS
+        && n.knowledge <= Counts::KNOWLEDGE
+        && n.entries <= Counts::ENTRIES
+        && n.laws <= Counts::LAWS
 }
 
 // The same without a supplement, of a sheet for so many agents: "10, 15, 16", then "8, 9". Who knows how many they are asks here,
 // and the store is looked at once.
-pub fn judge_for(agents: usize, store: &[u8], sheet: &[u8], levels: &mut [i16]) -> Counted
-    ensures { (record { answer = answer_of result.judgement; levels = levels.new } ≡ judge_for agents store.now sheet.now levels.old)
-        × (result.states ≡ states_written_for agents store.now sheet.now levels.old) }
+pub fn judge_for(
+    agents: usize,
+    store: &[u8],
+    sheet: &[u8],
+    levels: &mut [i16],
+) -> Result<Judged, Refusal>
+    ensures levels_after { record { answer = counted_of result; levels = levels.new } ≡ judge_for agents store.now sheet.now levels.old }
+    ensures states { states_counted result ≡ states_written_for agents store.now sheet.now levels.old }
 {
     if levels.len() < LEVELS {
-        return refused(Refusal::NoRoom);
+        return Err(Refusal::NoRoom);
     }
     let under = index_of(store, &store[..0]);
     if !under.ok {
-        return refused(Refusal::NotDomain);
+        return Err(Refusal::NotDomain);
     }
     if under.index.counts.agents != agents {
-        return refused(Refusal::OtherAgents);
+        return Err(Refusal::OtherAgents);
     }
     judge_by(store, &store[..0], under, sheet, levels)
-}
-
-// No state is written.
-fn refused(why: Refusal) -> Counted
-    ensures { result ≡ turned_back why }
-{
-    let judgement = Judgement::Refused(why);
-    Counted {
-        judgement,
-        states: 0,
-    }
 }

@@ -16,6 +16,6 @@ mod steps;
 mod verdict;
 
 pub use judgement::{
-    Counted, judge, judge_counted, judge_for, judge_found, judge_under, judge_under_counted,
+    judge, judge_counted, judge_for, judge_found, judge_under, judge_under_counted,
 };
-pub use verdict::{Fault, Judgement, Verdict};
+pub use verdict::{Fault, Judged, Verdict};

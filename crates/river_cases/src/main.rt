@@ -1,9 +1,9 @@
 // Document 01's cases of domain P, through the code: for each sheet the levels written, then the verdict; and under supplements.
-// It stands on `judge`, and on `number` for the bytes of a level.
+// It stands on `judge`.
 #![tactic(auto)]
 
-use bmap::{LEVELS, Sheet};
-use judge::{Counted, Judgement, Verdict};
+use bmap::{LEVELS, Refusal, Sheet};
+use judge::{Judged, Verdict};
 use std::io;
 use std::io::Write;
 
@@ -21,71 +21,51 @@ const NO_GOAL: [u8; 5] = [0xAF, 3, 4, 0xA9, 0x2A];
 // One step more than a sheet may have, of P's two agents.
 const TOO_LONG: usize = (Sheet::STEPS + 1) * 2;
 
-fn print<W: Write>(out: &mut W, text: &[u8]) -> io::Result<()> {
-    out.write_all(text)
-}
-
-fn print_number<W: Write>(out: &mut W, n: usize) -> io::Result<()> {
-    write!(out, "{n} ")
-}
-
-// P's levels are not negative, so their two bytes are the number.
-fn print_level<W: Write>(out: &mut W, levels: &[i16], k: usize) -> io::Result<()> {
-    if k < levels.len() {
-        let two = number::bytes_of(levels[k]);
-        print_number(out, two.high as usize * 256 + two.low as usize)?;
-    }
-    Ok(())
-}
-
-fn print_levels<W: Write>(out: &mut W, levels: &[i16], n: usize) -> io::Result<()> {
-    for k in 0..n {
-        print_level(out, levels, k)?;
-    }
-    Ok(())
-}
-
 fn print_verdict<W: Write>(out: &mut W, verdict: Verdict) -> io::Result<()> {
     match verdict {
-        Verdict::Accepted => print(out, b"accepted"),
+        Verdict::Accepted => write!(out, "accepted"),
         Verdict::Broken {
             fault,
             step,
             number,
         } => {
-            print(out, b"broken ")?;
-            print_number(out, fault.number())?;
-            print_number(out, step)?;
-            print_number(out, number)
+            let kind = fault.number();
+            write!(out, "broken {kind} {step} {number} ")
         }
     }
 }
 
-fn print_judged<W: Write>(out: &mut W, levels: &[i16], counted: Counted) -> io::Result<()> {
-    print_levels(out, levels, counted.states)?;
-    let judgement = counted.judgement;
-    match judgement {
-        Judgement::Refused(refusal) => {
-            print(out, b"refused ")?;
-            print_number(out, refusal.number())?;
+// P has one fluent, so a state is one level.
+fn print_judged<W: Write>(
+    out: &mut W,
+    levels: &[i16],
+    answer: Result<Judged, Refusal>,
+) -> io::Result<()> {
+    match answer {
+        Ok(judged) => {
+            for level in levels.iter().take(judged.states) {
+                write!(out, "{level} ")?;
+            }
+            print_verdict(out, judged.verdict)?;
         }
-        Judgement::Judged(verdict) => print_verdict(out, verdict)?,
+        Err(refusal) => {
+            let number = refusal.number();
+            write!(out, "refused {number} ")?;
+        }
     }
-    print(out, b"\n")
+    writeln!(out)
 }
 
 fn judged<W: Write>(out: &mut W, sheet: &[u8]) -> io::Result<()> {
-    let store = P;
     let mut levels = [0i16; LEVELS];
-    let counted = judge::judge_counted(&store, sheet, &mut levels);
-    print_judged(out, &levels, counted)
+    let answer = judge::judge_counted(&P, sheet, &mut levels);
+    print_judged(out, &levels, answer)
 }
 
 fn judged_under<W: Write>(out: &mut W, supplement: &[u8], sheet: &[u8]) -> io::Result<()> {
-    let store = P;
     let mut levels = [0i16; LEVELS];
-    let counted = judge::judge_under_counted(&store, supplement, sheet, &mut levels);
-    print_judged(out, &levels, counted)
+    let answer = judge::judge_under_counted(&P, supplement, sheet, &mut levels);
+    print_judged(out, &levels, answer)
 }
 
 fn main(rt: HostRuntime) -> io::Result<()> {

@@ -1,4 +1,4 @@
-use Prim.Native.Nat.{ℕ, ◌-◌}
+use Prim.Native.Nat.{ℕ}
 use mathlib.Core.Path.{◌≡◌}
 use mathlib.Core.Bool.{true}
 use lib.ListN.{drop}
@@ -9,7 +9,4 @@ use Rattle.judge.specs.Told.{Lawful, Own, Owned, Seen}
 use Rattle.judge.proofs.checks.check_entry.Given as goal
 
 abbrev pub invariant-loop-l : goal.invariant-loop-l
-invariant-loop-l l = (d : Domain) (h : History) (n : ℕ) → Lawful d l.held n → Own l.owners n l.i l.initial.l l.to → Owned d l.owners → Seen true d h l.history l.j → permitted d h l.j l.i 0 d.laws ≡ permitted d h l.j l.i l.l (drop l.l d.laws)
-
-abbrev pub decreases-loop-l : goal.decreases-loop-l
-decreases-loop-l l = l.to - l.l
+invariant-loop-l l = (d : Domain) (h : History) (n : ℕ) → Lawful d l.held n → Own l.owners n l.i l.fn.run → Owned d l.owners → Seen true d h l.history l.j → permitted d h l.j l.i 0 d.laws ≡ permitted d h l.j l.i l.l (drop l.l d.laws)

@@ -7,5 +7,5 @@ use Rattle.judge.proofs.checks.check_in_step.Goals as goal
 
 pub returns-then-run : goal.returns-then-run
 returns-then-run c = λ d h s n kind lawful within seen. let f = holds s (kind_of c.args.fault) h c.args.j in
-    sym (run_starts (λ k r. each_from k f r) d c.args.held.now n c.args.kind c.args.run.from c.args.run.to lawful within (others_pass d c.args.held.now s (kind_of c.args.fault) h c.args.j kind)
-    ∙ run_ends (λ k r. each_from k f r) d c.args.held.now n c.args.kind c.args.run.from c.args.run.to lawful within (others_pass d c.args.held.now s (kind_of c.args.fault) h c.args.j kind) c.args.run.from c.if-run.true (each_none f))
+    sym (run_starts (λ k r. each_from k f r) d c.args.held.now n c.args.kind c.args.run lawful within (others_pass d c.args.held.now s (kind_of c.args.fault) h c.args.j kind)
+    ∙ run_ends (λ k r. each_from k f r) d c.args.held.now n c.args.kind c.args.run lawful within (others_pass d c.args.held.now s (kind_of c.args.fault) h c.args.j kind) c.args.run.from c.if-run.true (each_none f))

@@ -1,12 +1,10 @@
-use Prim.Native.Nat.{◌-◌, ◌≤◌}
+use Prim.Native.Nat.{◌-◌}
 use mathlib.Core.Path.{◌≡◌}
-use lib.ListN.{get_or}
+use lib.ListN.{length, get_or}
 use lib.Dec.{eqb}
+use Rattle.index.specs.Index.{no_knowledge}
 use Rattle.judge.specs.Masks.{union_from}
 use Rattle.judge.proofs.knowledge.knowers_of.Given as goal
 
 abbrev pub invariant-loop-i : goal.invariant-loop-i
-invariant-loop-i l = (l.i ≤ l.n) × (l.agents ≡ union_from (λ k. eqb (get_or l.known k 0) l.f) l.knowers l.i (l.n - l.i))
-
-abbrev pub decreases-loop-i : goal.decreases-loop-i
-decreases-loop-i l = l.i
+invariant-loop-i l = l.agents ≡ union_from (λ k. eqb (get_or l.knowledge k no_knowledge).fluent l.f) (λ k. (get_or l.knowledge k no_knowledge).knowers) l.i (length l.knowledge - l.i)

@@ -3,4 +3,4 @@ use Rattle.judge.proofs.LandingLaws.{old_laid}
 use Rattle.judge.proofs.landing.old_levels.Goals as goal
 
 pub returns : goal.returns
-returns c = (c.loop-f.invariant.1.0, old_laid c.args.w c.args.j c.loop-f.f c.args.history.now c.loop-f.new (omega arith) c.loop-f.invariant.1.1)
+returns c = old_laid c.args.w c.args.j c.loop-f.f c.args.history.now c.loop-f.new (omega arith) c.loop-f.invariant.1

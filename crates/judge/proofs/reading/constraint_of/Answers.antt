@@ -1,8 +1,8 @@
-use Rattle.judge.proofs.ReadingLaws.{truth_told, judged_given, judged_malformed}
+use Rattle.judge.proofs.ReadingLaws.{truth_told, told_some, told_none}
 use Rattle.judge.proofs.reading.constraint_of.Goals as goal
 
-pub returns-in-Gives : goal.returns-in-Gives
-returns-in-Gives c = λ d h l p says at seen. (judged_given c.constraint_at.ensures c.in-Gives.is (truth_told d c.args.held.now p l h c.args.history.now c.args.j says at seen)).0
+pub returns-in-Some : goal.returns-in-Some
+returns-in-Some c = λ d h l p says at seen. (told_some c.constraint_at.ensures c.in-Some.is (truth_told d c.args.held.now p l h c.args.history.now c.args.j says at seen)).0
 
-pub returns-in-Malformed : goal.returns-in-Malformed
-returns-in-Malformed c = λ d h l p says at seen. absurd (judged_malformed c.constraint_at.ensures c.in-Malformed.is (truth_told d c.args.held.now p l h c.args.history.now c.args.j says at seen))
+pub returns-in-None : goal.returns-in-None
+returns-in-None c = λ d h l p says at seen. absurd (told_none c.constraint_at.ensures c.in-None.is (truth_told d c.args.held.now p l h c.args.history.now c.args.j says at seen))

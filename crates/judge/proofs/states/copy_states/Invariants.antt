@@ -1,10 +1,7 @@
-use Prim.Native.Nat.{◌-◌, ◌*◌, ◌≤◌}
+use Prim.Native.Nat.{◌*◌, ◌≤◌}
 use Rattle.bmap.specs.Limits.{most_fluents}
 use Rattle.judge.proofs.StateLaws.{Closed}
 use Rattle.judge.proofs.states.copy_states.Given as goal
 
 abbrev pub invariant-loop-k : goal.invariant-loop-k
-invariant-loop-k l = (l.k ≤ l.n) × ((l.at ≤ most_fluents * l.k) × Closed l.w l.k l.initial.history l.history l.at)
-
-abbrev pub decreases-loop-k : goal.decreases-loop-k
-decreases-loop-k l = l.n - l.k
+invariant-loop-k l = (l.at ≤ most_fluents * l.k) × Closed l.w l.k l.initial.history l.history l.at

@@ -1,20 +1,15 @@
--- The numbers of refusals, of faults and of verdicts are small. What a judgement answers, from what the judge promises.
-use Prim.Native.Nat.{ℕ, ◌≤◌, ◌<◌, ◌^◌}
+-- The numbers of refusals, of faults and of verdicts are small.
+use Prim.Native.Nat.{◌≤◌, ◌<◌, ◌^◌}
 use native.Mathlib.Omega.{arith}
-use mathlib.Core.Path.{◌≡◌, ap, ◌∙◌}
-use mathlib.Core.List.{List}
-use lib.IntN.{ℤ}
 use Rattle.bmap.specs.Refusal.{number_of}
 use Rattle.bmap.specs.declared.refusal.Refusal.{Refusal}
 use Rattle.bmap.specs.declared.refusal.Refusal.TheVariants.{BadLine, BadCount, BadKind, BadPayload, TooMany, Repeated, Incomplete, NotWhole, TooLong, NoRoom, NoStep, NothingStands, NothingUndone, LogFull, NotDomain, OtherAgents, NotSession, LongInput, TooManySheets, OtherLaw}
-use Rattle.bmap.specs.Verdict.{Judgement}
-use Rattle.judge.specs.Answer.{kind_of, verdict_of, answer_of}
-use Rattle.judge.specs.declared.judgement.Counted.{Counted}
+use Rattle.judge.specs.Answer.{kind_of, verdict_of}
 use Rattle.judge.specs.declared.verdict.Verdict.{Verdict}
 use Rattle.judge.specs.declared.verdict.Verdict.TheVariants.{Accepted, Broken}
 use Rattle.judge.specs.declared.verdict.Fault.{Fault}
 use Rattle.judge.specs.declared.verdict.Fault.TheVariants.{Misplaced, Barred, Concurrency, Conflict, Range, Static, ZeroDivisor, Goal, Beyond, TooFast}
-use Rattle.desk.specs.Numbers.{verdict_number, judged_number}
+use Rattle.desk.specs.Numbers.{verdict_number}
 
 pub number_small : (r : Refusal) → number_of r ≤ 20
 number_small BadLine = omega arith
@@ -54,11 +49,3 @@ kind_small TooFast = omega arith
 pub verdict_small : (v : Verdict) → verdict_number (verdict_of v) < 2 ^ 24
 verdict_small Accepted = omega arith
 verdict_small (Broken f step n) = omega (arith, kind_small f)
-
-pub judged_as : (counted : Counted) {r states : ℕ} {left : List ℤ} {j : Judgement}
-    → r ≡ judged_number counted.states (answer_of counted.judgement)
-    → record { answer = answer_of counted.judgement; levels = left } ≡ j
-    → counted.states ≡ states
-    → (r ≡ judged_number states j.answer) × (left ≡ j.levels)
-judged_as counted {states = states} number answered written =
-    (number ∙ (ap (λ (n : ℕ). judged_number n (answer_of counted.judgement)) written ∙ ap (λ (k : Judgement). judged_number states k.answer) answered), ap (λ (k : Judgement). k.levels) answered)

@@ -4,7 +4,6 @@ use Prim.Native.Nat.{ℕ, ◌+◌, ◌*◌, ◌/◌, ◌%◌, ◌<◌, ◌≤◌
 use native.Mathlib.Omega.{arith}
 use mathlib.Core.Path.{◌≡◌, refl, sym, ap, subst, ◌∙◌}
 use mathlib.Core.List.{List}
-use mathlib.Core.Option.{some}
 use lib.ListN.{length}
 use Rattle.bmap.specs.Refusal.{Answer, got, refused, number_of}
 use Rattle.bmap.specs.Limits.{most_agents, most_fluents, most_entries, most_laws, frame_size}
@@ -15,8 +14,8 @@ use Rattle.supplement.specs.Check.{place_in}
 use Rattle.supplement.specs.Force.{Stretch, stretch_of}
 use Rattle.supplement.proofs.Theorems.{in_force_low}
 use Rattle.judge.specs.Answer.{answer_of}
-use Rattle.judge.specs.declared.verdict.Judgement.{Judgement}
-use Rattle.judge.specs.declared.verdict.Judgement.TheVariants.{Refused, Judged}
+use Rattle.std.specs.Prelude.{Some, Result, Ok, Err}
+use Rattle.bmap.specs.declared.refusal.Refusal.{Refusal}
 use Rattle.judge.specs.declared.verdict.Verdict.{Verdict}
 use Rattle.judge.specs.declared.verdict.Verdict.TheVariants.{Accepted, Broken}
 use Rattle.desk.specs.Numbers.{found_number, refused_number, judged_number, four_bytes, size_number, accepted_kind, refused_kind, refusal_in, lower_half, mark_in, count_in, line_in, states_in, kind_in, step_in, number_in, stands_number, law_place_number, StretchIn, CountsIn}
@@ -63,13 +62,13 @@ unmarked answer h = (omega arith, omega arith)
 pub found_below : (n : ℕ) → found_number n < 2 ^ 31
 found_below n = omega arith
 
-pub judged_below : (states : ℕ) (v : Verdict) → judged_number states (answer_of (Judged v)) < 2 ^ 31
+pub judged_below : (states : ℕ) (v : Verdict) → judged_number states (answer_of (Ok v)) < 2 ^ 31
 judged_below states v = omega (arith, verdict_small v)
 
 pub counts_below : (n : Counts) → n.agents ≤ most_agents → n.fluents ≤ most_fluents → n.entries ≤ most_entries → n.laws ≤ most_laws → four_bytes n < 2 ^ 31
 counts_below n a f e l = omega arith
 
-pub size_below : (size : ℕ) → size ≤ frame_size → size_number (some size) < 2 ^ 31
+pub size_below : (size : ℕ) → size ≤ frame_size → size_number (Some size) < 2 ^ 31
 size_below size h = omega arith
 
 -- ---- what was found is read back
@@ -154,10 +153,10 @@ law_told store supplement n p e =
     (told p.stands (length p.bytes) low.place (omega (arith, low.size)))
 
 -- who looks at the kind alone, of the lower half alone, and reads "accepted", has an accepted sheet
-pub accepted_only : (states : ℕ) (j : Judgement) → kind_in (lower_half (judged_number states (answer_of j))) ≡ accepted_kind → j ≡ Judged Accepted
-accepted_only states (Refused why) e =
+pub accepted_only : (states : ℕ) (j : Result Verdict Refusal) → kind_in (lower_half (judged_number states (answer_of j))) ≡ accepted_kind → j ≡ Ok Accepted
+accepted_only states (Err why) e =
     let kind : kind_in (judged_number states (refused (number_of why))) ≡ refused_kind = refused_kind_lem states (number_of why) (omega (arith, number_small why)) in
     let half = half_kind (judged_number states (refused (number_of why))) in
     absurd (omega (arith, kind, half))
-accepted_only states (Judged Accepted) e = refl
-accepted_only states (Judged (Broken f step number)) e = absurd (omega (arith, kind_small f))
+accepted_only states (Ok Accepted) e = refl
+accepted_only states (Ok (Broken f step number)) e = absurd (omega (arith, kind_small f))

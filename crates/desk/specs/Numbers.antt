@@ -1,6 +1,5 @@
 -- The numbers by which the calls for C and Rust answer, in the paper's terms, and what a caller reads from them.
-use Rattle.std.specs.Prelude.{◌≡◌, ℕ, ◌+◌, ◌*◌, ◌/◌, ◌%◌, ◌^◌}
-use Rattle.std.proofs.Math.Option.{Option, none, some}
+use Rattle.std.specs.Prelude.{◌≡◌, ℕ, ◌+◌, ◌*◌, ◌/◌, ◌%◌, ◌^◌, Option, None, Some}
 use Rattle.bmap.specs.Refusal.{Answer, got, refused, Reading, read, refused_at}
 use Rattle.bmap.specs.Buffer.{bytes_written}
 use Rattle.bmap.specs.Domain.{Domain}
@@ -71,8 +70,8 @@ law_place_number (refused number) = refused_number number number
 
 -- a frame's size, 0 where there is none
 abbrev pub size_number : Option ℕ → ℕ
-size_number none = 0
-size_number (some size) = size
+size_number None = 0
+size_number (Some size) = size
 
 -- what a call on a session answers: 0, or the refusal
 abbrev pub done_number : Answer (Unit {0}) → ℕ

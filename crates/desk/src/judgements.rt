@@ -8,10 +8,10 @@ ghost use Rattle.session.specs.Verdict as session;
 ghost use Rattle.desk.specs.Numbers.{verdict_number, judged_number};
 
 use crate::parts::{FOURTH, SECOND, THIRD, refused};
-use bmap::Session;
-use judge::{Counted, Judgement, Verdict};
+use bmap::{Refusal, Session};
+use judge::{Judged, Verdict};
 
-// What stands for a fault's kind where there is none.
+// What stands for a fault's kind where there is none, since C is answered by one number.
 const ACCEPTED: u64 = 128;
 
 const REFUSED: u64 = 255;
@@ -31,13 +31,12 @@ fn verdict(found: Verdict) -> u64
 }
 
 // The number of states written, 7 bits, above the verdict.
-fn judged(given: Counted) -> u64
-    ensures { result ≡ judged_number given.states (answer.answer_of given.judgement) }
+fn judged(given: Result<Judged, Refusal>) -> u64
+    ensures { result ≡ judged_number (answer.states_counted given) (answer.counted_of given) }
 {
-    let judgement = given.judgement;
-    match judgement {
-        Judgement::Refused(why) => refused(why, REFUSED * THIRD + why.number() as u64),
-        Judgement::Judged(found) => given.states as u64 % 128 * FOURTH + verdict(found),
+    match given {
+        Ok(found) => found.states as u64 % 128 * FOURTH + verdict(found.verdict),
+        Err(why) => refused(why, REFUSED * THIRD + why.number() as u64),
     }
 }
 

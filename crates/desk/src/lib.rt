@@ -6,7 +6,6 @@
 mod domains;
 mod edits;
 mod judgements;
-mod numbered;
 mod parts;
 mod program;
 mod sheets;

@@ -2,14 +2,11 @@
 ghost use Rattle.std.specs.Prelude.{◌≡◌};
 ghost use Rattle.bmap.specs.Refusal.{number_of};
 ghost use Rattle.line.specs.Write as write;
-ghost use Rattle.domain.specs.Read.{reading_of};
+ghost use Rattle.line.specs.Read.{reading_of};
 ghost use Rattle.session.specs.Calls.{answer_of};
 ghost use Rattle.desk.specs.Numbers.{found_number, refused_number, read_number, written_number, done_number};
 
-use bmap::Refusal;
-use domain::ReadStore;
-use line::Written;
-use session::Outcome;
+use bmap::{ReadError, Refusal};
 
 // A refusal's number stands in the upper half of an answer.
 const HALF: u64 = 1 << 32;
@@ -45,30 +42,32 @@ pub(crate) fn refused(why: Refusal, with: u64) -> u64
     why.number() as u64 * HALF + (MARK + with % MARK)
 }
 
-// What a reader of lines into a store answers.
-pub(crate) fn read(answer: ReadStore) -> u64
+// What a reader of lines answers.
+pub(crate) fn read(answer: Result<usize, ReadError>) -> u64
     ensures { result ≡ read_number (reading_of answer) }
 {
     match answer {
-        ReadStore::Read(used) => counted(used),
-        ReadStore::Refused { refusal, line } => refused(refusal, line as u64),
+        Ok(count) => counted(count),
+        Err(error) => refused(error.refusal, error.line as u64),
     }
 }
 
-pub(crate) fn written(answer: Written) -> u64
+// What a writer answers.
+pub(crate) fn written(answer: Result<usize, Refusal>) -> u64
     ensures { result ≡ written_number (write.answer_of answer) }
 {
     match answer {
-        Written::Wrote(count) => counted(count),
-        Written::Refused(why) => refused(why, 0),
+        Ok(count) => counted(count),
+        Err(why) => refused(why, 0),
     }
 }
 
-pub(crate) fn done(outcome: Outcome) -> u64
+// What a call on a session answers.
+pub(crate) fn done(outcome: Result<(), Refusal>) -> u64
     ensures { result ≡ done_number (answer_of outcome) }
 {
     match outcome {
-        Outcome::Done => 0,
-        Outcome::Refused(why) => refused_alone(why),
+        Ok(()) => 0,
+        Err(why) => refused_alone(why),
     }
 }

@@ -1,20 +1,9 @@
 // Sheets, read and written.
 ghost use Rattle.std.specs.Prelude.{◌≡◌};
 ghost use Rattle.bmap.specs.Sheet.{read_sheet, write_sheet};
-ghost use Rattle.sheet.specs.Answer.{reading_of};
 ghost use Rattle.desk.specs.Numbers.{read_number, written_number};
 
-use crate::parts::{counted, refused, written};
-use sheet::ReadSheet;
-
-fn read(answer: ReadSheet) -> u64
-    ensures { result ≡ read_number (reading_of answer) }
-{
-    match answer {
-        ReadSheet::Read(steps) => counted(steps),
-        ReadSheet::Refused(why, line) => refused(why, line as u64),
-    }
-}
+use crate::parts::{read, written};
 
 #[unsafe(no_mangle)]
 pub extern "C" fn waroth_read_sheet(text: &[u8], agents: usize, buffer: &mut [u8]) -> u64

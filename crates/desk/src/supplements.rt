@@ -6,6 +6,7 @@ ghost use Rattle.supplement.specs.Force.{placed, stretch_of};
 ghost use Rattle.desk.specs.Numbers.{read_number, written_number, law_place_number};
 
 use crate::parts::{FOURTH, SECOND, read, refused_alone, written};
+use bmap::Refusal;
 use supplement::LawPlace;
 
 #[unsafe(no_mangle)]
@@ -16,15 +17,15 @@ pub extern "C" fn waroth_read_supplement(store: &[u8], text: &[u8], supplement: 
 }
 
 // Where a law's payload stands: a bit for the supplement, two bytes for the place, one for the size.
-fn stands(place: LawPlace) -> u64
+fn stands(place: Result<LawPlace, Refusal>) -> u64
     ensures { result ≡ law_place_number (placed place) }
 {
     match place {
-        LawPlace::InDomain { at, size } => at as u64 % 65_536 * SECOND + size as u64 % 256,
-        LawPlace::InSupplement { at, size } => {
+        Ok(LawPlace::InDomain { at, size }) => at as u64 % 65_536 * SECOND + size as u64 % 256,
+        Ok(LawPlace::InSupplement { at, size }) => {
             FOURTH + (at as u64 % 65_536 * SECOND + size as u64 % 256)
         }
-        LawPlace::Refused(why) => refused_alone(why),
+        Err(why) => refused_alone(why),
     }
 }
 

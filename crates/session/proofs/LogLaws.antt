@@ -74,10 +74,6 @@ unfolding logged_all
 length_all [] s = refl
 length_all (e ∷ es) s = omega (arith, length-append (logged e) (logged_all es), length_logged e s.0, length_all es s.1)
 
-pub short_join : (xs ys : List Edit) → AllShort xs → AllShort ys → AllShort (xs ++ ys)
-short_join [] ys f g = g
-short_join (x ∷ xs) ys f g = (f.0, short_join xs ys f.1 g)
-
 pub take_short : (j : ℕ) (l : List ℕ) → length (take j l) ≤ j
 take_short zero l = omega arith
 take_short (suc j) [] = omega arith

@@ -57,7 +57,7 @@ edit_keeps e m m' r h =
       sheet = t;
       leaves = ap (λ (es : List Edit). replayed m.agents es []) (append-nil (m.standing ++ (e ∷ []))) ∙ one_more m.agents m.standing e [] (standing_sheet m) (stands m r) ∙ q;
     })
-    by_sheet l (refused n) q g = absurd (let z : ◌≡◌ {A = ℕ} 0 1 = cc in omega arith)
+    by_sheet l (refused n) q g = absurd cc
 
 moved_keeps : (m : Model) (k : ℕ) → Reachable m → Reachable (moved m k)
 moved_keeps m k r = record {
@@ -122,7 +122,7 @@ all_fit n (e ∷ es) s t h = by_answer (λ u. all_fit n es u t) (edited n e s) r
   where
     by_answer : ((u : List Names) → replayed n es u ≡ got t → AllFit n es) → (a : Answer (List Names)) → edited n e s ≡ a → then a (replayed n es) ≡ got t → Fit n e × AllFit n es
     by_answer ih (got u) q g = (fits n e s u q, ih u g)
-    by_answer ih (refused m) q g = absurd (let z : ◌≡◌ {A = ℕ} 0 1 = cc in omega arith)
+    by_answer ih (refused m) q g = absurd cc
 
 left_fit : (n : ℕ) (xs ys : List Edit) → AllFit n (xs ++ ys) → AllFit n xs
 left_fit n [] ys f = tt

@@ -1,19 +1,22 @@
 -- What `is_open` says of a session's bytes: they are the layout of the model that they hold.
 -- Assumes nothing.
-use mathlib.Core.Path.{◌≡◌, refl, sym, ap, ◌∙◌}
-use mathlib.Core.Bool.{Bool, true, false}
+use mathlib.Core.Path.{◌≡◌, refl, sym, ap, subst, ◌∙◌}
+use mathlib.Core.Bool.{Bool, true, false, ◌&&◌}
 use mathlib.Core.List.{List, [], ◌++◌}
 use Prim.Native.Nat.{ℕ, ◌+◌, ◌-◌, ◌*◌, ◌≤◌}
 use native.Mathlib.Omega.{arith}
 use lib.Dec.{eqb, leb}
+use lib.Pointwise.{pointwise, bytes_decides}
 use lib.ListN.{length, take, drop, replicate, length-drop, take-append-drop}
 use lib.Seq.{take_at, drop_at}
+use Rattle.std.proofs.lemmas.Bool.{and_from, and_parts}
 use borrow.Author.Tests.{eq-eqb, eqb-true, leb-true, le-leb}
 use Rattle.bmap.specs.Plain.{both}
 use Rattle.bmap.specs.Refusal.{Answer, got, refused, is_got, or_else}
 use Rattle.bmap.specs.Buffer.{padded}
 use Rattle.bmap.specs.Store.{zeros}
 use Rattle.bmap.specs.Session.{Edit, Model, standing_sheet, replayed, logged_all, edits_from, model_of, layout, same_bytes, same_session, replays, is_open}
+use Rattle.bmap.specs.declared.limits.Sheet.{Sheet}
 use Rattle.bmap.specs.declared.session.Session.{Session}
 use Rattle.session.specs.Log.{Sound, Holds, Reached}
 use Rattle.session.proofs.ListLaws.{is_false, same_refl, same_eq}
@@ -21,6 +24,17 @@ use Rattle.bmap.proofs.PlainLaws.{both_true}
 use Rattle.line.proofs.Lists.{zeros_are, zeros_replicate}
 use Rattle.session.proofs.SheetLaws.{page}
 use Rattle.session.proofs.LogLaws.{length_edits, edits_upto, length_edits_logged, sound_sheet, sound_prefix}
+
+-- ---- two sheets compared, as `==` does
+pub like_sheet : (x y : Sheet) → x ≡ y → (eqb x.steps y.steps && pointwise eqb x.names y.names) ≡ true
+like_sheet x y e =
+    and_from _ _ (eq-eqb x.steps y.steps (ap (λ (z : Sheet). z.steps) e)) ((bytes_decides x.names y.names).1 (ap (λ (z : Sheet). z.names) e))
+
+pub sheet_like : (x y : Sheet) → (eqb x.steps y.steps && pointwise eqb x.names y.names) ≡ true → x ≡ y
+sheet_like x y h =
+    let p = and_parts _ _ h in
+    let b = (bytes_decides x.names y.names).0 p.1 in
+    λ i. record { steps = eqb-true x.steps y.steps p.0 i; names = b i }
 
 -- ---- two sessions compared
 pub same_session_lem : (s t : Session) → s ≡ t → same_session s t ≡ true
@@ -48,7 +62,7 @@ session_same s t h =
 
 pub is_got_lem : {A : Type 0} (a : Answer A) → is_got a ≡ true → (x : A) × (a ≡ got x)
 is_got_lem (got x) h = (x, refl)
-is_got_lem (refused n) h = absurd (let z : ◌≡◌ {A = ℕ} 0 1 = cc in omega arith)
+is_got_lem (refused n) h = absurd cc
 
 -- ---- the model that a session's bytes hold
 abbrev pub every : Model → List Edit
@@ -77,7 +91,7 @@ sheet_standing s a = ap (or_else []) a.leaves
 -- ---- the bytes, one by one
 pub record Kept (s : Session) : Type 0 where
   pub sound : Sound s.agents s.total s.log
-  pub stands : Reached s.agents s.standing s.log s.sheet.steps s.sheet.names
+  pub stands : Reached s.agents s.standing s.log s.sheet
   pub tail : zeros (drop (s.total * 18) s.log) ≡ true
 
 abbrev pub kept : Session → Bool
@@ -145,7 +159,7 @@ module _ (s : Session) (few : s.agents ≤ 16) (below : s.standing ≤ s.total) 
           leaves = ap (λ (x : List Edit). replayed n x []) (sym (every_edit s below)) ∙ ap (λ (x : ℕ). replayed x (every (model_of s)) []) (sym (agents_kept s)) ∙ p.1;
         }
 
-    held : (a : Sound n s.standing s.log) → Holds a.sheet s.sheet.steps s.sheet.names
+    held : (a : Sound n s.standing s.log) → Holds a.sheet s.sheet
     unfolding layout
     held a =
         let sh : standing_sheet (model_of s) ≡ a.sheet = sheet_standing s a in
@@ -170,27 +184,19 @@ module _ (s : Session) (few : s.agents ≤ 16) (below : s.standing ≤ s.total) 
   pub not_all : (Sound n s.total s.log → ⊥) → false ≡ kept s
   not_all f = is_false (kept s) (λ h. f (true_kept h).sound)
 
-  module _ (steps : ℕ) (names : List ℕ) (a : Reached n s.standing s.log steps names) where
+  module _ (sheet : Sheet) (a : Reached n s.standing s.log sheet) where
     same_sheet : (h : kept s ≡ true) → a.sound.sheet ≡ (true_kept h).stands.sound.sheet
     same_sheet h = sound_sheet n s.log s.standing a.sound (true_kept h).stands.sound
 
-    pub other_count : (steps ≡ s.sheet.steps → ⊥) → false ≡ kept s
-    other_count f = is_false (kept s) (λ h. f (a.holds.count ∙ ap length (same_sheet h) ∙ sym (true_kept h).stands.holds.count))
+    pub other_sheet : (sheet ≡ s.sheet → ⊥) → false ≡ kept s
+    other_sheet f = is_false (kept s) (λ h. f (λ i. record {
+      steps = (a.holds.count ∙ ap length (same_sheet h) ∙ sym (true_kept h).stands.holds.count) i;
+      names = (a.holds.bytes ∙ ap page (same_sheet h) ∙ sym (true_kept h).stands.holds.bytes) i;
+    }))
 
-    pub other_names : (t : Bool) → (names ≡ s.sheet.names → t ≡ true) → t ≡ false → false ≡ kept s
-    other_names t f z = is_false (kept s) (λ h.
-        let e = f (a.holds.bytes ∙ ap page (same_sheet h) ∙ sym (true_kept h).stands.holds.bytes) in
-        let y : ◌≡◌ {A = ℕ} 0 1 = cc in omega arith)
-
-    pub by_tail : length s.log ≡ 3600 → steps ≡ s.sheet.steps → names ≡ s.sheet.names → Sound n s.total s.log → (t : Bool) → t ≡ zeros (drop (s.total * 18) s.log) → t ≡ kept s
-    by_tail len c b d true e = kept_true len (record {
-      sound = d;
-      stands = record { sound = a.sound; holds = record { count = sym c ∙ a.holds.count; bytes = sym b ∙ a.holds.bytes } };
-      tail = sym e;
-    })
-    by_tail len c b d false e = is_false (kept s) (λ h.
-        let z = (true_kept h).tail in
-        let y : ◌≡◌ {A = ℕ} 0 1 = cc in omega arith)
+    pub by_tail : length s.log ≡ 3600 → sheet ≡ s.sheet → Sound n s.total s.log → (t : Bool) → t ≡ zeros (drop (s.total * 18) s.log) → t ≡ kept s
+    by_tail len c d true e = kept_true len (record { sound = d; stands = subst (Reached n s.standing s.log) c a; tail = sym e })
+    by_tail len c d false e = is_false (kept s) (λ h. let z = (true_kept h).tail in absurd cc)
 
 -- ---- the whole test
 pub record Open (s : Session) : Type 0 where
@@ -248,3 +254,5 @@ pub stuck_open : (s : Session) → limits s ≡ true → (k : ℕ) → k ≤ s.s
 stuck_open s h k l f =
     let w = within s h in
     sym (inside s h false (not_standing s w.few w.below w.short (λ a. f (sound_prefix s.agents s.log w.few k s.standing l a))))
+
+pub ruleset open_as = (outside, within, inside, stuck_open)

@@ -225,7 +225,7 @@ module _ (n : ℕ) where
     where
       by_answer : (a : Answer (List Names)) → then a (replayed n ys) ≡ got t → (u : List Names) × (a ≡ got u)
       by_answer (got u) g = (u, refl)
-      by_answer (refused m) g = absurd (let z : ◌≡◌ {A = ℕ} 0 1 = cc in omega arith)
+      by_answer (refused m) g = absurd cc
 
   pub replayed_fits : (es : List Edit) (s t : List Names) → replayed n es s ≡ got t → Fits n s → Fits n t
   unfolding replayed
@@ -234,7 +234,7 @@ module _ (n : ℕ) where
     where
       by_answer : ((u v : List Names) → replayed n es u ≡ got v → Fits n u → Fits n v) → (a : Answer (List Names)) → edited n e s ≡ a → then a (replayed n es) ≡ got t → Fits n t
       by_answer ih (got u) q g = ih u t g (edited_fits e s u q f)
-      by_answer ih (refused m) q g = absurd (let z : ◌≡◌ {A = ℕ} 0 1 = cc in omega arith)
+      by_answer ih (refused m) q g = absurd cc
 
 -- ---- the steps are read back from the bytes
 pub rows_of : (n : ℕ) (ss : List Names) (rest : List ℕ) → Width n ss → rows n (length ss) (flat ss ++ rest) ≡ ss

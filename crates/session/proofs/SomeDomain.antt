@@ -1,7 +1,7 @@
 -- An accepted domain for each number of agents: one fluent, one entry of agent 0, which may always occur; and the agents of
 -- any accepted domain are 1 to 16.
 -- Assumes nothing.
-use mathlib.Core.Path.{◌≡◌, refl, ap, subst}
+use mathlib.Core.Path.{◌≡◌, refl}
 use mathlib.Core.List.{List, [], ◌∷◌}
 use Prim.Native.Nat.{ℕ, zero, suc, ◌≤◌}
 use native.Mathlib.Omega.{arith}
@@ -15,8 +15,7 @@ use Rattle.bmap.specs.Domain.{Domain, executable}
 use Rattle.bmap.specs.Payload.{mask_fits, agents_fit, limit_fits, fluent_fits, entry_fits, executable_in, law_in, item_in}
 use Rattle.bmap.specs.Accept.{in_order, room, fresh, checked, accept, complete, taken_from}
 use Rattle.bmap.specs.Store.{frames_from, frame_at, stands_at, domain_in}
-use Rattle.domain.specs.declared.found.Found.{Found}
-use Rattle.domain.specs.Found.{index_with, found_in}
+use Rattle.domain.specs.Found.{index_with}
 use Rattle.domain.proofs.Accepted.{found_got, found_ok}
 
 -- A1 n; A2 lowest, highest and start 0; A4 name 1, mask 1; A5 entry 0, true
@@ -56,8 +55,4 @@ domain_for_lem (suc (suc (suc (suc (suc (suc (suc (suc (suc (suc (suc (suc (suc 
 -- ---- the agents of an accepted domain
 pub accepted_agents : (store : List ℕ) (d : Domain) → domain_in store ≡ got d → (1 ≤ d.agents) × (d.agents ≤ 16)
 unfolding index_with
-accepted_agents store d g =
-    let f = found_got store d g in
-    let here = found_ok store (ap (λ (x : Found). x.ok) f) in
-    let a : (found_in store).index.counts.agents ≡ d.agents = ap (λ (x : Found). x.index.counts.agents) f in
-    (subst (λ (n : ℕ). 1 ≤ n) a here.sound.some_agent, subst (λ (n : ℕ). n ≤ 16) a here.sound.agents)
+accepted_agents store d g = let here = found_ok store _ (found_got store d g) in (here.sound.some_agent, here.sound.agents)

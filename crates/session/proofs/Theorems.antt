@@ -21,10 +21,10 @@ use Rattle.bmap.specs.Session.{Edit, Model, standing_sheet, edited, edit, undo, 
 use Rattle.bmap.specs.Theorems.{OpenExactly, SheetsStand}
 use Rattle.bmap.proofs.RefusalLaws.{same_refusal}
 use Rattle.bmap.specs.declared.session.Session.{Session}
-use Rattle.session.specs.declared.Outcome.{Outcome}
-use Rattle.session.specs.declared.Outcome.TheVariants.{Done, Refused}
-use Rattle.session.specs.declared.Change.{Change}
-use Rattle.session.specs.Calls.{answer_of, changed_of, leaves}
+use Rattle.std.specs.Prelude.{Result, Ok, Err}
+use Rattle.bmap.specs.declared.refusal.Refusal.{Refusal}
+use Rattle.session.specs.declared.opening.Change.{Change}
+use Rattle.session.specs.Calls.{answer_of, changed_of, changed_on, leaves}
 use Rattle.bmap.specs.Series.{Called, called_by, called, session_after, replies_of}
 use Rattle.line.proofs.Answers.{need_got}
 use Rattle.session.proofs.SheetLaws.{got_inj, one_more, prefix_got}
@@ -183,7 +183,7 @@ edit_agents e m m' h = by_sheet (edited m.agents e (standing_sheet m)) (need_got
   where
     by_sheet : (a : Answer (List Names)) → then a (λ _. got (added e m)) ≡ got m' → m'.agents ≡ m.agents
     by_sheet (got t) g = ap (λ (x : Model). x.agents) (sym (got_inj (added e m) m' g))
-    by_sheet (refused n) g = absurd (let z : ◌≡◌ {A = ℕ} 0 1 = cc in omega arith)
+    by_sheet (refused n) g = absurd cc
 
 turn_agents : (c : Call) (m : Model) → (turn c m).model.agents ≡ m.agents
 unfolding turn undo redo
@@ -217,11 +217,11 @@ demand_3 store d calls a =
     }
 
 -- ---- an answer is the only one that keeps its promise
-pub same_outcome : (a b : Outcome) → answer_of a ≡ answer_of b → a ≡ b
-same_outcome Done Done h = refl
-same_outcome Done (Refused q) h = cc
-same_outcome (Refused r) Done h = cc
-same_outcome (Refused r) (Refused q) h = let n : number_of r ≡ number_of q = cc in ap Refused (same_refusal r q n)
+pub same_outcome : (a b : Result (Unit {0}) Refusal) → answer_of a ≡ answer_of b → a ≡ b
+same_outcome (Ok x) (Ok y) h = refl
+same_outcome (Ok x) (Err q) h = cc
+same_outcome (Err r) (Ok y) h = cc
+same_outcome (Err r) (Err q) h = let n : number_of r ≡ number_of q = cc in ap Err (same_refusal r q n)
 
 pub same_change : (a b : Change) → changed_of a ≡ changed_of b → a ≡ b
 same_change a b h =
@@ -229,6 +229,13 @@ same_change a b h =
     let s : a.session ≡ b.session = ap (λ (x : Changed). x.session) h in
     λ i. record { outcome = o i; session = s i }
 
+-- and what a call by value returns
+pub same_value : (s : Session) (a b : Result Session Refusal) → changed_on s a ≡ changed_on s b → a ≡ b
+same_value s (Ok x) (Ok y) h = ap Ok (ap (λ (x : Changed). x.session) h)
+same_value s (Ok x) (Err q) h = let e : got tt ≡ refused (number_of q) = ap (λ (x : Changed). x.answer) h in cc
+same_value s (Err r) (Ok y) h = let e : refused (number_of r) ≡ got tt = ap (λ (x : Changed). x.answer) h in cc
+same_value s (Err r) (Err q) h = ap Err (same_refusal r q (let e : ◌≡◌ {A = Answer (Unit {0})} (refused (number_of r)) (refused (number_of q)) = ap (λ (x : Changed). x.answer) h in cc))
+
 -- and the session that a call was lent has one value after it
-pub same_left : (a b : Outcome) (s t : Session) → leaves a s ≡ leaves b t → (a ≡ b) × (s ≡ t)
+pub same_left : (a b : Result (Unit {0}) Refusal) (s t : Session) → leaves a s ≡ leaves b t → (a ≡ b) × (s ≡ t)
 same_left a b s t h = (same_outcome a b (ap (λ (x : Changed). x.answer) h), ap (λ (x : Changed). x.session) h)

@@ -9,44 +9,45 @@ use lib.Dec.{eqb, ltb, leb}
 use lib.ListN.{length, take, drop, set, replicate, length-append, length-set, length-drop, take-append-drop}
 use lib.Seq.{length-take-le, drop-drop, drop_at}
 use borrow.Author.Tests.{eqb-true, ltb-true, leb-true, eqb-false, eq-eqb, ne_eqb, lt-ltb, le-leb}
+use Rattle.std.proofs.lemmas.List.{take-replicate}
 use Rattle.bmap.specs.Plain.{both, if_else}
 use Rattle.bmap.specs.Refusal.{got}
 use Rattle.bmap.specs.Domain.{Names}
 use Rattle.bmap.specs.Buffer.{padded}
 use Rattle.bmap.specs.Store.{zeros}
 use Rattle.bmap.specs.Session.{Edit, enter, strike, amend, edited, logged}
+use Rattle.std.specs.Prelude.{Option, None, Some}
 use Rattle.session.specs.declared.log.Place.{Place}
-use Rattle.session.specs.declared.log.Place.TheVariants.{Nowhere, Step}
-use Rattle.session.specs.Log.{laid, place_of, target_of}
-use Rattle.session.proofs.ListLaws.{never, take_replicate}
+use Rattle.session.specs.Log.{laid, place_if, place_of, target_of}
+use Rattle.session.proofs.ListLaws.{never}
 use Rattle.bmap.proofs.PlainLaws.{both_true}
 use Rattle.line.proofs.Lists.{zeros_are, zeros_replicate}
 use Rattle.session.proofs.SheetLaws.{Fits, page, enter_got, strike_got, amend_got, enter_asks, strike_asks, amend_asks, enter_page, strike_page, amend_page}
 use Rattle.session.proofs.LogLaws.{edit_at}
 
 -- what a place says of an entry's edit
-pub record Turned (n : ℕ) (entry : List ℕ) (s : List Names) (j c : ℕ) : Type 0 where
+pub record Turned (n : ℕ) (entry : List ℕ) (s : List Names) (p : Place) : Type 0 where
   pub sheet : List Names
   pub written : entry ≡ logged (edit_at n entry)
   pub does : edited n (edit_at n entry) s ≡ got sheet
-  pub count : c ≡ length sheet
-  pub bytes : laid (page s) (j * n) (take n (drop 2 entry)) ≡ page sheet
-  pub low : j < 64
+  pub count : p.steps ≡ length sheet
+  pub bytes : laid (page s) (p.step * n) (take n (drop 2 entry)) ≡ page sheet
+  pub low : p.step < 64
 
 -- ---- a place, by cases
-place_inv : (b : Bool) (j c j' c' : ℕ) → if_else b (Step j c) Nowhere ≡ Step j' c' → (b ≡ true) × (j ≡ j') × (c ≡ c')
-place_inv true j c j' c' h = (refl, cc, cc)
-place_inv false j c j' c' h = absurd (let z : ◌≡◌ {A = ℕ} 0 1 = cc in omega arith)
+pub place_inv : (b : Bool) (j c : ℕ) (p : Place) → place_if b j c ≡ Some p → (b ≡ true) × (j ≡ p.step) × (c ≡ p.steps)
+place_inv true j c p h = let e : ◌≡◌ {A = Place} (record { step = j; steps = c }) p = cc in (refl, ap (λ (x : Place). x.step) e, ap (λ (x : Place). x.steps) e)
+place_inv false j c p h = absurd cc
 
-place_none : (b : Bool) (j c : ℕ) → if_else b (Step j c) Nowhere ≡ Nowhere → b ≡ false
-place_none true j c h = absurd (let z : ◌≡◌ {A = ℕ} 0 1 = cc in omega arith)
+pub place_none : (b : Bool) (j c : ℕ) → place_if b j c ≡ None → b ≡ false
+place_none true j c h = cc
 place_none false j c h = refl
 
-nested : (a b : Bool) (x : Place) → if_else a (if_else b x Nowhere) Nowhere ≡ if_else (both a b) x Nowhere
-nested true b x = refl
-nested false b x = refl
+nested : (a b : Bool) (j c : ℕ) → if_else a (place_if b j c) None ≡ place_if (both a b) j c
+nested true b j c = refl
+nested false b j c = refl
 
-nowhere : (a : Bool) → if_else a Nowhere Nowhere ≡ Nowhere
+nowhere : (a : Bool) → if_else {A = Option Place} a None None ≡ None
 nowhere true = refl
 nowhere false = refl
 
@@ -76,19 +77,19 @@ module _ (n : ℕ) (few : n ≤ 16) (k m : ℕ) (rest : List ℕ) (len : length 
   names_padded e = ap (λ (l : List ℕ). zeros (drop n l)) e ∙ rw (drop_at names (replicate (16 - length names) 0) n wide) (zeros_replicate (16 - length names))
 
   -- ---- the code's test, by the kind
-  target_1 : (steps : ℕ) → k ≡ 1 → target_of n entry steps ≡ if_else (both (zeros (drop n rest)) (both (eqb m 0) (ltb steps 64))) (Step steps (steps + 1)) Nowhere
+  target_1 : (steps : ℕ) → k ≡ 1 → target_of n entry steps ≡ place_if (both (zeros (drop n rest)) (both (eqb m 0) (ltb steps 64))) steps (steps + 1)
   unfolding target_of place_of
-  target_1 steps e = rw (ne_eqb k 2 (omega arith), eq-eqb k 1 e, after) (nested (zeros (drop n rest)) (both (eqb m 0) (ltb steps 64)) (Step steps (steps + 1)))
+  target_1 steps e = rw (ne_eqb k 2 (omega arith), eq-eqb k 1 e, after) (nested (zeros (drop n rest)) (both (eqb m 0) (ltb steps 64)) steps (steps + 1))
 
-  target_2 : (steps : ℕ) → k ≡ 2 → target_of n entry steps ≡ if_else (both (zeros rest) (both (eqb m 0) (ltb 0 steps))) (Step (steps - 1) (steps - 1)) Nowhere
+  target_2 : (steps : ℕ) → k ≡ 2 → target_of n entry steps ≡ place_if (both (zeros rest) (both (eqb m 0) (ltb 0 steps))) (steps - 1) (steps - 1)
   unfolding target_of place_of
-  target_2 steps e = rw (eq-eqb k 2 e, ne_eqb k 1 (omega arith)) (nested (zeros rest) (both (eqb m 0) (ltb 0 steps)) (Step (steps - 1) (steps - 1)))
+  target_2 steps e = rw (eq-eqb k 2 e, ne_eqb k 1 (omega arith)) (nested (zeros rest) (both (eqb m 0) (ltb 0 steps)) (steps - 1) (steps - 1))
 
-  target_3 : (steps : ℕ) → k ≡ 3 → target_of n entry steps ≡ if_else (both (zeros (drop n rest)) (both (ltb 0 m) (leb m steps))) (Step (m - 1) steps) Nowhere
+  target_3 : (steps : ℕ) → k ≡ 3 → target_of n entry steps ≡ place_if (both (zeros (drop n rest)) (both (ltb 0 m) (leb m steps))) (m - 1) steps
   unfolding target_of place_of
-  target_3 steps e = rw (ne_eqb k 2 (omega arith), ne_eqb k 1 (omega arith), eq-eqb k 3 e, after) (nested (zeros (drop n rest)) (both (ltb 0 m) (leb m steps)) (Step (m - 1) steps))
+  target_3 steps e = rw (ne_eqb k 2 (omega arith), ne_eqb k 1 (omega arith), eq-eqb k 3 e, after) (nested (zeros (drop n rest)) (both (ltb 0 m) (leb m steps)) (m - 1) steps)
 
-  target_other : (steps : ℕ) → (k ≡ 1 → ⊥) → (k ≡ 2 → ⊥) → (k ≡ 3 → ⊥) → target_of n entry steps ≡ Nowhere
+  target_other : (steps : ℕ) → (k ≡ 1 → ⊥) → (k ≡ 2 → ⊥) → (k ≡ 3 → ⊥) → target_of n entry steps ≡ None
   unfolding target_of place_of
   target_other steps a b d = rw (ne_eqb k 1 a, ne_eqb k 2 b, ne_eqb k 3 d) (nowhere (zeros (drop (2 + n) entry)))
 
@@ -103,10 +104,10 @@ module _ (n : ℕ) (few : n ≤ 16) (k m : ℕ) (rest : List ℕ) (len : length 
   edit_3 e = rw (ne_eqb k 1 (omega arith), eq-eqb k 3 e)
 
   module _ (s : List Names) (f : Fits n s) where
-    turned_1 : (j c : ℕ) → k ≡ 1 → target_of n entry (length s) ≡ Step j c → Turned n entry s j c
+    turned_1 : (spot : Place) → k ≡ 1 → target_of n entry (length s) ≡ Some spot → Turned n entry s spot
     unfolding logged
-    turned_1 j c e h =
-        let p = place_inv _ _ _ j c (sym (target_1 (length s) e) ∙ h) in
+    turned_1 spot e h =
+        let p = place_inv _ _ _ spot (sym (target_1 (length s) e) ∙ h) in
         let q = both_true (zeros (drop n rest)) (both (eqb m 0) (ltb (length s) 64)) p.0 in
         let r = both_true (eqb m 0) (ltb (length s) 64) q.1 in
         let z : m ≡ 0 = eqb-true m 0 r.0 in
@@ -121,17 +122,17 @@ module _ (n : ℕ) (few : n ≤ 16) (k m : ℕ) (rest : List ℕ) (len : length 
           low = rw (← p.1) b;
         }
 
-    turned_2 : (j c : ℕ) → k ≡ 2 → target_of n entry (length s) ≡ Step j c → Turned n entry s j c
+    turned_2 : (spot : Place) → k ≡ 2 → target_of n entry (length s) ≡ Some spot → Turned n entry s spot
     unfolding logged
-    turned_2 j c e h =
-        let p = place_inv _ _ _ j c (sym (target_2 (length s) e) ∙ h) in
+    turned_2 spot e h =
+        let p = place_inv _ _ _ spot (sym (target_2 (length s) e) ∙ h) in
         let q = both_true (zeros rest) (both (eqb m 0) (ltb 0 (length s))) p.0 in
         let r = both_true (eqb m 0) (ltb 0 (length s)) q.1 in
         let z : m ≡ 0 = eqb-true m 0 r.0 in
         let b : 0 < length s = ltb-true 0 (length s) r.1 in
         let a : rest ≡ replicate 16 0 = zeros_are rest q.0 ∙ ap (λ (i : ℕ). replicate i 0) len in
         let ed : edit_at n entry ≡ strike = edit_2 (omega arith) (omega arith) in
-        let idle : names ≡ replicate n 0 = ap (take n) a ∙ take_replicate n 16 0 few in
+        let idle : names ≡ replicate n 0 = ap (take n) a ∙ take-replicate n 16 0 few in
         let l : length s ≤ 64 = f.1 in
         let g : length s - 1 ≤ length s = omega arith in
         record {
@@ -143,10 +144,10 @@ module _ (n : ℕ) (few : n ≤ 16) (k m : ℕ) (rest : List ℕ) (len : length 
           low = rw (← p.1) (omega arith);
         }
 
-    turned_3 : (j c : ℕ) → k ≡ 3 → target_of n entry (length s) ≡ Step j c → Turned n entry s j c
+    turned_3 : (spot : Place) → k ≡ 3 → target_of n entry (length s) ≡ Some spot → Turned n entry s spot
     unfolding logged
-    turned_3 j c e h =
-        let p = place_inv _ _ _ j c (sym (target_3 (length s) e) ∙ h) in
+    turned_3 spot e h =
+        let p = place_inv _ _ _ spot (sym (target_3 (length s) e) ∙ h) in
         let q = both_true (zeros (drop n rest)) (both (ltb 0 m) (leb m (length s))) p.0 in
         let r = both_true (ltb 0 m) (leb m (length s)) q.1 in
         let a : 0 < m = ltb-true 0 m r.0 in
@@ -162,22 +163,22 @@ module _ (n : ℕ) (few : n ≤ 16) (k m : ℕ) (rest : List ℕ) (len : length 
           low = rw (← p.1) (omega arith);
         }
 
-    turned_other : (j c : ℕ) → (k ≡ 1 → ⊥) → (k ≡ 2 → ⊥) → (k ≡ 3 → ⊥) → target_of n entry (length s) ≡ Step j c → Turned n entry s j c
-    turned_other j c x y z h =
+    turned_other : (spot : Place) → (k ≡ 1 → ⊥) → (k ≡ 2 → ⊥) → (k ≡ 3 → ⊥) → target_of n entry (length s) ≡ Some spot → Turned n entry s spot
+    turned_other spot x y z h =
         let o = sym (target_other (length s) x y z) ∙ h in
-        absurd (let w : ◌≡◌ {A = ℕ} 0 1 = cc in omega arith)
+        absurd cc
 
-    turned_entry : (j c : ℕ) → target_of n entry (length s) ≡ Step j c → Turned n entry s j c
-    turned_entry j c h = by_kind (eqb k 1) (eqb k 2) (eqb k 3) refl refl refl
+    turned_entry : (spot : Place) → target_of n entry (length s) ≡ Some spot → Turned n entry s spot
+    turned_entry spot h = by_kind (eqb k 1) (eqb k 2) (eqb k 3) refl refl refl
       where
-        by_kind : (a b d : Bool) → eqb k 1 ≡ a → eqb k 2 ≡ b → eqb k 3 ≡ d → Turned n entry s j c
-        by_kind true b d x y z = turned_1 j c (eqb-true k 1 x) h
-        by_kind false true d x y z = turned_2 j c (eqb-true k 2 y) h
-        by_kind false false true x y z = turned_3 j c (eqb-true k 3 z) h
-        by_kind false false false x y z = turned_other j c (eqb-false k 1 x) (eqb-false k 2 y) (eqb-false k 3 z) h
+        by_kind : (a b d : Bool) → eqb k 1 ≡ a → eqb k 2 ≡ b → eqb k 3 ≡ d → Turned n entry s spot
+        by_kind true b d x y z = turned_1 spot (eqb-true k 1 x) h
+        by_kind false true d x y z = turned_2 spot (eqb-true k 2 y) h
+        by_kind false false true x y z = turned_3 spot (eqb-true k 3 z) h
+        by_kind false false false x y z = turned_other spot (eqb-false k 1 x) (eqb-false k 2 y) (eqb-false k 3 z) h
 
     -- ---- nowhere: the entry is not so written, or the edit cannot be done
-    module _ (t : List Names) (h : target_of n entry (length s) ≡ Nowhere) (w : entry ≡ logged (edit_at n entry)) (d : edited n (edit_at n entry) s ≡ got t) where
+    module _ (t : List Names) (h : target_of n entry (length s) ≡ None) (w : entry ≡ logged (edit_at n entry)) (d : edited n (edit_at n entry) s ≡ got t) where
       stuck_1 : k ≡ 1 → ⊥
       unfolding logged
       stuck_1 e =
@@ -218,12 +219,12 @@ module _ (n : ℕ) (few : n ≤ 16) (k m : ℕ) (rest : List ℕ) (len : length 
           by_kind false false x y = stuck_2 (eqb-false k 1 x) (eqb-false k 3 y)
 
 -- ---- any entry of eighteen bytes
-pub turned : (n : ℕ) (entry : List ℕ) (s : List Names) (j c : ℕ) → n ≤ 16 → length entry ≡ 18 → Fits n s → target_of n entry (length s) ≡ Step j c → Turned n entry s j c
-turned n [] s j c few l f h = absurd (omega arith)
-turned n (a ∷ []) s j c few l f h = absurd (omega arith)
-turned n (a ∷ b ∷ rest) s j c few l f h = turned_entry n few a b rest (omega arith) s f j c h
+pub turned : (n : ℕ) (entry : List ℕ) (s : List Names) (spot : Place) → n ≤ 16 → length entry ≡ 18 → Fits n s → target_of n entry (length s) ≡ Some spot → Turned n entry s spot
+turned n [] s spot few l f h = absurd (omega arith)
+turned n (a ∷ []) s spot few l f h = absurd (omega arith)
+turned n (a ∷ b ∷ rest) s spot few l f h = turned_entry n few a b rest (omega arith) s f spot h
 
-pub stuck : (n : ℕ) (entry : List ℕ) (s t : List Names) → n ≤ 16 → length entry ≡ 18 → Fits n s → target_of n entry (length s) ≡ Nowhere
+pub stuck : (n : ℕ) (entry : List ℕ) (s t : List Names) → n ≤ 16 → length entry ≡ 18 → Fits n s → target_of n entry (length s) ≡ None
     → entry ≡ logged (edit_at n entry) → edited n (edit_at n entry) s ≡ got t → ⊥
 stuck n [] s t few l f h w d = omega arith
 stuck n (a ∷ []) s t few l f h w d = omega arith

@@ -1,6 +1,6 @@
 -- What the verdict of a session returns is what its promise says: the judge's, of the bytes of its sheet.
 -- Assumes nothing.
-use mathlib.Core.Path.{◌≡◌, refl, sym, ap, subst, ◌∙◌}
+use mathlib.Core.Path.{◌≡◌, refl, sym, ap, ◌∙◌}
 use mathlib.Core.Bool.{true, false}
 use mathlib.Core.List.{List, [], append-nil}
 use Prim.Native.Nat.{ℕ, ◌*◌, ◌/◌, ◌%◌, ◌≤◌}
@@ -21,12 +21,8 @@ use Rattle.bmap.specs.Judge.{judge}
 use Rattle.bmap.specs.Verdict.{judgement}
 use Rattle.bmap.specs.Session.{standing_sheet, standing_judged, verdict, model_of, is_open, verdict_of}
 use Rattle.bmap.specs.declared.session.Session.{Session}
-use Rattle.bmap.specs.declared.refusal.Refusal.{Refusal}
-use Rattle.bmap.specs.declared.refusal.Refusal.TheVariants.{NotSession}
-use Rattle.judge.specs.Answer.{answer_of, states_in, sheet_judged_for, judge_for, states_written_for}
-use Rattle.judge.specs.declared.verdict.Judgement.TheVariants.{Refused}
-use Rattle.judge.specs.declared.judgement.Counted.{Counted}
-use Rattle.session.specs.Verdict.{states_written, Counts}
+use Rattle.judge.specs.Answer.{states_in, sheet_judged_for, judge_for, states_written_for}
+use Rattle.session.specs.Verdict.{states_written}
 use Rattle.session.proofs.SheetLaws.{Fits, length_flat, page_room, rows_of}
 use Rattle.session.proofs.ReplayLaws.{reached_length}
 use Rattle.session.proofs.OpenLaws.{agents_kept}
@@ -50,25 +46,20 @@ module _ (s : Session) (h : is_open s ≡ true) where
   sheet_bytes : take (s.sheet.steps * s.agents) s.sheet.names ≡ flat (standing_sheet_lem s h)
   sheet_bytes = ap (take (s.sheet.steps * s.agents)) (names_are s h) ∙ take_at (flat (standing_sheet_lem s h)) _ (s.sheet.steps * s.agents) steps_length
 
-  pub bytes_length : length (take (s.sheet.steps * s.agents) s.sheet.names) ≡ s.sheet.steps * s.agents
-  bytes_length = ap length sheet_bytes ∙ steps_length
-
   pub bytes_room : s.sheet.steps * s.agents ≤ 1024
   bytes_room = page_room s.sheet.steps s.agents (omega (arith, steps_are s h, (sheet_fits s h).1)) (open_is s h).few
 
   pub bytes_within : s.sheet.steps * s.agents ≤ length s.sheet.names
-  bytes_within = omega (arith, bytes_room, reached_length s.agents s.standing s.log s.sheet.steps s.sheet.names (open_is s h).few (reached s h))
+  bytes_within = omega (arith, bytes_room, reached_length s.agents s.standing s.log s.sheet (open_is s h).few (reached s h))
 
--- a refusal, of which no state is written
-abbrev none_written : Refusal → Counted
-none_written why = record { judgement = Refused why; states = 0 }
+module _ (s : Session) (store : List ℕ) (levels : List ℤ) (h : is_open s ≡ false) where
+  pub verdict_17 : record { answer = refused 17; levels = levels } ≡ verdict_of s store levels
+  unfolding verdict_of
+  verdict_17 = sym (rw h)
 
-pub refused_as : {s : Session} {store : List ℕ} {levels : List ℤ} {why : Refusal} {r : Counted} → r ≡ none_written why → Counts s store levels (none_written why) levels → Counts s store levels r levels
-refused_as {s} {store} {levels} e h = subst (λ (r : Counted). Counts s store levels r levels) (sym e) h
-
-pub verdict_17 : (s : Session) (store : List ℕ) (levels : List ℤ) → is_open s ≡ false → Counts s store levels (none_written NotSession) levels
-unfolding verdict_of states_written
-verdict_17 s store levels h = record { judgement = sym (rw h); states = sym (rw h) }
+  pub none_written : 0 ≡ states_written s store levels
+  unfolding states_written
+  none_written = sym (rw h)
 
 -- "10, 15, 16", then the bytes of its steps, judged
 module _ (s : Session) (store : List ℕ) (levels : List ℤ) (h : is_open s ≡ true) where
@@ -91,12 +82,12 @@ module _ (s : Session) (store : List ℕ) (levels : List ℤ) (h : is_open s ≡
   same_judged : sheet_judged_for s.agents store bytes levels ≡ standing_judged (model_of s) store levels
   same_judged = ap (need (leb 2080 (length levels)) 10) (judged_by_lem (domain_in store))
 
-  pub verdict_judged : (r : Counted) (left : List ℤ)
-      → record { answer = answer_of r.judgement; levels = left } ≡ judge_for s.agents store bytes levels
-      → r.states ≡ states_written_for s.agents store bytes levels
-      → Counts s store levels r left
-  unfolding verdict_of verdict judge_for states_written states_written_for
-  verdict_judged r left answered counted = record {
-    judgement = answered ∙ (ap (judgement levels) same_judged ∙ sym (rw h));
-    states = counted ∙ (ap states_in same_judged ∙ sym (rw h));
-  }
+  pub verdict_judged : judge_for s.agents store bytes levels ≡ verdict_of s store levels
+  unfolding verdict_of verdict judge_for
+  verdict_judged = ap (judgement levels) same_judged ∙ sym (rw h)
+
+  pub states_judged : states_written_for s.agents store bytes levels ≡ states_written s store levels
+  unfolding states_written states_written_for
+  states_judged = ap states_in same_judged ∙ sym (rw h)
+
+pub ruleset verdict_as = (bytes_room, bytes_within, verdict_17, none_written, verdict_judged, states_judged)

@@ -9,24 +9,12 @@ mod kept;
 mod lent;
 mod log;
 mod opening;
+mod shown;
 mod value;
 
 pub use judging::{verdict, verdict_counted};
 pub use kept::is_open;
 pub use lent::{amend, enter, redo, strike, undo};
-pub use opening::open;
+pub use opening::{Change, open};
+pub use shown::sessions;
 pub use value::{amended, entered, redone, stricken, undone};
-
-// What a call on a session answers.
-#[derive(Clone, Copy)]
-pub enum Outcome {
-    Done,
-    Refused(bmap::Refusal),
-}
-
-// What a call by value leaves.
-#[derive(Clone, Copy)]
-pub struct Change {
-    pub outcome: Outcome,
-    pub session: bmap::Session,
-}

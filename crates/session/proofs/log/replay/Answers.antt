@@ -1,28 +1,25 @@
-use mathlib.Core.Path.{◌≡◌, subst}
-use Prim.Native.Nat.{ℕ, ◌+◌}
+use mathlib.Core.Path.{◌≡◌}
 use native.Mathlib.Omega.{arith}
-use Rattle.session.specs.Log.{Reached}
-use Rattle.session.proofs.ReplayLaws.{reached_length, stays, has_room, moves}
+use Rattle.session.proofs.ReplayLaws.{stays, has_room, moves}
 use Rattle.session.proofs.log.replay.Goals as goal
 
-pub returns-in-Nowhere : goal.returns-in-Nowhere
-returns-in-Nowhere c =
-    stays c.args.agents c.loop-k.k c.args.log.now c.loop-k.count c.loop-k.names c.loop-k.invariant.2 (omega arith) (omega arith) c.target-found.result c.target-found.ensures c.in-Nowhere.is c.args.to (omega arith)
+pub returns-in_err-place : goal.returns-in_err-place
+returns-in_err-place c =
+    rw c.from_residual.ensures (stays c.args.s.now.agents c.loop-k.k c.args.s.now.log c.loop-k.sheet c.loop-k.invariant (omega arith) (omega arith) c.target.result c.target.ensures c.in_err-place.was c.args.to (omega arith))
 
-pub overflow_mul-step : goal.overflow_mul-step
-overflow_mul-step c =
-    omega (arith, has_room c.args.agents c.loop-k.k c.args.log.now c.loop-k.count c.loop-k.names c.loop-k.invariant.2 (omega arith) (omega arith) c.target-found.result c.target-found.ensures c.in-Step.step c.in-Step.after c.in-Step.is)
+pub overflow_mul-place : goal.overflow_mul-place
+overflow_mul-place c =
+    omega (arith, has_room c.args.s.now.agents c.loop-k.k c.args.s.now.log c.loop-k.sheet c.loop-k.invariant (omega arith) (omega arith) c.target.result c.target.ensures c.in_ok-place.place c.in_ok-place.was)
 
 pub lay-requires : goal.lay-requires
 lay-requires c =
-    has_room c.args.agents c.loop-k.k c.args.log.now c.loop-k.count c.loop-k.names c.loop-k.invariant.2 (omega arith) (omega arith) c.target-found.result c.target-found.ensures c.in-Step.step c.in-Step.after c.in-Step.is
+    has_room c.args.s.now.agents c.loop-k.k c.args.s.now.log c.loop-k.sheet c.loop-k.invariant (omega arith) (omega arith) c.target.result c.target.ensures c.in_ok-place.place c.in_ok-place.was
 
 pub loop-k-preserved : goal.loop-k-preserved
 loop-k-preserved c =
-    let next : Reached c.args.agents (c.loop-k.k + 1) c.args.log.now c.in-Step.after c.lay.new.dst = moves c.args.agents c.loop-k.k c.args.log.now c.loop-k.count c.loop-k.names c.loop-k.invariant.2 (omega arith) (omega arith) c.target-found.result c.target-found.ensures c.in-Step.step c.in-Step.after c.in-Step.is c.lay.new.dst c.lay.ensures in
-    (omega arith, omega (arith, reached_length c.args.agents (c.loop-k.k + 1) c.args.log.now c.in-Step.after c.lay.new.dst (omega arith) next, reached_length c.args.agents c.loop-k.k c.args.log.now c.loop-k.count c.loop-k.names (omega arith) c.loop-k.invariant.2), next)
+    moves c.args.s.now.agents c.loop-k.k c.args.s.now.log c.loop-k.sheet c.loop-k.invariant (omega arith) (omega arith) c.target.result c.target.ensures c.in_ok-place.place c.in_ok-place.was c.lay.new.dst c.lay.ensures
 
 pub returns : goal.returns
 returns c =
     let e : c.loop-k.k ≡ c.args.to = omega arith in
-    subst (λ (k : ℕ). Reached c.args.agents k c.args.log.now c.loop-k.count c.loop-k.names) e c.loop-k.invariant.2
+    rw (← e) c.loop-k.invariant

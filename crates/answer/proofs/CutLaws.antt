@@ -1,39 +1,92 @@
 -- The lines of a text up to a place, and the cut at the first line that starts with a word. Assumes nothing.
-use Prim.Native.Nat.{ℕ, suc, ◌+◌, ◌≤◌, ◌<◌}
-use mathlib.Core.Path.{◌≡◌, refl, sym, ap, ◌∙◌, subst}
+use Prim.Native.Nat.{ℕ, zero, suc, ◌-◌, ◌+◌, ◌≤◌, ◌<◌}
+use mathlib.Core.Path.{◌≡◌, refl, sym, ap, ◌∙◌}
 use mathlib.Core.Bool.{Bool, true, false, not}
 use mathlib.Core.List.{List, [], ◌∷◌, ◌++◌, append-nil, append_assoc}
 use native.Mathlib.Omega.{arith}
 use native.Mathlib.Numerals.{add-one}
 use native.Mathlib.Decide.{ℕ_discrete, dec_lt}
 use lib.Dec.{T, eqb}
-use lib.ListN.{length, take, drop, get_or, length-append, length-drop, take-append-drop, drop_of_length-le}
-use lib.Seq.{take_all, drop-cons, take-add}
+use Rattle.std.specs.Prelude.{◌==◌, ltb}
+use Rattle.std.proofs.lemmas.Bool.{lt-ltb, le-ltb}
+use lib.ListN.{length, take, drop, length-append, length-drop, take-append-drop, drop_of_length-le}
+use lib.Seq.{take_all, take-add}
 use borrow.Author.Tests.{eq-eqb, ne_eqb}
+use Rattle.std.specs.Prelude.{cond, position, Option, Some, None}
+use Rattle.std.specs.List.{position_or_len}
+use Rattle.std.specs.List.{starts_with as begins_with}
+use Rattle.std.proofs.lemmas.List.Recursion.{is_position_or_len}
 use Rattle.bmap.proofs.PlainLaws.{both_parts}
-use Rattle.bmap.specs.Plain.{both}
+use Rattle.bmap.specs.Plain.{both, if_else}
 use Rattle.bmap.specs.Line.{Line, lines_of, line_feed, line_text, starts_with, starts, before}
 use Rattle.bmap.specs.Program.{split}
-use Rattle.answer.specs.Cut.{InLine, feeds_last, CutIn, feed_in}
+use Rattle.answer.specs.Cut.{InLine, feeds_last, CutIn}
 
 -- ---- the first line feed
 
-pub feed_here : (s : List ℕ) (i : ℕ) → i < length s → get_or s i 0 ≡ line_feed → feed_in (drop i s) ≡ 0
-unfolding feed_in
-feed_here s i h e = rw (drop-cons s i 0 h, eq-eqb _ _ e)
+-- the characters before the first LF
+unfoldable pub feed_in : List ℕ → ℕ
+feed_in [] = zero
+feed_in (c ∷ s) = if_else (eqb c line_feed) zero (suc (feed_in s))
 
-pub feed_later : (s : List ℕ) (i : ℕ) → i < length s → (get_or s i 0 ≡ line_feed → ⊥) → i + feed_in (drop i s) ≡ (i + 1) + feed_in (drop (i + 1) s)
-unfolding feed_in
-feed_later s i h e = rw (drop-cons s i 0 h, ne_eqb _ _ e, add-one i) (omega arith)
+abbrev pub is_feed : ℕ → Bool
+is_feed c = c == line_feed
 
-pub feed_end : (s : List ℕ) (i : ℕ) → length s ≤ i → i + feed_in (drop i s) ≡ i
+feed_is : (s : List ℕ) → position_or_len is_feed s ≡ feed_in s
 unfolding feed_in
-feed_end s i h = rw (drop_of_length-le s h) (omega arith)
+feed_is s = sym (is_position_or_len feed_in is_feed refl (λ c l. go (c == line_feed) (feed_in l)) s)
+  where
+    go : (b : Bool) (n : ℕ) → if_else b zero (suc n) ≡ cond b 0 (1 + n)
+    go true n = refl
+    go false n = omega arith
 
 pub feed_most : (s : List ℕ) → feed_in s ≤ length s
 unfolding feed_in
 feed_most [] = omega arith
 feed_most (c ∷ s) = elim (ℕ_discrete c line_feed) [ yes e ↦ rw (eq-eqb _ _ e) (omega arith) | no e ↦ rw (ne_eqb _ _ e) (omega (arith, feed_most s)) ]
+
+-- what `starts_with` and `position` say of the rest of an input from a place on
+module _ (input : List ℕ) (at : ℕ) where
+  lent : take (length input - at) (drop at input) ≡ drop at input
+  lent = take_all (length input - at) (drop at input) (omega (arith, length-drop at input))
+
+  module _ {found : Option ℕ} (e : position is_feed (take (length input - at) (drop at input)) ≡ found) where
+    seen_at : found ≡ cond (ltb (feed_in (drop at input)) (length (drop at input))) (Some (feed_in (drop at input))) None
+    seen_at = sym e ∙ ap (position is_feed) lent ∙ ap (λ n. cond (ltb n (length (drop at input))) (Some n) None) (feed_is (drop at input))
+
+    seen_in : feed_in (drop at input) < length (drop at input) → found ≡ Some (feed_in (drop at input))
+    seen_in h = seen_at ∙ ap (λ b. cond b (Some (feed_in (drop at input))) None) (lt-ltb (feed_in (drop at input)) (length (drop at input)) h)
+
+    not_seen : length (drop at input) ≤ feed_in (drop at input) → found ≡ None
+    not_seen h = seen_at ∙ ap (λ b. cond b (Some (feed_in (drop at input))) None) (le-ltb (feed_in (drop at input)) (length (drop at input)) h)
+
+    pub feed_found : {feed : ℕ} → found ≡ Some feed → (feed ≡ feed_in (drop at input)) × (at + feed < length input)
+    feed_found {feed} f = elim (dec_lt (feed_in (drop at input)) (length (drop at input))) [
+      | yes h ↦
+          let is : Some (feed_in (drop at input)) ≡ Some feed = sym (seen_in h) ∙ f in
+          let same : feed_in (drop at input) ≡ feed = cc in
+          (sym same, omega (arith, h, same, length-drop at input))
+      | no h ↦ let is : None ≡ Some feed = sym (not_seen (omega arith)) ∙ f in absurd (cc)
+    ]
+
+    pub feed_none : found ≡ None → at ≤ length input → at + feed_in (drop at input) ≡ length input
+    feed_none f g = elim (dec_lt (feed_in (drop at input)) (length (drop at input))) [
+      | yes h ↦ let is : Some (feed_in (drop at input)) ≡ None = sym (seen_in h) ∙ f in absurd (cc)
+      | no h ↦ omega (arith, feed_most (drop at input), length-drop at input)
+    ]
+
+-- std's test of the word is the paper's
+starts_are : (s word : List ℕ) → begins_with eqb s word ≡ starts_with word s
+unfolding starts_with
+starts_are s [] = refl
+starts_are [] (c ∷ word) = refl
+starts_are (d ∷ s) (c ∷ word) = elim (ℕ_discrete d c) [
+  | yes e ↦ rw (eq-eqb d c e, eq-eqb c d (sym e)) (starts_are s word)
+  | no e ↦ rw (ne_eqb d c e, ne_eqb c d (λ f. e (sym f)))
+]
+
+pub starts_at : (input word : List ℕ) (at : ℕ) {r b : Bool} → r ≡ begins_with eqb (take (length input - at) (drop at input)) word → r ≡ b → starts_with word (drop at input) ≡ b
+starts_at input word at e f = sym (starts_are (drop at input) word) ∙ sym (ap (λ s. begins_with eqb s word) (lent input at)) ∙ sym e ∙ f
 
 -- ---- the lines up to it
 
@@ -59,25 +112,6 @@ closed_line (c ∷ s) b h =
     ]
 
 -- ---- the test of the word
-
--- nothing of the word is left, nothing of the text, the next characters differ, or they agree
-pub starts_all : (word s : List ℕ) (i at : ℕ) → length word ≤ i → starts_with (drop i word) (drop at s) ≡ true
-unfolding starts_with
-starts_all word s i at h = rw (drop_of_length-le word h)
-
-module _ (word s : List ℕ) (i at : ℕ) (h : i < length word) where
-  pub starts_end : length s ≤ at → starts_with (drop i word) (drop at s) ≡ false
-  unfolding starts_with
-  starts_end g = rw (drop-cons word i 0 h, drop_of_length-le s g)
-
-  module _ (g : at < length s) where
-    pub starts_not : (get_or s at 0 ≡ get_or word i 0 → ⊥) → starts_with (drop i word) (drop at s) ≡ false
-    unfolding starts_with
-    starts_not e = rw (drop-cons word i 0 h, drop-cons s at 0 g, ne_eqb _ _ e)
-
-    pub starts_on : get_or s at 0 ≡ get_or word i 0 → starts_with (drop i word) (drop at s) ≡ starts_with (drop (i + 1) word) (drop (at + 1) s)
-    unfolding starts_with
-    starts_on e = rw (add-one i, add-one at, drop-cons word i 0 h, drop-cons s at 0 g, eq-eqb _ _ e)
 
 -- the text's first line, as it stands in it
 abbrev first_text : List ℕ → List ℕ
@@ -204,7 +238,7 @@ module _ {word input : List ℕ} {at lines : ℕ} (x : Before word input at line
 
     module _ (t : starts_with word (drop at input) ≡ false) where
       -- the rest is one line without LF
-      open_end : at + feed_in (drop at input) ≡ length input → CutIn word input (length input) (lines + 1)
+      pub open_end : at + feed_in (drop at input) ≡ length input → CutIn word input (length input) (lines + 1)
       unfolding split lines_of
       open_end e =
           let all : feed_in (drop at input) ≡ length (drop at input) = rw (length-drop at input) (omega arith) in
@@ -222,7 +256,7 @@ module _ {word input : List ℕ} {at lines : ℕ} (x : Before word input at line
             stands = λ h. absurd (omega arith);
           }
 
-      next_line : at + feed_in (drop at input) < length input → Before word input (at + feed_in (drop at input) + 1) (lines + 1)
+      pub next_line : at + feed_in (drop at input) < length input → Before word input (at + (feed_in (drop at input) + 1)) (lines + 1)
       unfolding lines_of
       next_line e =
           let k : ℕ = feed_in (drop at input) in
@@ -230,8 +264,7 @@ module _ {word input : List ℕ} {at lines : ℕ} (x : Before word input at line
           let l : Line = record { digits = take k (drop at input); ended = true } in
           let a : List ℕ = take at input in
           let new : List ℕ = take (suc k) (drop at input) in
-          let size : at + k + 1 ≡ at + suc k = omega arith in
-          let part : take (at + k + 1) input ≡ a ++ new = ap (λ n. take n input) size ∙ take-add at (suc k) input in
+          let part : take (at + (k + 1)) input ≡ a ++ new = ap (λ n. take (at + n) input) (add-one k) ∙ take-add at (suc k) input in
           let now : lines_of (a ++ new) ≡ lines_of a ++ (l ∷ []) = x.closed new ∙ ap (λ r. lines_of a ++ r) (ap lines_of (sym (append-nil new)) ∙ closed_line (drop at input) [] short) in
           record {
             in_line = x.in_line;
@@ -240,13 +273,3 @@ module _ {word input : List ℕ} {at lines : ℕ} (x : Before word input at line
             skips = rw (part, now) (skip_more word (lines_of a) l x.skips (skip_one word l (seen l (closed_text (drop at input) short) t)));
             count = rw (part, now, length-append (lines_of a) (l ∷ []), x.count);
           }
-
-      module _ {feed : ℕ} (f : feed ≡ at + feed_in (drop at input)) where
-        pub cut_open : feed ≡ length input → CutIn word input feed (lines + 1)
-        cut_open e = subst (λ n. CutIn word input n (lines + 1)) (sym e) (open_end (sym f ∙ e))
-
-        pub one_more : (feed ≡ length input → ⊥) → Before word input (feed + 1) (lines + 1)
-        one_more e = subst (λ n. Before word input (n + 1) (lines + 1)) (sym f) (next_line (within_line e))
-          where
-            within_line : (feed ≡ length input → ⊥) → at + feed_in (drop at input) < length input
-            within_line e = elim (dec_lt (at + feed_in (drop at input)) (length input)) [ yes g ↦ g | no g ↦ absurd (e (omega (arith, feed_most (drop at input), length-drop at input))) ]

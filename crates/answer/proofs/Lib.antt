@@ -6,4 +6,4 @@ pub mod ProgramLaws
 pub mod LowWaterLaws
 pub mod Theorems
 pub mod MorningLaws
-pub mod CallerLaws
+pub mod AnsweredLaws

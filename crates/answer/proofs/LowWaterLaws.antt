@@ -4,12 +4,13 @@ use mathlib.Core.Path.{◌≡◌, refl, sym, ap, ◌∙◌, subst}
 use mathlib.Core.List.{List, [], ◌∷◌, ◌++◌, map}
 use native.Mathlib.Omega.{arith}
 use lib.ListN.{length, take, drop, length-append, length-map, length-take, length-drop}
+use Rattle.std.specs.Prelude.{Result, Ok, Err}
 use lib.Seq.{take-take, take_all}
 use borrow.Author.Tests.{le-leb, lt-leb}
 use Rattle.bmap.specs.Plain.{flat}
 use Rattle.bmap.specs.Limits.{most_input, store_size, supplement_size}
 use Rattle.bmap.specs.Refusal.{Answer, got, refused, then, number_of, Reading, read, refused_at, at_line, afterwards}
-use Rattle.bmap.specs.declared.refusal.Refusal.{Refusal}
+use Rattle.bmap.specs.declared.refusal.ReadError.{ReadError}
 use Rattle.bmap.specs.Line.{Line, Frame, lines_of, decode}
 use Rattle.bmap.specs.Domain.{Domain}
 use Rattle.bmap.specs.Accept.{taken}
@@ -19,20 +20,17 @@ use Rattle.bmap.specs.Sheet.{steps_from}
 use Rattle.bmap.specs.Supplement.{Replacement, replaced, replacement_in, supplement_from, read_supplement, supplement_in}
 use Rattle.bmap.specs.Program.{refused_text, Parts, split, sheet_mark, supplement_mark, supplemented, judged_by, sheet_under, answered_under, low_water}
 use Rattle.domain.specs.Read as domains
-use Rattle.domain.specs.declared.reader.ReadStore.{ReadStore}
-use Rattle.domain.specs.declared.reader.ReadStore.TheVariants as given
-use Rattle.domain.proofs.RoundTrip as stores
 use Rattle.supplement.specs.Read as supplements
 use Rattle.supplement.specs.Under.{under_in}
 use Rattle.supplement.specs.declared.reader.ReadUnder.{ReadUnder}
-use Rattle.supplement.specs.declared.under.Under.{Under}
 use Rattle.supplement.proofs.Theorems.{supplement_stands}
 use Rattle.judge.proofs.StateLaws.{part_take}
 use Rattle.answer.specs.declared.cut.Cut.{Cut}
-use Rattle.answer.specs.Put.{Put}
+use Rattle.answer.specs.declared.print.Text.{Text}
+use Rattle.answer.specs.Put.{PutOr}
 use Rattle.answer.specs.Cut.{CutTwice}
 use Rattle.answer.specs.Speaks.{Speaks}
-use Rattle.answer.proofs.ProgramLaws.{lines_most, lines_small, refused_reading, domain_refused, rest_lines}
+use Rattle.answer.proofs.ProgramLaws.{lines_most, lines_small, refused_reading, domain_refused, domain_kept, rest_lines}
 
 -- ---- the supplement's text
 
@@ -54,8 +52,7 @@ pub record ReadAs (d : Domain) (text after : List ℕ) : Type 0 where
   pub goes : supplement_from d [] (frames_of text) ≡ read replacements
   pub accepted : supplement_in d after ≡ got replacements
 
-module _ (store text buffer : List ℕ) {after : List ℕ} (answer : ReadStore)
-    (told : (domains.reading_of answer ≡ (read_supplement store text buffer).answer) × (after ≡ (read_supplement store text buffer).buffer)) (size : length buffer ≡ supplement_size) where
+module _ (store text buffer : List ℕ) {after : List ℕ} (r : ReadUnder) (told : supplements.UnderRead store text buffer r after) (size : length buffer ≡ supplement_size) where
   abbrev filling : Filling
   filling = record { count = length (flat (map stored_of (frames_of text))); bytes = flat (map stored_of (frames_of text)) }
 
@@ -63,35 +60,35 @@ module _ (store text buffer : List ℕ) {after : List ℕ} (answer : ReadStore)
   abbrev Told : Answer Domain → Reading ℕ
   Told a = (filled supplement_size buffer (at_line 0 a (λ d. afterwards (supplement_from d [] (frames_of text)) (λ s. read filling)))).answer
 
-  answers : {a : Answer Domain} → domain_in store ≡ a → domains.reading_of answer ≡ Told a
+  answers : {a : Answer Domain} → domain_in store ≡ a → domains.reading_of r.answer ≡ Told a
   unfolding read_supplement
-  answers e = told.0 ∙ ap Told e
+  answers e = told.answer ∙ ap Told e
 
   module _ (d : Domain) (domain : domain_in store ≡ got d) where
-    pub supplement_refused_lem : {line : ℕ} (r : Refusal) → answer ≡ given.Refused r line → supplement_from d [] (frames_of text) ≡ refused_at (number_of r) line
-    supplement_refused_lem r e = refused_reading supplement_size buffer (omega (arith, size)) filling (supplement_from d [] (frames_of text)) (sym (answers domain) ∙ ap domains.reading_of e)
+    pub supplement_refused : (e : ReadError) → r.answer ≡ Err e → supplement_from d [] (frames_of text) ≡ refused_at (number_of e.refusal) e.line
+    supplement_refused e is = refused_reading supplement_size buffer (omega (arith, size)) filling (supplement_from d [] (frames_of text)) (sym (answers domain) ∙ ap domains.reading_of is)
 
-    pub supplement_read : (n : ℕ) → answer ≡ given.Read n → ReadAs d text after
+    pub supplement_read : (n : ℕ) → r.answer ≡ Ok n → ReadAs d text after
     supplement_read n e = go (supplement_from d [] (frames_of text)) refl
       where
         go : (a : Reading (List Replacement)) → supplement_from d [] (frames_of text) ≡ a → ReadAs d text after
-        go (read s) q = record { replacements = s; goes = q; accepted = ap (supplement_in d) told.1 ∙ supplement_stands store text buffer d s domain q (omega (arith, size)) }
+        go (read s) q = record { replacements = s; goes = q; accepted = ap (supplement_in d) told.buffer ∙ supplement_stands store text buffer d s domain q (omega (arith, size)) }
         go (refused_at m line) q =
             let x : read n ≡ refused_at m line = sym (ap domains.reading_of e) ∙ answers domain ∙ ap (λ (a : Reading (List Replacement)). (filled supplement_size buffer (afterwards a (λ s. read filling))).answer) q ∙ simp (le-leb supplement_size (length buffer) (omega (arith, size))) in
             absurd (let z : ◌≡◌ {A = ℕ} 0 1 = cc in omega arith)
 
-  pub supplement_line : {line : ℕ} (r : Refusal) → answer ≡ given.Refused r line → line ≤ length text
-  supplement_line {line} r e = go (domain_in store) refl
+  pub supplement_line : (e : ReadError) → r.answer ≡ Err e → e.line ≤ length text
+  supplement_line e is = go (domain_in store) refl
     where
-      go : (a : Answer Domain) → domain_in store ≡ a → line ≤ length text
-      go (got d) q = omega (arith, refused_line d [] (frames_of text) (number_of r) line (supplement_refused_lem d q r e), length-map (lines_of text) decode, lines_most text)
+      go : (a : Answer Domain) → domain_in store ≡ a → e.line ≤ length text
+      go (got d) q = omega (arith, refused_line d [] (frames_of text) (number_of e.refusal) e.line (supplement_refused d q e is), length-map (lines_of text) decode, lines_most text)
       go (refused m) q =
-          let at_0 : refused_at m 0 ≡ refused_at (number_of r) line = refused_reading {A = List Replacement} supplement_size buffer (omega (arith, size)) filling (refused_at m 0) (sym (answers q) ∙ ap domains.reading_of e) in
-          let same : 0 ≡ line = cc in
+          let at_0 : refused_at m 0 ≡ refused_at (number_of e.refusal) e.line = refused_reading {A = List Replacement} supplement_size buffer (omega (arith, size)) filling (refused_at m 0) (sym (answers q) ∙ ap domains.reading_of is) in
+          let same : 0 ≡ e.line = cc in
           omega arith
 
 -- what a reading has found is what is found in the two stores
-pub found_under : {store text buffer after : List ℕ} (r : ReadUnder) → supplements.UnderRead store text buffer r after → {n : ℕ} → r.answer ≡ given.Read n → r.under ≡ under_in store after
+pub found_under : {store text buffer after : List ℕ} (r : ReadUnder) → supplements.UnderRead store text buffer r after → {n : ℕ} → r.answer ≡ Ok n → r.under ≡ under_in store after
 found_under {store} {text} {buffer} r told e =
     told.under ∙ ap (λ (a : Reading ℕ). supplements.under_after a store (read_supplement store text buffer).buffer) (sym told.answer ∙ ap domains.reading_of e) ∙ ap (under_in store) (sym told.buffer)
 
@@ -128,27 +125,21 @@ module _ {input : List ℕ} {supplement sheet : Cut} (cut : CutTwice input suppl
   pub lines_few : (supplement.lines ≤ most_input) × (sheet.lines ≤ most_input)
   lines_few = (omega (arith, lines_small cut.inner, length-take sheet.at input, cut.short), omega (arith, lines_small cut.outer, cut.short))
 
-  module _ (store buffer : List ℕ) {after : List ℕ} (answer : ReadStore)
-      (told : (domains.reading_of answer ≡ (read_supplement store text buffer).answer) × (after ≡ (read_supplement store text buffer).buffer))
-      (size : length buffer ≡ supplement_size) (d : Domain) (domain : domain_in store ≡ got d) where
+  module _ (store buffer : List ℕ) {after : List ℕ} (r : ReadUnder) (told : supplements.UnderRead store text buffer r after) (size : length buffer ≡ supplement_size) (d : Domain) (domain : domain_in store ≡ got d) where
     -- what is printed, by what the text is
     prints : {a : Reading (List Replacement)} → supplement_from d [] (frames_of text) ≡ a → answered_under parts (read d) ≡ sheet_under parts d a
     prints e = ap (λ (ls : List Line). sheet_under parts d (supplement_from d [] (map decode ls))) (sym supplement_lines) ∙ ap (sheet_under parts d) e
 
-    pub under_refused : {out new : List ℕ} {q number line : ℕ} (r : Refusal) → answer ≡ given.Refused r line → number ≡ number_of r → Put out 0 (refused_text number (supplement.lines + line)) q new
-        → Put out 0 (answered_under parts (read d)) q new
-    under_refused {out} {new} {q} {line = line} r e k x =
-        subst (λ (t : List ℕ). Put out 0 t q new)
-        (ap (λ (n : ℕ). refused_text n (supplement.lines + line)) k ∙ ap (λ (n : ℕ). refused_text (number_of r) (n + line)) before_supplement ∙ sym (prints (supplement_refused_lem store text buffer answer told size d domain r e)))
-        x
+    pub under_refused : (e : ReadError) → r.answer ≡ Err e → answered_under parts (read d) ≡ refused_text (number_of e.refusal) (supplement.lines + e.line)
+    under_refused e is = prints (supplement_refused store text buffer r told size d domain e is) ∙ ap (λ (n : ℕ). refused_text (number_of e.refusal) (n + e.line)) (sym before_supplement)
 
-    pub under_read : {u : Under} {out new : List ℕ} {q : ℕ} (n : ℕ) → u ≡ under_in store after → answer ≡ given.Read n
-        → ((d : Domain) (s : List Replacement) → Speaks store after u d s
-        → Put out 0 (judged_by (replaced s d) sheet.lines (steps_from d.agents [] (map decode (lines_of (take (length input - sheet.at) (drop sheet.at input)))))) q new)
-        → Put out 0 (answered_under parts (read d)) q new
-    under_read {out = out} {new = new} {q = q} n found e judges =
-        let k = supplement_read store text buffer answer told size d domain n e in
-        subst (λ (t : List ℕ). Put out 0 t q new)
+    pub under_read : (put : Result (Unit {0}) ReadError) (one two : Text) (n : ℕ) → r.under ≡ under_in store after → r.answer ≡ Ok n
+        → ((d : Domain) (s : List Replacement) → Speaks store after r.under d s
+        → PutOr one (judged_by (replaced s d) sheet.lines (steps_from d.agents [] (map decode (lines_of (take (length input - sheet.at) (drop sheet.at input)))))) put two)
+        → PutOr one (answered_under parts (read d)) put two
+    under_read put one two n found e judges =
+        let k = supplement_read store text buffer r told size d domain n e in
+        subst (λ (t : List ℕ). PutOr one t put two)
         (ap (λ (ls : List Line). judged_by (replaced k.replacements d) sheet.lines (steps_from d.agents [] (map decode ls))) (rest_lines cut.outer)
         ∙ ap (λ (m : ℕ). judged_by (replaced k.replacements d) m (steps_from d.agents [] (map decode parts.from))) cut.outer.count ∙ sym (prints k.goes))
         (judges d k.replacements (record { domain = domain; accepted = k.accepted; found = found }))
@@ -159,16 +150,16 @@ module _ {input : List ℕ} {supplement sheet : Cut} (cut : CutTwice input suppl
   unfolding low_water
   low_water_is = simp (le-leb (length input) most_input cut.short) (ap (λ (ls : List Line). answered_under parts (taken (map decode ls))) (sym domain_lines))
 
-  module _ (store : List ℕ) {after : List ℕ} (answer : ReadStore)
-      (told : (domains.reading_of answer ≡ (read_domain (take supplement.at input) store).answer) × (after ≡ (read_domain (take supplement.at input) store).buffer)) where
-    pub low_water_refused : {line : ℕ} (r : Refusal) → length store ≡ store_size → answer ≡ given.Refused r line → low_water input ≡ refused_text (number_of r) line
-    low_water_refused r size e = low_water_is ∙ ap (answered_under parts) (domain_refused (take supplement.at input) store size answer told.0 r e)
+  module _ (store : List ℕ) {after : List ℕ} (r : Result ℕ ReadError)
+      (answer : domains.reading_of r ≡ (read_domain (take supplement.at input) store).answer) (left : after ≡ (read_domain (take supplement.at input) store).buffer) where
+    pub low_water_refused : length store ≡ store_size → (e : ReadError) → r ≡ Err e → low_water input ≡ refused_text (number_of e.refusal) e.line
+    low_water_refused size e is = low_water_is ∙ ap (answered_under parts) (domain_refused (take supplement.at input) store r answer size e is)
 
-    pub low_water_read : {out new : List ℕ} {q : ℕ} (n : ℕ) → answer ≡ given.Read n
-        → ((d : Domain) → domain_in after ≡ got d → Put out 0 (answered_under parts (read d)) q new) → Put out 0 (low_water input) q new
-    low_water_read {out = out} {new = new} {q = q} n e prints =
-        let k = stores.kept (take supplement.at input) store n (sym told.0 ∙ ap domains.reading_of e) in
-        subst (λ (t : List ℕ). Put out 0 t q new) (sym (low_water_is ∙ ap (answered_under parts) k.reads)) (prints k.domain (ap domain_in told.1 ∙ k.holds))
+    pub low_water_read : (put : Result (Unit {0}) ReadError) (one two : Text) (n : ℕ) → r ≡ Ok n
+        → ((d : Domain) → domain_in after ≡ got d → PutOr one (answered_under parts (read d)) put two) → PutOr one (low_water input) put two
+    low_water_read put one two n e prints =
+        let k = domain_kept (take supplement.at input) store r answer n e in
+        subst (λ (t : List ℕ). PutOr one t put two) (sym (low_water_is ∙ ap (answered_under parts) k.reads)) (prints k.domain (ap domain_in left ∙ k.holds))
 
 pub long_low_water : (input : List ℕ) → most_input < length input → low_water input ≡ refused_text 18 0
 unfolding low_water

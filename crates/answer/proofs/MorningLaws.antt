@@ -7,95 +7,89 @@ use native.Mathlib.Omega.{arith}
 use native.Mathlib.Numerals.{add-one}
 use lib.IntN.{ℤ}
 use lib.ListN.{length, take, drop, length-append, length-drop, take-append-drop, drop_of_length-le}
+use Rattle.std.specs.Prelude.{Option, Some, None, Result, Ok, Err}
 use lib.Seq.{take_all, drop-drop, length-take-le}
 use borrow.Author.Tests.{le-leb, lt-leb, lt-ltb, le-ltb}
 use Rattle.bmap.specs.Limits.{store_size, most_fluents, levels_size, most_input, most_sheets}
 use Rattle.bmap.specs.declared.refusal.Refusal.{Refusal}
+use Rattle.bmap.specs.declared.refusal.ReadError.{ReadError}
 use Rattle.bmap.specs.Accept.{taken}
-use Rattle.bmap.specs.Store.{domain_in, reading, read_domain}
+use Rattle.bmap.specs.Store.{domain_in, reading}
 use Rattle.domain.specs.Read as domains
-use Rattle.domain.specs.declared.reader.ReadStore.{ReadStore}
-use Rattle.domain.specs.declared.reader.ReadStore.TheVariants as given
-use Rattle.domain.proofs.RoundTrip as stores
+use Rattle.domain.specs.declared.reader.ReadFound.{ReadFound}
 use Rattle.supplement.specs.Under.{under_in}
 use Rattle.supplement.specs.declared.under.Under.{Under}
 use Rattle.supplement.proofs.Theorems.{empty_changes_nothing}
 use Rattle.bmap.specs.Supplement.{Replacement, replaced, supplement_in, judge_under}
 use Rattle.bmap.specs.Verdict as call
-use Rattle.judge.specs.Answer.{verdict_of, answer_of, states_written_under}
+use Rattle.judge.specs.Answer.{verdict_of, counted_of, states_counted, states_written_under}
 use Rattle.judge.specs.declared.verdict.Fault.{Fault}
-use Rattle.judge.specs.declared.verdict.Verdict.{Verdict}
 use Rattle.judge.specs.declared.verdict.Verdict.TheVariants.{Accepted, Broken}
-use Rattle.judge.specs.declared.verdict.Judgement.{Judgement}
-use Rattle.judge.specs.declared.verdict.Judgement.TheVariants as said
+use Rattle.judge.specs.declared.verdict.Judged.{Judged}
 use Rattle.sheet.specs.Step.{outcome}
-use Rattle.answer.proofs.ProgramLaws.{domain_refused, product_most, lines_most, lines_small, StepsRead, judged, counted, verdict_is, refused_not}
+use Rattle.answer.proofs.ProgramLaws.{domain_refused, domain_kept, product_most, lines_most, lines_small, StepsRead, judged, counted, verdict_is, refused_not}
 use Rattle.bmap.specs.Plain.{either, if_else, any, those, flat, text}
 use Rattle.bmap.specs.Refusal.{got, number_of, Reading, read, refused_at, afterwards}
 use Rattle.bmap.specs.Line.{Line, lines_of, starts_with, starts, decode}
 use Rattle.bmap.specs.Domain.{Domain, Names, State}
 use Rattle.bmap.specs.Sheet.{rows, steps_from}
-use Rattle.bmap.specs.Judge.{Judged, judge}
+use Rattle.bmap.specs.Judge.{judge}
+use Rattle.bmap.specs.Judge as paper
 use Rattle.bmap.specs.Program.{decimal, line_of, refused_text, Parts, split}
 use Rattle.bmap.specs.Report.{is_accepted, sheet_begins, Texts, texts_of, text_size, sheets_from, accepts, breaks, states_of, report_text, reported_by, reported_on, report, sheets_line, figures_lines}
 use Rattle.bmap.proofs.LineLaws.{lines_text, word_first}
 use Rattle.bmap.proofs.PlainLaws.{flat_one, one_in, one_out}
 use Rattle.sheet.proofs.RoundTrip.{Rows, rows_front, rows_alike, rows_after}
 use Rattle.answer.specs.declared.morning.Morning.{Morning}
-use Rattle.answer.specs.declared.morning.Outcome.{Outcome}
-use Rattle.answer.specs.declared.morning.Outcome.TheVariants as out
-use Rattle.answer.specs.declared.morning.Next.{Next}
-use Rattle.answer.specs.declared.morning.Next.TheVariants as next
 use Rattle.answer.specs.Cut.{CutIn}
-use Rattle.answer.specs.Put.{Put}
+use Rattle.answer.specs.declared.print.Text.{Text}
+use Rattle.answer.specs.Put.{Put, PutOr}
 use Rattle.answer.specs.Speaks.{Speaks}
-use Rattle.answer.specs.Figures.{most_states}
+use Rattle.answer.specs.States.{most_states}
 use Rattle.answer.proofs.PutLaws.{put_then}
 use Rattle.answer.proofs.FiguresLaws.{lines_none}
 use Rattle.answer.proofs.StatesLaws.{judge_whole}
-use Rattle.answer.specs.Morning.{states_size, Accepts, Breaks, ComesTo, Modest, Underway, Kept, GoesOn, NextIs, NextUnderway, sheet_texts, reported_after, report_from}
+use Rattle.answer.specs.Morning.{Accepts, Breaks, ComesTo, Modest, Underway, Kept, sheet_texts, reported_after, report_from}
 
 -- ---- one sheet
 
-module _ (store supplement sheet s : List ℕ) (levels : List ℤ) {after : List ℤ} (j : Judgement) {states : ℕ}
-    (told : (record { answer = answer_of j; levels = after } ≡ judge_under store supplement sheet levels) × (states ≡ states_written_under store supplement sheet levels)) (room : levels_size ≤ length levels)
+module _ (store supplement sheet s : List ℕ) (levels : List ℤ) {after : List ℤ} (r : Result Judged Refusal)
+    (told : ◌≡◌ {A = call.Judgement} (record { answer = counted_of r; levels = after }) (judge_under store supplement sheet levels)) (room : levels_size ≤ length levels)
     (d : Domain) (l : List Replacement) (domain : domain_in store ≡ got d) (accepted : supplement_in d supplement ≡ got l) (k : StepsRead d.agents s sheet) where
-  verdict_as : (v : Verdict) → j ≡ said.Judged v → (judge (replaced l d) k.steps).verdict ≡ verdict_of v
-  verdict_as v e = sym (verdict_is store supplement sheet levels j told room d l k.steps domain accepted k.names v e)
+  pub not_refused : (why : Refusal) → r ≡ Err why → ⊥
+  not_refused why e = refused_not store supplement sheet levels r told room d l k.steps domain accepted k.names why e
 
-  pub sheet_accepted : (v : Verdict) → j ≡ said.Judged v → v ≡ Accepted → Accepts (replaced l d) (outcome (replaced l d).agents s) levels states after
-  unfolding replaced
-  sheet_accepted v e f = record {
-    steps = k.steps;
-    reads = k.reads;
-    verdict = ap is_accepted (verdict_as v e ∙ ap verdict_of f);
-    count = counted store supplement sheet levels j told room d l k.steps domain accepted k.names;
-    levels_are = ap (λ (x : call.Judgement). x.levels) (judged store supplement sheet levels j told room d l k.steps domain accepted k.names);
-  }
+  module _ (j : Judged) (e : r ≡ Ok j) (count : states_counted r ≡ states_written_under store supplement sheet levels) where
+    verdict_as : (judge (replaced l d) k.steps).verdict ≡ verdict_of j.verdict
+    verdict_as = sym (verdict_is store supplement sheet levels r told room d l k.steps domain accepted k.names j e count)
 
-  pub sheet_broken : (v : Verdict) → j ≡ said.Judged v → {f : Fault} {step number : ℕ} → v ≡ Broken f step number → Breaks (replaced l d) (outcome (replaced l d).agents s)
-  unfolding replaced
-  sheet_broken v e f = record { steps = k.steps; reads = k.reads; verdict = ap is_accepted (verdict_as v e ∙ ap verdict_of f) }
+    pub sheet_accepted : j.verdict ≡ Accepted → Accepts (replaced l d) (outcome (replaced l d).agents s) levels j.states after
+    unfolding replaced
+    sheet_accepted f = record {
+      steps = k.steps;
+      reads = k.reads;
+      verdict = ap is_accepted (verdict_as ∙ ap verdict_of f);
+      count = counted store supplement sheet levels r told room d l k.steps domain accepted k.names j e count;
+      levels_are = ap (λ (x : call.Judgement). x.levels) (judged store supplement sheet levels r told room d l k.steps domain accepted k.names);
+    }
 
-  pub not_refused : (r : Refusal) → j ≡ said.Refused r → ⊥
-  not_refused r e = refused_not store supplement sheet levels j told room d l k.steps domain accepted k.names r e
+    pub sheet_broken : {f : Fault} {step number : ℕ} → j.verdict ≡ Broken f step number → Breaks (replaced l d) (outcome (replaced l d).agents s)
+    unfolding replaced
+    sheet_broken f = record { steps = k.steps; reads = k.reads; verdict = ap is_accepted (verdict_as ∙ ap verdict_of f) }
 
--- what a text comes to, by its outcome
-module _ (d : Domain) (s : List ℕ) (levels left : List ℤ) {r : Outcome} where
-  pub as_accepted : {k : ℕ} → r ≡ out.Accepted k → ComesTo d s levels r left → Accepts d (outcome d.agents s) levels k left
-  as_accepted e x = subst (λ (o : Outcome). ComesTo d s levels o left) e x
+-- what a text comes to, by the sheet's answer
+pub came_to : {A E : Type 0} (r : Result A E) {o a : A} → r ≡ Ok o → o ≡ a → r ≡ Ok a
+came_to r e f = e ∙ ap Ok f
 
-  pub as_broken : r ≡ out.Broken → ComesTo d s levels r left → Breaks d (outcome d.agents s)
-  as_broken e x = subst (λ (o : Outcome). ComesTo d s levels o left) e x
+module _ (d : Domain) (s : List ℕ) (levels left : List ℤ) {r : Result (Option ℕ) ReadError} where
+  pub as_accepted : {k : ℕ} → r ≡ Ok (Some k) → ComesTo d s levels r left → Accepts d (outcome d.agents s) levels k left
+  as_accepted e x = subst (λ o. ComesTo d s levels o left) e x
 
-  pub as_refused : {n : Refusal} {line : ℕ} → r ≡ out.Refused n line → ComesTo d s levels r left → outcome d.agents s ≡ refused_at (number_of n) line
-  as_refused e x = subst (λ (o : Outcome). ComesTo d s levels o left) e x
+  pub as_broken : r ≡ Ok None → ComesTo d s levels r left → Breaks d (outcome d.agents s)
+  as_broken e x = subst (λ o. ComesTo d s levels o left) e x
 
-pub modest_states : (s : List ℕ) {r : Outcome} {k : ℕ} → r ≡ out.Accepted k → Modest s r → k ≤ 65
+pub modest_states : (s : List ℕ) {r : Result (Option ℕ) ReadError} {k : ℕ} → r ≡ Ok (Some k) → Modest s r → k ≤ 65
 modest_states s e x = subst (Modest s) e x
-
-pub modest_line : (s : List ℕ) {r : Outcome} {n : Refusal} {line : ℕ} → r ≡ out.Refused n line → Modest s r → line ≤ length s
-modest_line s e x = subst (Modest s) e x
 
 -- ---- the texts
 
@@ -130,12 +124,12 @@ begun s t = ap lines_of (word_first sheet_begins s t)
 -- ---- what the next text says
 
 -- one sheet more is judged
-report_more : (d : Domain) (judged : List Judged) (steps : List Names) (r : Reading (List (List Names)))
+report_more : (d : Domain) (judged : List paper.Judged) (steps : List Names) (r : Reading (List (List Names)))
     → reported_after d judged (afterwards r (λ others. read (steps ∷ others))) ≡ reported_after d (judged ++ (judge d steps ∷ [])) r
 report_more d judged steps (read sheets) = ap (report_text d) (sym (append_assoc judged (judge d steps ∷ []) (map (judge d) sheets)))
 report_more d judged steps (refused_at n line) = refl
 
-module _ (d : Domain) (judged : List Judged) (lines : ℕ) (t : List Line) (later : List (List Line)) where
+module _ (d : Domain) (judged : List paper.Judged) (lines : ℕ) (t : List Line) (later : List (List Line)) where
   abbrev reported : List ℕ
   reported = reported_after d judged (sheets_from d.agents (length judged) lines (t ∷ later))
 
@@ -163,7 +157,7 @@ module _ (d : Domain) (judged : List Judged) (lines : ℕ) (t : List Line) (late
 
 -- ---- the sheet at a place of the input
 
-module _ (d : Domain) (input : List ℕ) (judged : List Judged) (at lines : ℕ) (begins : starts_with sheet_begins (drop at input) ≡ true) where
+module _ (d : Domain) (input : List ℕ) (judged : List paper.Judged) (at lines : ℕ) (begins : starts_with sheet_begins (drop at input) ≡ true) where
   -- the lines after its B000 line
   abbrev after_line : List Line
   after_line = lines_of (drop (at + 5) input)
@@ -176,7 +170,7 @@ module _ (d : Domain) (input : List ℕ) (judged : List Judged) (at lines : ℕ)
   pub one_too_many : most_sheets ≤ length judged → report_from d judged lines (lines_of (drop at input)) ≡ refused_text 19 (lines + 1)
   one_too_many h = begun_here ∙ too_many d judged lines (texts_of after_line).domain (texts_of after_line).sheets h ∙ ap (refused_text 19) (sym (add-one lines))
 
-module _ (d : Domain) (input : List ℕ) (judged : List Judged) (at lines : ℕ) (begins : starts_with sheet_begins (drop at input) ≡ true)
+module _ (d : Domain) (input : List ℕ) (judged : List paper.Judged) (at lines : ℕ) (begins : starts_with sheet_begins (drop at input) ≡ true)
     {rest : List ℕ} {size count : ℕ} (e : rest ≡ drop (at + 5) input) (cut : CutIn sheet_begins rest size count) where
   -- its text, and those after it
   abbrev sheet_text : List ℕ
@@ -218,13 +212,13 @@ module _ (d : Domain) (input : List ℕ) (judged : List Judged) (at lines : ℕ)
 -- ---- what is kept
 
 -- each sheet is accepted or broken
-both_kinds : (judged : List Judged) → length (those accepts judged) + length (those breaks judged) ≡ length judged
+both_kinds : (judged : List paper.Judged) → length (those accepts judged) + length (those breaks judged) ≡ length judged
 unfolding those
 both_kinds [] = refl
 both_kinds (j ∷ judged) = go (accepts j) (both_kinds judged)
   where
     go : (b : Bool) → length (those accepts judged) + length (those breaks judged) ≡ length judged
-        → length (if_else {A = List Judged} b (j ∷ those accepts judged) (those accepts judged)) + length (if_else {A = List Judged} (not b) (j ∷ those breaks judged) (those breaks judged)) ≡ suc (length judged)
+        → length (if_else {A = List paper.Judged} b (j ∷ those accepts judged) (those accepts judged)) + length (if_else {A = List paper.Judged} (not b) (j ∷ those breaks judged) (those breaks judged)) ≡ suc (length judged)
     go true e = omega (arith, e)
     go false e = omega (arith, e)
 
@@ -236,18 +230,18 @@ module _ (w n : ℕ) (levels x : List ℤ) (h : n * w ≤ length levels) where
   rows_taken : (k : ℕ) → rows w (n + k) (take (n * w) levels ++ x) ≡ rows w n levels ++ rows w k x
   rows_taken k = rows_after w n k (take (n * w) levels) x (length-take-le (n * w) levels h) ∙ ap (λ (r : List (List ℤ)). r ++ rows w k x) rows_stay
 
-states_more : (judged : List Judged) (j : Judged) → accepts j ≡ true → states_of (judged ++ (j ∷ [])) ≡ states_of judged ++ j.states
+states_more : (judged : List paper.Judged) (j : paper.Judged) → accepts j ≡ true → states_of (judged ++ (j ∷ [])) ≡ states_of judged ++ j.states
 states_more judged j e =
-    ap (λ (l : List Judged). flat (map (λ (i : Judged). i.states) l)) (one_in accepts judged j e)
-    ∙ ap flat (map-append (λ (i : Judged). i.states) (those accepts judged) (j ∷ []))
-    ∙ flat_one (map (λ (i : Judged). i.states) (those accepts judged)) j.states
+    ap (λ (l : List paper.Judged). flat (map (λ (i : paper.Judged). i.states) l)) (one_in accepts judged j e)
+    ∙ ap flat (map-append (λ (i : paper.Judged). i.states) (those accepts judged) (j ∷ []))
+    ∙ flat_one (map (λ (i : paper.Judged). i.states) (those accepts judged)) j.states
 
 -- a sheet more: its states are taken, or what was written of them is passed over
-module _ (d : Domain) (width : ℕ) (judged : List Judged) (m : Morning) {levels : List ℤ} (at lines : ℕ) (kept : Kept width judged m levels) (fits : m.states * width ≤ length levels) {sheet : Reading (List Names)} where
+module _ (d : Domain) (width : ℕ) (judged : List paper.Judged) (m : Morning) {levels : List ℤ} (at lines : ℕ) (kept : Kept width judged m levels) (fits : m.states * width ≤ length levels) {sheet : Reading (List Names)} where
   pub kept_accepted : {entry left : List ℤ} (post : List ℤ) {k : ℕ} → width ≡ length d.fluents → (x : Accepts d sheet entry k left)
       → Kept width (judged ++ (judge d x.steps ∷ [])) (record { at = at; lines = lines; accepted = m.accepted + 1; broken = m.broken; states = m.states + k }) (take (m.states * width) levels ++ (left ++ post))
   kept_accepted {entry} {left} post {k} e x =
-      let j : Judged = judge d x.steps in
+      let j : paper.Judged = judge d x.steps in
       let r : Rows width j.states = subst (λ (n : ℕ). Rows n j.states) (sym e) (judge_whole d x.steps) in
       let after : List ℤ = drop (length (flat j.states)) entry in
       let taken : rows width k (left ++ post) ≡ j.states =
@@ -264,11 +258,11 @@ module _ (d : Domain) (width : ℕ) (judged : List Judged) (m : Morning) {levels
   pub kept_broken : (after : List ℤ) (x : Breaks d sheet)
       → Kept width (judged ++ (judge d x.steps ∷ [])) (record { at = at; lines = lines; accepted = m.accepted; broken = m.broken + 1; states = m.states }) (take (m.states * width) levels ++ after)
   kept_broken after x =
-      let j : Judged = judge d x.steps in
+      let j : paper.Judged = judge d x.steps in
       record {
         accepted = kept.accepted ∙ sym (ap length (one_out accepts judged j x.verdict));
         broken = ap (λ (n : ℕ). n + 1) kept.broken ∙ sym (ap length (one_in breaks judged j (ap not x.verdict)) ∙ length-append (those breaks judged) (j ∷ []));
-        states = rows_stay width m.states levels after fits ∙ kept.states ∙ sym (ap (λ (l : List Judged). flat (map (λ (i : Judged). i.states) l)) (one_out accepts judged j x.verdict));
+        states = rows_stay width m.states levels after fits ∙ kept.states ∙ sym (ap (λ (l : List paper.Judged). flat (map (λ (i : paper.Judged). i.states) l)) (one_out accepts judged j x.verdict));
       }
 
 -- ---- the places and sizes of the next sheet
@@ -307,7 +301,7 @@ pub lent_rest : (input : List ℕ) (at : ℕ) → take (length input - at) (drop
 lent_rest input at = take_all (length input - at) (drop at input) (omega (arith, length-drop at input))
 
 -- the number of sheets is that of those judged
-pub sheets_are : {width : ℕ} {judged : List Judged} {m : Morning} {levels : List ℤ} → Kept width judged m levels → m.accepted + m.broken ≡ length judged
+pub sheets_are : {width : ℕ} {judged : List paper.Judged} {m : Morning} {levels : List ℤ} → Kept width judged m levels → m.accepted + m.broken ≡ length judged
 sheets_are {judged = judged} k = omega (arith, k.accepted, k.broken, both_kinds judged)
 
 -- and the levels from a place on
@@ -316,17 +310,6 @@ lent_levels levels at = ap length (take_all (length levels - at) (drop at levels
 
 pub lent_text : (input : List ℕ) (from size : ℕ) → take (from + size - from) (drop from input) ≡ take size (take (length input - from) (drop from input))
 lent_text input from size = ap (λ (n : ℕ). take n (drop from input)) (let e : from + size - from ≡ size = omega arith in e) ∙ ap (take size) (sym (lent_rest input from))
-
--- what the next sheet comes to, by its answer
-module _ (d : Domain) (width : ℕ) (input : List ℕ) (judged : List Judged) (m : Morning) (left : List ℤ) {r : Next} where
-  pub as_goes : {new : Morning} → r ≡ next.Goes new → NextIs d width input judged m r left → GoesOn d width input judged m new left
-  as_goes e x = subst (λ (n : Next). NextIs d width input judged m n left) e x
-
-  pub as_stops : {n : Refusal} {line : ℕ} → r ≡ next.Refused n line → NextIs d width input judged m r left → report_from d judged m.lines (lines_of (drop m.at input)) ≡ refused_text (number_of n) line
-  as_stops e x = subst (λ (n : Next). NextIs d width input judged m n left) e x
-
-pub as_underway : (input : List ℕ) (m : Morning) {r : Next} {new : Morning} → r ≡ next.Goes new → NextUnderway input m r → Underway input new × (m.at < new.at)
-as_underway input m e x = subst (NextUnderway input m) e x
 
 -- ---- the whole report
 
@@ -345,48 +328,39 @@ first_place {input} {at} cut = record {
 }
 
 -- no sheet is accepted: no state
-none_accepted : (judged : List Judged) → any accepts judged ≡ false → those accepts judged ≡ []
+none_accepted : (judged : List paper.Judged) → any accepts judged ≡ false → those accepts judged ≡ []
 unfolding any those
 none_accepted [] e = refl
 none_accepted (j ∷ judged) e = go (accepts j) (none_accepted judged) e
   where
-    go : (b : Bool) → (any accepts judged ≡ false → those accepts judged ≡ []) → either b (any accepts judged) ≡ false → if_else {A = List Judged} b (j ∷ those accepts judged) (those accepts judged) ≡ []
+    go : (b : Bool) → (any accepts judged ≡ false → those accepts judged ≡ []) → either b (any accepts judged) ≡ false → if_else {A = List paper.Judged} b (j ∷ those accepts judged) (those accepts judged) ≡ []
     go true f e = absurd (let z : ◌≡◌ {A = ℕ} 0 1 = cc in omega arith)
     go false f e = f e
 
-figures_if : (n : ℕ) (judged : List Judged) → if_else (any accepts judged) (figures_lines n (states_of judged)) [] ≡ figures_lines n (states_of judged)
+figures_if : (n : ℕ) (judged : List paper.Judged) → if_else (any accepts judged) (figures_lines n (states_of judged)) [] ≡ figures_lines n (states_of judged)
 unfolding flat
 figures_if n judged = go (any accepts judged) refl
   where
     go : (b : Bool) → any accepts judged ≡ b → if_else b (figures_lines n (states_of judged)) [] ≡ figures_lines n (states_of judged)
     go true e = refl
-    go false e = lines_none n ∙ ap (λ (l : List Judged). figures_lines n (flat (map (λ (i : Judged). i.states) l))) (sym (none_accepted judged e))
+    go false e = lines_none n ∙ ap (λ (l : List paper.Judged). figures_lines n (flat (map (λ (i : paper.Judged). i.states) l))) (sym (none_accepted judged e))
 
-module _ (d : Domain) (width : ℕ) (judged : List Judged) (m : Morning) (input : List ℕ) {levels : List ℤ} (kept : Kept width judged m levels) (are : width ≡ length d.fluents) where
+module _ (d : Domain) (width : ℕ) (judged : List paper.Judged) (m : Morning) (input : List ℕ) {levels : List ℤ} (kept : Kept width judged m levels) (are : width ≡ length d.fluents) where
   -- the input is at its end
-  pub report_ends : length input ≤ m.at → {t out out₀ mid new : List ℕ} {p q : ℕ} → t ≡ report_from d judged m.lines (lines_of (drop m.at input)) → out ≡ out₀
-      → Put out 0 (line_of (text "SHEETS") (decimal m.accepted ∷ decimal m.broken ∷ [])) p mid → Put mid p (figures_lines width (rows width m.states levels)) q new
-      → Put out₀ 0 t q new
+  pub report_ends : length input ≤ m.at → {one two three : Text} {t : List ℕ} → t ≡ report_from d judged m.lines (lines_of (drop m.at input))
+      → Put one (line_of (text "SHEETS") (decimal m.accepted ∷ decimal m.broken ∷ [])) two → Put two (figures_lines width (rows width m.states levels)) three → Put one t three
   unfolding lines_of sheets_from
-  report_ends h {t} {out} {out₀} {mid} {new} {p} {q} e u x y =
-      let sheets : Put out 0 (sheets_line judged) p mid = subst (λ (n : ℕ). Put out 0 (line_of (text "SHEETS") (decimal (length (those accepts judged)) ∷ decimal n ∷ [])) p mid) kept.broken (subst (λ (n : ℕ). Put out 0 (line_of (text "SHEETS") (decimal n ∷ decimal m.broken ∷ [])) p mid) kept.accepted x) in
-      let figures : Put mid p (if_else (any accepts judged) (figures_lines (length d.fluents) (states_of judged)) []) q new =
-      subst (λ (t : List ℕ). Put mid p t q new) (ap (λ (w : ℕ). figures_lines w (rows width m.states levels)) are ∙ ap (figures_lines (length d.fluents)) kept.states ∙ sym (figures_if (length d.fluents) judged)) y in
+  report_ends h {one} {two} {three} {t} e x y =
+      let sheets : Put one (sheets_line judged) two = subst (λ (n : ℕ). Put one (line_of (text "SHEETS") (decimal (length (those accepts judged)) ∷ decimal n ∷ [])) two) kept.broken (subst (λ (n : ℕ). Put one (line_of (text "SHEETS") (decimal n ∷ decimal m.broken ∷ [])) two) kept.accepted x) in
+      let figures : Put two (if_else (any accepts judged) (figures_lines (length d.fluents) (states_of judged)) []) three =
+      subst (λ (t : List ℕ). Put two t three) (ap (λ (w : ℕ). figures_lines w (rows width m.states levels)) are ∙ ap (figures_lines (length d.fluents)) kept.states ∙ sym (figures_if (length d.fluents) judged)) y in
       let is : report_text d judged ≡ t = ap (report_text d) (sym (append-nil judged)) ∙ ap (λ (s : List ℕ). report_from d judged m.lines (lines_of s)) (sym (drop_of_length-le input h)) ∙ sym e in
-      subst (λ (o : List ℕ). Put o 0 t q new) u (subst (λ (r : List ℕ). Put out 0 r q new) is (put_then sheets figures))
+      subst (λ (r : List ℕ). Put one r three) is (put_then sheets figures)
 
--- a refusal is the report
-pub report_refused : {t out out₀ new : List ℕ} {q number n : ℕ} (line : ℕ) → t ≡ refused_text n line → number ≡ n → out ≡ out₀ → Put out 0 (refused_text number line) q new → Put out₀ 0 t q new
-report_refused {t} {out} {new = new} {q = q} line e k u x =
-    subst (λ (o : List ℕ). Put o 0 t q new) u (subst (λ (r : List ℕ). Put out 0 r q new) (ap (λ (m : ℕ). refused_text m line) k ∙ sym e) x)
-
--- the states kept are no more than the levels hold
+-- the states kept are no more than a report has
 module _ {input : List ℕ} {m : Morning} (u : Underway input m) where
   pub states_few : m.states ≤ most_states
   states_few = omega (arith, u.few, u.sheets)
-
-  pub states_within : {width : ℕ} (levels : List ℤ) → width ≤ most_fluents → length levels ≡ states_size → m.states * width ≤ length levels
-  states_within {width} levels few long = omega (arith, product_most m.states width {most = most_states} {width = most_fluents} {size = states_size} states_few few refl, long)
 
 -- no sheet is judged yet
 reported_first : (d : Domain) (r : Reading (List (List Names))) → reported_by d r ≡ reported_after d [] r
@@ -418,18 +392,17 @@ module _ (input : List ℕ) {at lines : ℕ} (cut : CutIn sheet_begins input at 
         ∙ ap (λ (n : ℕ). reported_after d [] (sheets_from d.agents 0 n (texts_of (lines_of input)).sheets)) (ap length (domain_lines (lines_of input)) ∙ sym cut.count)
         ∙ ap (λ (ts : List (List Line)). reported_after d [] (sheets_from d.agents 0 lines ts)) (sheets_lines (lines_of input) ∙ ap sheet_texts (sym cut.from))
 
-    module _ (store : List ℕ) {after : List ℕ} (answer : ReadStore)
-        (told : (domains.reading_of answer ≡ (read_domain (take at input) store).answer) × (after ≡ (read_domain (take at input) store).buffer)) where
-      pub domain_turned : {line : ℕ} (r : Refusal) → length store ≡ store_size → answer ≡ given.Refused r line → report input ≡ refused_text (number_of r) line
-      domain_turned r size e = report_is ∙ ap (reported_on (texts_of (lines_of input))) (domain_refused (take at input) store size answer told.0 r e)
+    module _ (store : List ℕ) {after : List ℕ} (r : Result ReadFound ReadError) (told : domains.FoundRead (take at input) store r after) where
+      pub domain_turned : length store ≡ store_size → (e : ReadError) → r ≡ Err e → report input ≡ refused_text (number_of e.refusal) e.line
+      domain_turned size e is = report_is ∙ ap (reported_on (texts_of (lines_of input))) (domain_refused (take at input) store (domains.used_of r) told.answer size e (ap domains.used_of is))
 
-      pub report_read : {u : Under} {out new : List ℕ} {q : ℕ} (n : ℕ) → u ≡ under_in after [] → answer ≡ given.Read n
-          → ((d : Domain) (s : List Replacement) → Speaks after [] u d s → Put out 0 (report_from (replaced s d) [] lines (lines_of (drop at input))) q new)
-          → Put out 0 (report input) q new
-      report_read {out = out} {new = new} {q = q} n found e puts =
-          let k = stores.kept (take at input) store n (sym told.0 ∙ ap domains.reading_of e) in
+      pub report_read : (put : Result (Unit {0}) ReadError) (one two : Text) {u : Under} (f : ReadFound) → u ≡ under_in after [] → r ≡ Ok f
+          → ((d : Domain) (s : List Replacement) → Speaks after [] u d s → PutOr one (report_from (replaced s d) [] lines (lines_of (drop at input))) put two)
+          → PutOr one (report input) put two
+      report_read put one two f found e puts =
+          let k = domain_kept (take at input) store (domains.used_of r) told.answer f.used (ap domains.used_of e) in
           let d = k.domain in
           let is : report input ≡ report_from (replaced [] d) [] lines (lines_of (drop at input)) =
           sheets_from_lem d k.reads ∙ ap (λ (x : Domain). report_from x [] lines (lines_of (drop at input))) (sym (empty_changes_nothing.laws d)) in
-          subst (λ (t : List ℕ). Put out 0 t q new) (sym is)
-          (puts d [] (record { domain = ap domain_in told.1 ∙ k.holds; accepted = empty_changes_nothing.accepted d 0; found = found }))
+          subst (λ (t : List ℕ). PutOr one t put two) (sym is)
+          (puts d [] (record { domain = ap domain_in told.buffer ∙ k.holds; accepted = empty_changes_nothing.accepted d 0; found = found }))

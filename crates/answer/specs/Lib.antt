@@ -1,5 +1,6 @@
 pub mod Put
 pub mod Room
+pub mod States
 pub mod Figures
 pub mod Cut
 pub mod Morning

@@ -1,5 +1,5 @@
 -- A report under way: what its sheets so far have come to, and what is still to be read.
-use Rattle.std.specs.Prelude.{ℕ, ◌+◌, ◌*◌, ◌≤◌, ◌<◌, ◌≡◌, true, false, List, [], ◌∷◌, ◌++◌, map, ℤ, length, drop}
+use Rattle.std.specs.Prelude.{ℕ, Option, None, Some, Result, Ok, Err, ◌+◌, ◌*◌, ◌≤◌, ◌<◌, ◌≡◌, true, false, List, [], ◌∷◌, ◌++◌, map, ℤ, length, drop}
 use Rattle.bmap.specs.Plain.{flat, those}
 use Rattle.bmap.specs.Limits.{most_steps, most_sheets, levels_size}
 use Rattle.bmap.specs.Refusal.{Reading, read, refused_at, number_of}
@@ -11,14 +11,13 @@ use Rattle.bmap.specs.Judge as paper
 use Rattle.bmap.specs.Program.{refused_text}
 use Rattle.bmap.specs.Report.{sheet_begins, texts_of, sheets_from, is_accepted, accepts, breaks, states_of, report_text}
 use Rattle.bmap.specs.declared.limits.Counts.{Counts}
+use Rattle.bmap.specs.declared.refusal.ReadError.{ReadError}
 use Rattle.answer.specs.Room.{output_size, Few}
 use Rattle.answer.specs.Cut.{CutIn}
 use Rattle.answer.specs.declared.cut.Cut.{Cut}
-use Rattle.answer.specs.declared.morning.Outcome.{Outcome}
-use Rattle.answer.specs.declared.morning.Outcome.TheVariants.{Accepted, Broken, Refused}
 use Rattle.answer.specs.declared.morning.Morning.{Morning}
-use Rattle.answer.specs.declared.morning.Next.{Next}
-use Rattle.answer.specs.declared.morning.Next.TheVariants as next
+use Rattle.answer.specs.declared.print.Text.{Text}
+use Rattle.answer.specs.Put.{HasRoom}
 
 -- the levels of the most sheets
 abbrev pub states_size : ℕ
@@ -41,16 +40,16 @@ pub record Breaks (d : Domain) (sheet : Reading (List Names)) : Type 0 where
   pub verdict : is_accepted (paper.judge d steps).verdict ≡ false
 
 -- what a sheet's text comes to
-abbrev pub ComesTo : Domain → List ℕ → List ℤ → Outcome → List ℤ → Type 0
-ComesTo d text levels (Accepted states) left = Accepts d (steps_from d.agents [] (map decode (lines_of text))) levels states left
-ComesTo d text levels Broken left = Breaks d (steps_from d.agents [] (map decode (lines_of text)))
-ComesTo d text levels (Refused r line) left = steps_from d.agents [] (map decode (lines_of text)) ≡ refused_at (number_of r) line
+abbrev pub ComesTo : Domain → List ℕ → List ℤ → Result (Option ℕ) ReadError → List ℤ → Type 0
+ComesTo d text levels (Ok (Some states)) left = Accepts d (steps_from d.agents [] (map decode (lines_of text))) levels states left
+ComesTo d text levels (Ok None) left = Breaks d (steps_from d.agents [] (map decode (lines_of text)))
+ComesTo d text levels (Err e) left = steps_from d.agents [] (map decode (lines_of text)) ≡ refused_at (number_of e.refusal) e.line
 
 -- no more states than the longest sheet has, no line beyond the text
-abbrev pub Modest : List ℕ → Outcome → Type 0
-Modest text (Accepted states) = states ≤ most_steps + 1
-Modest text Broken = Unit {0}
-Modest text (Refused r line) = line ≤ length text
+abbrev pub Modest : List ℕ → Result (Option ℕ) ReadError → Type 0
+Modest text (Ok (Some states)) = states ≤ most_steps + 1
+Modest text (Ok None) = Unit {0}
+Modest text (Err e) = e.line ≤ length text
 
 -- ---- the sheets so far
 
@@ -70,10 +69,10 @@ pub record Ready (counts : Counts) (input : List ℕ) (m : Morning) (levels : Li
   pub room : states_size ≤ length levels
 
 -- what the sheets of a domain ask for: their first place, and room for every output
-pub record Opened (counts : Counts) (input : List ℕ) (first : Cut) (out : List ℕ) : Type 0 where
+pub record Opened (counts : Counts) (input : List ℕ) (first : Cut) (text : Text) : Type 0 where
   pub few : Few counts
   pub cut : CutIn sheet_begins input first.at first.lines
-  pub room : output_size ≤ length out
+  pub room : HasRoom text output_size
 
 -- what is counted and kept is that of the sheets judged
 pub record Kept (width : ℕ) (judged : List paper.Judged) (m : Morning) (levels : List ℤ) : Type 0 where
@@ -104,10 +103,10 @@ pub record GoesOn (d : Domain) (width : ℕ) (input : List ℕ) (judged : List p
   pub report : report_from d judged m.lines (lines_of (drop m.at input)) ≡ report_from d (judged ++ (sheet ∷ [])) new.lines (lines_of (drop new.at input))
 
 -- what the next sheet comes to
-abbrev pub NextIs : Domain → ℕ → List ℕ → List paper.Judged → Morning → Next → List ℤ → Type 0
-NextIs d width input judged m (next.Goes new) left = GoesOn d width input judged m new left
-NextIs d width input judged m (next.Refused r line) left = report_from d judged m.lines (lines_of (drop m.at input)) ≡ refused_text (number_of r) line
+abbrev pub NextIs : Domain → ℕ → List ℕ → List paper.Judged → Morning → Result Morning ReadError → List ℤ → Type 0
+NextIs d width input judged m (Ok new) left = GoesOn d width input judged m new left
+NextIs d width input judged m (Err e) left = report_from d judged m.lines (lines_of (drop m.at input)) ≡ refused_text (number_of e.refusal) e.line
 
-abbrev pub NextUnderway : List ℕ → Morning → Next → Type 0
-NextUnderway input m (next.Goes new) = Underway input new × (m.at < new.at)
-NextUnderway input m (next.Refused r line) = Unit {0}
+abbrev pub NextUnderway : List ℕ → Morning → Result Morning ReadError → Type 0
+NextUnderway input m (Ok new) = Underway input new × (m.at < new.at)
+NextUnderway input m (Err e) = Unit {0}

@@ -1,6 +1,6 @@
 // The programs' functions, from input bytes to output bytes: the cuts into the texts of a domain, a supplement and sheets, the report's
-// figures, and what is printed. It stands on `domain`, `supplement`, `sheet` and `judge`, on `index` for a domain's counts, on `number`
-// for the bytes of a level and on `line` for a law of its proofs; the programs `waroth`, `low_water` and `report` and `desk` stand on it.
+// figures, and what is printed. It stands on `domain`, `supplement`, `sheet` and `judge`, on `index` for a domain's counts and on
+// `theorems` for a law of its proofs; the programs `waroth`, `low_water` and `report` and `desk` stand on it.
 #![tactic(auto)]
 
 mod cut;
@@ -8,6 +8,8 @@ mod figures;
 mod morning;
 mod print;
 mod program;
+mod shown;
 
 pub use morning::report;
 pub use program::{OUTPUT, answer, low_water};
+pub use shown::programs;

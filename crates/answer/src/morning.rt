@@ -6,33 +6,21 @@ ghost use Rattle.bmap.specs.Domain.{Domain};
 ghost use Rattle.bmap.specs.Supplement.{Replacement, replaced};
 ghost use Rattle.bmap.specs.Judge as paper;
 ghost use Rattle.bmap.specs.Report as report;
-ghost use Rattle.answer.specs.Put.{Put};
+ghost use Rattle.answer.specs.Put.{PutOr, HasRoom};
 ghost use Rattle.answer.specs.Room.{output_size, Few};
 ghost use Rattle.answer.specs.Speaks.{Speaks};
 ghost use Rattle.answer.specs.Morning.{ComesTo, Modest, Ready, Opened, Kept, NextIs, NextUnderway, report_from};
 ghost use Rattle.answer.specs.Answer.{answered};
 
 use crate::cut::{Cut, line_starting};
-use crate::figures::put_figures;
-use crate::print::{put_refused, put_sheets};
-use crate::program::OUTPUT;
-use bmap::{INPUT, LEVELS, Refusal, SHEET_BEGINS, SHEETS, STORE, Sheet};
-use domain::ReadStore;
-use judge::{Judgement, Verdict};
-use sheet::ReadSheet;
+use crate::print::{States, Text};
+use crate::program::{LONG_INPUT, after, printed};
+use bmap::{INPUT, LEVELS, ReadError, Refusal, SHEET_BEGINS, SHEETS, STORE, Sheet};
+use judge::Verdict;
 use supplement::{Under, alone};
 
 // The levels of the most sheets, each of the most states of the most fluents.
 const STATES: usize = SHEETS * LEVELS;
-
-// What a sheet's text comes to.
-#[derive(Clone, Copy)]
-enum Outcome {
-    // With so many states, at the front of the levels.
-    Accepted(usize),
-    Broken,
-    Refused(Refusal, usize),
-}
 
 // Where a report is: at the next B000 line or the input's end, after so many lines, with so many sheets and states.
 #[derive(Clone, Copy)]
@@ -44,20 +32,15 @@ struct Morning {
     states: usize,
 }
 
-#[derive(Clone, Copy)]
-enum Next {
-    Goes(Morning),
-    Refused(Refusal, usize),
-}
-
-// A sheet of an accepted domain's agents.
+// What the text of a sheet of an accepted domain's agents comes to: so many states at the front of the levels where it is accepted, none
+// where it is broken.
 fn outcome_of<'a>(
     store: &'a [u8],
     supplement: &'a [u8],
     under: Under,
     text: &[u8],
     levels: &mut [i16],
-) -> Outcome
+) -> Result<Option<usize>, ReadError>
     requires { Few under.index.counts × (levels_size ≤ length levels.old) }
     ensures comes_to { (d : Domain) (s : List Replacement) → Speaks store.now supplement.now under d s
         → ComesTo (replaced s d) text.now levels.old result levels.new }
@@ -65,22 +48,15 @@ fn outcome_of<'a>(
 {
     let agents = under.index.counts.agents;
     let mut names = [0u8; Sheet::BYTES];
-    let answer = sheet::read(text, agents, &mut names);
-    match answer {
-        ReadSheet::Refused(refusal, line) => Outcome::Refused(refusal, line),
-        ReadSheet::Read(steps) => {
-            let used = steps * agents;
-            let counted = judge::judge_found(store, supplement, under, &names[..used], levels);
-            let judgement = counted.judgement;
-            match judgement {
-                Judgement::Judged(verdict) => match verdict {
-                    Verdict::Accepted => Outcome::Accepted(counted.states),
-                    Verdict::Broken { .. } => Outcome::Broken,
-                },
-                // An accepted domain and whole steps are not refused.
-                Judgement::Refused(_) => Outcome::Broken,
-            }
-        }
+    let steps = sheet::read(text, agents, &mut names)?;
+    let used = steps * agents;
+    match judge::judge_found(store, supplement, under, &names[..used], levels) {
+        Ok(judged) => match judged.verdict {
+            Verdict::Accepted => Ok(Some(judged.states)),
+            Verdict::Broken { .. } => Ok(None),
+        },
+        // An accepted domain and whole steps are not refused.
+        Err(_) => Ok(None),
     }
 }
 
@@ -92,7 +68,7 @@ fn next_sheet<'a>(
     under: Under,
     m: Morning,
     levels: &mut [i16],
-) -> Next
+) -> Result<Morning, ReadError>
     requires { Ready under.index.counts input.now m levels.old }
     ensures next_is { (d : Domain) (s : List Replacement) (judged : List paper.Judged) → Speaks store.now [] under d s
         → Kept under.index.counts.fluents judged m levels.old
@@ -101,50 +77,41 @@ fn next_sheet<'a>(
 {
     let line = m.lines + 1;
     if m.accepted + m.broken == SHEETS {
-        return Next::Refused(Refusal::TooManySheets, line);
+        return Err(ReadError {
+            refusal: Refusal::TooManySheets,
+            line,
+        });
     }
     let from = m.at + SHEET_BEGINS;
     let cut = line_starting(&input[from..], b"B000\n");
     if INPUT < cut.at {
-        return Next::Refused(Refusal::LongInput, 0);
+        return Err(LONG_INPUT);
     }
     let to = from + cut.at;
     let kept = m.states * under.index.counts.fluents;
-    let outcome = outcome_of(
+    let next = Morning {
+        at: to,
+        lines: line + cut.lines,
+        ..m
+    };
+    match outcome_of(
         store,
         // An empty supplement changes nothing.
         &input[..0],
         under,
         &input[from..to],
         &mut levels[kept..],
-    );
-    let lines = line + cut.lines;
-    match outcome {
-        Outcome::Accepted(more) => {
-            let accepted = m.accepted + 1;
-            let states = m.states + more;
-            Next::Goes(Morning {
-                at: to,
-                lines,
-                accepted,
-                broken: m.broken,
-                states,
-            })
-        }
-        Outcome::Broken => {
-            let broken = m.broken + 1;
-            Next::Goes(Morning {
-                at: to,
-                lines,
-                accepted: m.accepted,
-                broken,
-                states: m.states,
-            })
-        }
-        Outcome::Refused(refusal, after) => {
-            let place = line + after;
-            Next::Refused(refusal, place)
-        }
+    ) {
+        Ok(Some(more)) => Ok(Morning {
+            accepted: m.accepted + 1,
+            states: m.states + more,
+            ..next
+        }),
+        Ok(None) => Ok(Morning {
+            broken: m.broken + 1,
+            ..next
+        }),
+        Err(e) => Err(after(line, e)),
     }
 }
 
@@ -154,14 +121,12 @@ fn put_morning<'a>(
     input: &'a [u8],
     under: Under,
     first: Cut,
-    out: &mut [u8],
-) -> usize
-    requires { Opened under.index.counts input.now first out.old }
-    ensures put { (d : Domain) (s : List Replacement) → Speaks store.now [] under d s
-        → Put out.old 0 (report_from (replaced s d) [] first.lines (lines_of (drop first.at input.now))) result out.new }
-    ensures upper_bound { result ≤ output_size }
+    text: &mut Text,
+) -> Result<(), ReadError>
+    requires { Opened under.index.counts input.now first text.old }
+    ensures { (d : Domain) (s : List Replacement) → Speaks store.now [] under d s
+        → PutOr text.old (report_from (replaced s d) [] first.lines (lines_of (drop first.at input.now))) result text.new }
 {
-    let fluents = under.index.counts.fluents;
     let mut levels = [0i16; STATES];
     let mut m = Morning {
         at: first.at,
@@ -171,33 +136,34 @@ fn put_morning<'a>(
         states: 0,
     };
     while m.at < input.len() {
-        let next = next_sheet(store, input, under, m, &mut levels);
-        match next {
-            Next::Goes(more) => m = more,
-            Next::Refused(refusal, line) => return put_refused(out, refusal.number(), line),
-        }
+        m = next_sheet(store, input, under, m, &mut levels)?;
     }
-    let end = put_sheets(out, m.accepted, m.broken);
-    put_figures(out, end, &levels, fluents, m.states)
+    text.sheets(m.accepted, m.broken);
+    text.figures(&States {
+        levels: &levels,
+        fluents: under.index.counts.fluents,
+        count: m.states,
+    });
+    Ok(())
 }
 
-// "The first refusal in input order": the domain's text, then its sheets in turn. A buffer shorter than OUTPUT is not written.
-pub fn report(input: &[u8], out: &mut [u8]) -> usize
-    ensures { record { count = result; buffer = out.new } ≡ answered (report.report input.now) out.old }
+// "The first refusal in input order": the domain's text, then its sheets in turn.
+fn put_report(input: &[u8], text: &mut Text) -> Result<(), ReadError>
+    requires { HasRoom text.old output_size }
+    ensures { PutOr text.old (report.report input.now) result text.new }
 {
-    if out.len() < OUTPUT {
-        return 0;
-    }
     let first = line_starting(input, b"B000\n");
     let at = first.at;
     if INPUT < at {
-        return put_refused(out, Refusal::LongInput.number(), 0);
+        return Err(LONG_INPUT);
     }
     let mut store = [0u8; STORE];
-    let reading = domain::read_found(&input[..at], &mut store);
-    let answer = reading.answer;
-    match answer {
-        ReadStore::Refused { refusal, line } => put_refused(out, refusal.number(), line),
-        ReadStore::Read(_) => put_morning(&store, input, alone(reading.found), first, out),
-    }
+    let found = domain::read_found(&input[..at], &mut store)?;
+    put_morning(&store, input, alone(Some(found.index)), first, text)
+}
+
+pub fn report(input: &[u8], out: &mut [u8]) -> usize
+    ensures { record { count = result; buffer = out.new } ≡ answered (report.report input.now) out.old }
+{
+    printed(input, out, put_report)
 }

@@ -1,11 +1,11 @@
-// A reader's bytes, taken whole, as standard input's: the programs `waroth`, `low_water` and `report` stand on it.
+// A reader's bytes, taken whole, and what a program writes for them: the programs `waroth`, `low_water` and `report` stand on it.
 #![tactic(auto)]
 
-ghost use Rattle.std.specs.Prelude.{◌≤◌, ◌<◌, length, take, OnOk};
-ghost use Rattle.std.specs.Io.KnownBytes.{Consumes, IsAtEnd};
+ghost use Rattle.std.specs.Prelude.{◌≡◌, ◌≤◌, ◌<◌, ℕ, List, length, take, OnOk, IfSome};
+ghost use Rattle.std.specs.Io.KnownBytes.{Consumes, IsAtEnd, Appends};
 
 use std::io;
-use std::io::Read;
+use std::io::{Read, Write};
 
 // How many bytes were taken, and whether a read failed after them.
 #[derive(Drop)]
@@ -36,6 +36,29 @@ pub fn take_input<R: Read>(reader: &mut R, buffer: &mut [u8]) -> Taken
         whole: Ok(()),
         size,
     }
+}
+
+// All of a reader's bytes go through a program, which counts what it puts into its output, and that goes to a writer. Where the program
+// puts f of its input, and bytes after those that the input's buffer holds do not change f, the writer gets f of all that the reader has.
+pub fn run<R: Read, W: Write, F: Fn(&[u8], &mut [u8]) -> usize>(
+    from: &mut R,
+    input: &mut [u8],
+    output: &mut [u8],
+    to: &mut W,
+    program: F,
+) -> io::Result<()>
+    requires callable { F.IsAlwaysCallable program }
+    requires counts { (bytes : _) (buffer : _) (n : ℕ) (left : _) → F.post program bytes buffer n left → n ≤ length left.now }
+    ensures { (f : List ℕ → List ℕ)
+        → ((bytes : _) (buffer : _) (n : ℕ) (left : _) → length buffer.now ≡ length output.old → F.post program bytes buffer n left → take n left.now ≡ f bytes.now)
+        → ((bytes : List ℕ) → f (take (length input.old) bytes) ≡ f bytes)
+        → OnOk result (IfSome (R.remaining from.old) (λ bytes. Appends (W.contents to.old) (W.contents to.new) (f bytes))) }
+{
+    let taken = take_input(from, input);
+    // Half an input is not answered.
+    taken.whole?;
+    let written = program(&input[..taken.size], output);
+    to.write_all(&output[..written])
 }
 
 #[cfg(test)]

@@ -14,15 +14,6 @@ use bmap::REPORT_INPUT;
 use std::io;
 use std::io::{Read, Write};
 
-// The output of an input, to a writer.
-fn write_answer<W: Write>(input: &[u8], out: &mut [u8], to: &mut W) -> io::Result<()>
-    requires { output_size ≤ length out.old }
-    ensures { OnOk result (Appends (W.contents to.old) (W.contents to.new) (program.report input.now)) }
-{
-    let written = answer::report(input, out);
-    to.write_all(&out[..written])
-}
-
 // All of a reader's bytes, to a writer the output for them: which, where the reader says its bytes, is the program's promise.
 fn figures<R: Read, W: Write>(
     from: &mut R,
@@ -35,11 +26,14 @@ fn figures<R: Read, W: Write>(
     requires room { output_size ≤ length out.old }
     ensures { OnOk result (IfSome (R.remaining from.old) (λ bytes. Appends (W.contents to.old) (W.contents to.new) (program.report bytes))) }
 {
-    let taken = console::take_input(from, input);
-    // Half an input is not reported on.
-    taken.whole?;
-    let size = taken.size;
-    write_answer(&input[..size], out, to)
+    // A closure: outside its crate the contract of `answer`'s function has no name.
+    console::run(
+        from,
+        input,
+        out,
+        to,
+        |bytes, buffer| answer::report(bytes, buffer),
+    )
 }
 
 fn main(rt: HostRuntime) -> io::Result<()> {

@@ -1,20 +1,14 @@
--- What is taken decides what is written.
-use Rattle.std.proofs.Common.{◌≡◌, ◌<◌, length, take, OnOk, arith, rules, subst, length-take-le}
-use Rattle.std.specs.Io.KnownBytes.{Appends, IsAtEnd}
-use Rattle.bmap.specs.Limits.{report_input}
+-- What the program counts of its buffer is the report, and no byte after those taken changes it.
+use Rattle.std.proofs.Common.{arith, rules}
 use Rattle.bmap.specs.Report as program
-use Rattle.answer.proofs.CallerLaws.{taken_decide, said_of_all}
+use Rattle.answer.proofs.AnsweredLaws.{count_within, counted_whole}
 use Rattle.theorems.proofs.UnreadLaws.{rest_unread}
 use Rattle.report.proofs.figures.Goals as goal
 
+pub run-requires-clause-counts : goal.run-requires-clause-counts
+run-requires-clause-counts g c = λ bytes buffer n left e. count_within (program.report bytes.now) buffer.now (search rules)
+
 pub returns : goal.returns
 returns g c =
-    let k = c.take_input-taken in
-    let long : length k.new.buffer ≡ report_input = search rules in
-    let at_end = IsAtEnd (g.R.Read.remaining k.new.reader) in
-    let taken = take k.result.size k.new.buffer in
-    let size : length taken ≡ k.result.size = length-take-le k.result.size k.new.buffer k.ensures.within in
-    let whole : k.result.size < length k.new.buffer → at_end = subst (λ r. OnOk r (k.result.size < length k.new.buffer → at_end)) c.in_ok-taken.was k.ensures.end in
-    let end : length taken < report_input → at_end = λ less. whole (omega (arith, less, size, long)) in
-    said_of_all program.report (Appends (g.W.Write.contents c.args.to.now) (g.W.Write.contents c.write_answer.new.to)) (g.R.Read.remaining c.args.from.now) taken _
-    (taken_decide program.report (report_input) rest_unread _ (g.R.Read.remaining k.new.reader) taken k.ensures.bytes (omega (arith, size, long, k.ensures.within)) end) c.write_answer.ensures
+    c.run.ensures program.report (λ bytes buffer n left size e. counted_whole (program.report bytes.now) buffer.now (search rules) (omega (arith, size, c.requires.room)))
+    (λ bytes. rw c.requires.taken (rest_unread bytes))

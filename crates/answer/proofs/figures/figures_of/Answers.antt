@@ -1,26 +1,29 @@
-use native.Mathlib.Omega.{arith}
-use Rattle.answer.proofs.FiguresLaws.{found, raised_level, figures_begin, figures_next, figures_whole, small_whole}
+use Rattle.std.proofs.Common.{◌≡◌, ℤ, ◌+◌, ◌*◌, ◌+ℤ◌, get_or, pos, arith, rules, ◌∙◌, FitsSigned, to_z, of_z, w16, w64}
+use Rattle.std.proofs.lemmas.Int.{ints, to_z-of_z}
+use Rattle.answer.proofs.FiguresLaws.{found, figures_begin, figures_next, lower_is, higher_is}
 use Rattle.answer.proofs.figures.figures_of.Goals as goal
 
 pub loop-k-init : goal.loop-k-init
-loop-k-init c = (
-  omega arith,
-  record { lowest = omega arith; highest = omega arith; sum = omega arith; count = omega arith },
-  figures_begin _ _ _ c.requires.2 c.raised-first.result
-      (raised_level c.raised-first.result (record { sfits = c.level.type_inv }) c.raised-first.ensures.level_zero_value c.level.ensures),
-)
+loop-k-init c =
+    let level : ℤ = get_or c.args.states.now.levels.now c.args.fluent (pos 0) in
+    let fits : FitsSigned w16 level = search rules in
+    let same : to_z w64 (of_z w64 c.from-first.result) ≡ level = search (rules, to_z-of_z) in
+    (omega (arith, ints), omega (arith, ints), figures_begin _ _ _ c.requires.2 same)
 
 pub loop-k-preserved : goal.loop-k-preserved
-loop-k-preserved c = (
-  omega arith,
-  record { lowest = omega arith; highest = omega arith; sum = omega arith; count = omega arith },
-  figures_next _ _ _ c.requires.2 (found c.loop-k.lowest c.loop-k.highest c.loop-k.sum c.loop-k.k) c.raised-next.result
-      (raised_level c.raised-next.result (record { sfits = c.level-in-loop-k.type_inv }) c.raised-next.ensures.level_zero_value c.level-in-loop-k.ensures)
-      c.lower-lowest.ensures c.higher-highest.ensures c.loop-k.invariant.2,
-)
-
-pub returns : goal.returns
-returns c = record {
-  figures_of = figures_whole _ _ _ c.loop-k.invariant.0 c.loop-k-test.false _ _ _ c.loop-k.invariant.2;
-  small = small_whole _ _ _ c.loop-k.invariant.0 c.loop-k-test.false c.loop-k.invariant.1;
-}
+loop-k-preserved c =
+    let level : ℤ = get_or c.args.states.now.levels.now (c.loop-k.k * c.args.states.now.fluents + c.args.fluent) (pos 0) in
+    let fits : FitsSigned w16 level = search rules in
+    let next : ℤ = to_z w64 (of_z w64 c.from-next.result) in
+    let same : next ≡ level = search (rules, to_z-of_z) in
+    let lowest : ℤ = to_z w64 c.loop-k.lowest-bits in
+    let highest : ℤ = to_z w64 c.loop-k.highest-bits in
+    let sum : ℤ = to_z w64 c.loop-k.sum-bits in
+    let total : to_z w64 (of_z w64 (sum +ℤ next)) ≡ sum +ℤ next = omega (arith, ints) in (
+      omega (arith, ints),
+      omega (arith, ints),
+      figures_next _ _ _ c.requires.2 (found lowest highest sum c.loop-k.k) same
+          (to_z-of_z w64 _ (record { sfits = c.min-lowest.type_inv }) ∙ c.min-lowest.ensures.value ∙ lower_is lowest next)
+          (to_z-of_z w64 _ (record { sfits = c.max-highest.type_inv }) ∙ c.max-highest.ensures.value ∙ higher_is highest next)
+          total c.loop-k.invariant.2,
+    )

@@ -97,55 +97,42 @@ slice_bounds-outcome_of-end-2 c = within c.requires.underway c.requires.begun c.
 pub slice_bounds-outcome_of-count-2 : goal.slice_bounds-outcome_of-count-2
 slice_bounds-outcome_of-count-2 c = omega (arith, most c.requires.underway c.if-m-eq-SHEETS.false c.requires.few.fluents, c.requires.room)
 
-pub outcome_of-outcome-requires : goal.outcome_of-outcome-requires
-outcome_of-outcome-requires c =
+pub outcome_of-requires : goal.outcome_of-requires
+outcome_of-requires c =
     (c.requires.few, omega (arith, laws.lent_levels c.args.levels.now (c.args.m.states * c.args.under.index.counts.fluents), most c.requires.underway c.if-m-eq-SHEETS.false c.requires.few.fluents, c.requires.room))
 
-pub overflow_add-lines : goal.overflow_add-lines
+pub overflow_add-next : goal.overflow_add-next
 unfolding text
-overflow_add-lines c =
+overflow_add-next c =
     let cut : CutIn sheet_begins (rest_of c.args.input.now c.args.m) c.line_starting-cut.result.at c.line_starting-cut.result.lines = c.line_starting-cut.ensures in
     omega (arith, (next c.requires.underway c.requires.begun cut).lines, within c.requires.underway c.requires.begun cut, c.well_formed)
 
-pub overflow_add-accepted : goal.overflow_add-accepted
-overflow_add-accepted c = omega (arith, fewer c.requires.underway c.if-m-eq-SHEETS.false)
-
-pub overflow_add-states : goal.overflow_add-states
-overflow_add-states c = omega (arith, laws.modest_states _ c.in-Accepted.is c.outcome_of-outcome.ensures.modest, c.requires.underway.few, fewer c.requires.underway c.if-m-eq-SHEETS.false)
-
-pub overflow_add-broken : goal.overflow_add-broken
-overflow_add-broken c = omega (arith, fewer c.requires.underway c.if-m-eq-SHEETS.false)
-
-pub overflow_add-place : goal.overflow_add-place
-unfolding text
-overflow_add-place c =
-    let cut : CutIn sheet_begins (rest_of c.args.input.now c.args.m) c.line_starting-cut.result.at c.line_starting-cut.result.lines = c.line_starting-cut.ensures in
-    omega (arith, laws.modest_line _ c.in-Refused.is c.outcome_of-outcome.ensures.modest, text_size c.requires.underway c.requires.begun cut, c.requires.underway.lines, within c.requires.underway c.requires.begun cut, c.well_formed)
-
-pub returns-in-Accepted : goal.returns-in-Accepted
+pub returns-in-Ok-Some : goal.returns-in-Ok-Some
 unfolding text replaced
-returns-in-Accepted c =
+returns-in-Ok-Some c =
     let cut : CutIn sheet_begins (rest_of c.args.input.now c.args.m) c.line_starting-cut.result.at c.line_starting-cut.result.lines = c.line_starting-cut.ensures in
     let fewer_here = fewer c.requires.underway c.if-m-eq-SHEETS.false in
+    let came = laws.came_to _ c.in-Ok-Some.is c.in-Ok-Some.field-0-is in
     record {
       next_is = λ d s judged k kept.
-          let x = laws.as_accepted (replaced s d) _ _ _ c.in-Accepted.is (c.outcome_of-outcome.ensures.comes_to d s k) in
+          let x = laws.as_accepted (replaced s d) _ _ _ came (c.outcome_of.ensures.comes_to d s k) in
           record {
             sheet = judge (replaced s d) x.steps;
             kept = laws.kept_accepted (replaced s d) _ judged c.args.m _ _ kept (omega (arith, most c.requires.underway c.if-m-eq-SHEETS.false c.requires.few.fluents, c.requires.room)) _ (ap (λ (n : Counts). n.fluents) (counts_speak k)) x;
             report = report_goes c.requires.underway c.requires.begun cut c.if-m-eq-SHEETS.false c.if-cut-gt-INPUT.false (replaced s d) judged kept x.steps x.reads;
           };
-      next_underway = (place c.requires.underway c.requires.begun cut (omega (arith, fewer_here)) (omega (arith, c.requires.underway.few, laws.modest_states _ c.in-Accepted.is c.outcome_of-outcome.ensures.modest)), omega arith);
+      next_underway = (place c.requires.underway c.requires.begun cut (omega (arith, fewer_here)) (omega (arith, c.requires.underway.few, laws.modest_states _ came c.outcome_of.ensures.modest)), omega arith);
     }
 
-pub returns-in-Broken : goal.returns-in-Broken
+pub returns-in-Ok-None : goal.returns-in-Ok-None
 unfolding text
-returns-in-Broken c =
+returns-in-Ok-None c =
     let cut : CutIn sheet_begins (rest_of c.args.input.now c.args.m) c.line_starting-cut.result.at c.line_starting-cut.result.lines = c.line_starting-cut.ensures in
     let fewer_here = fewer c.requires.underway c.if-m-eq-SHEETS.false in
+    let came = laws.came_to _ c.in-Ok-None.is c.in-Ok-None.field-0-is in
     record {
       next_is = λ d s judged k kept.
-          let x = laws.as_broken (replaced s d) _ _ _ c.in-Broken.is (c.outcome_of-outcome.ensures.comes_to d s k) in
+          let x = laws.as_broken (replaced s d) _ _ _ came (c.outcome_of.ensures.comes_to d s k) in
           record {
             sheet = judge (replaced s d) x.steps;
             kept = laws.kept_broken (replaced s d) _ judged c.args.m _ _ kept (omega (arith, most c.requires.underway c.if-m-eq-SHEETS.false c.requires.few.fluents, c.requires.room)) _ x;
@@ -154,13 +141,10 @@ returns-in-Broken c =
       next_underway = (place c.requires.underway c.requires.begun cut (omega (arith, fewer_here)) (omega (arith, c.requires.underway.few)), omega arith);
     }
 
-pub returns-in-Refused : goal.returns-in-Refused
+pub returns-in-Err-clause-next_is : goal.returns-in-Err-clause-next_is
 unfolding text
-returns-in-Refused c =
+returns-in-Err-clause-next_is c = λ d s judged k kept.
     let cut : CutIn sheet_begins (rest_of c.args.input.now c.args.m) c.line_starting-cut.result.at c.line_starting-cut.result.lines = c.line_starting-cut.ensures in
-    record {
-      next_is = λ d s judged k kept.
-          laws.text_turned (replaced s d) c.args.input.now judged c.args.m.at c.args.m.lines (c.requires.underway.begins c.requires.begun) (laws.lent_rest c.args.input.now (c.args.m.at + 5)) cut (omega (arith, laws.sheets_are kept, fewer c.requires.underway c.if-m-eq-SHEETS.false)) c.if-cut-gt-INPUT.false
-          (laws.lent_text c.args.input.now (c.args.m.at + 5) c.line_starting-cut.result.at) (laws.as_refused (replaced s d) _ _ _ c.in-Refused.is (c.outcome_of-outcome.ensures.comes_to d s k));
-      next_underway = tt;
-    }
+    rw c.after.ensures
+    (laws.text_turned (replaced s d) c.args.input.now judged c.args.m.at c.args.m.lines (c.requires.underway.begins c.requires.begun) (laws.lent_rest c.args.input.now (c.args.m.at + 5)) cut (omega (arith, laws.sheets_are kept, fewer c.requires.underway c.if-m-eq-SHEETS.false)) c.if-cut-gt-INPUT.false
+    (laws.lent_text c.args.input.now (c.args.m.at + 5) c.line_starting-cut.result.at) (c.in-Err.ensures.comes_to d s k))

@@ -20,14 +20,13 @@ pub record Along (d : Domain) (width : ℕ) (input : List ℕ) (first m : Mornin
   pub kept : Kept width judged m levels
   pub report : report_from d [] first.lines (lines_of (drop first.at input)) ≡ report_from d judged m.lines (lines_of (drop m.at input))
 
-pub record Going (store input : List ℕ) (under : Under) (width : ℕ) (first m : Morning) (out₀ out : List ℕ) (levels : List ℤ) : Type 0 where
-  pub unwritten : out ≡ out₀
+pub record Going (store input : List ℕ) (under : Under) (first m : Morning) (levels : List ℤ) : Type 0 where
   pub underway : Underway input m
   pub long : length levels ≡ states_size
-  pub along : (d : Domain) (s : List Replacement) → Speaks store [] under d s → Along (replaced s d) width input first m levels
+  pub along : (d : Domain) (s : List Replacement) → Speaks store [] under d s → Along (replaced s d) under.index.counts.fluents input first m levels
 
 abbrev pub invariant-loop-m : goal.invariant-loop-m
-invariant-loop-m l = Going l.store l.input l.under l.fluents l.initial.m l.m l.initial.out l.out l.levels
+invariant-loop-m l = Going l.store l.input l.under l.initial.m l.m l.levels
 
 abbrev pub decreases-loop-m : goal.decreases-loop-m
 decreases-loop-m l = length l.input - l.m.at

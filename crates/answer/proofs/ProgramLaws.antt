@@ -41,7 +41,7 @@ use Rattle.judge.specs.Answer.{verdict_of, counted_of, states_counted, states_wr
 use Rattle.judge.specs.declared.verdict.Judged.{Judged}
 use Rattle.supplement.specs.Under.{index_found, under_in, under_alone}
 use Rattle.supplement.specs.declared.under.Under.{Under}
-use Rattle.supplement.proofs.UnderLaws.{under_counts, alone_is}
+use Rattle.supplement.proofs.UnderLaws.{under_counts, alone_in, alone_is}
 use Rattle.supplement.proofs.Theorems.{empty_changes_nothing}
 use Rattle.answer.specs.declared.print.Text.{Text}
 use Rattle.answer.specs.Put.{Put, PutOr}
@@ -212,9 +212,9 @@ module _ (s store : List ℕ) (r : Result ℕ ReadError) (told : domains.reading
   domain_kept n is = stores.kept s store n (sym told ∙ ap domains.reading_of is)
 
 -- what a reading has found is what is found in the store that it leaves, with nothing over it
-pub found_alone : {s store after : List ℕ} (r : Result ReadFound ReadError) → domains.FoundRead s store r after → (f : ReadFound) → r ≡ Ok f → under_alone (Some f.index) ≡ under_in after []
+pub found_alone : {s store after : List ℕ} (r : Result ReadFound ReadError) → domains.FoundRead s store r after → (f : ReadFound) → r ≡ Ok f → under_alone (Ok f.index) ≡ under_in after []
 found_alone {s} {store} {after} r told f e =
-    ap under_alone
+    ap alone_in
     (sym (ap domains.index_in e) ∙ told.found ∙ ap (λ a. domains.found_after a (read_domain s store).buffer) (sym told.answer ∙ ap (λ q. domains.reading_of (domains.used_of q)) e) ∙ ap found_in (sym told.buffer))
     ∙ alone_is after
 

@@ -159,7 +159,7 @@ fn put_report(input: &[u8], text: &mut Text) -> Result<(), ReadError>
     }
     let mut store = [0u8; STORE];
     let found = domain::read_found(&input[..at], &mut store)?;
-    put_morning(&store, input, alone(Some(found.index)), first, text)
+    put_morning(&store, input, alone(Ok(found.index)), first, text)
 }
 
 pub fn report(input: &[u8], out: &mut [u8]) -> usize

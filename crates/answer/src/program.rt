@@ -148,7 +148,7 @@ fn put_answer(input: &[u8], text: &mut Text) -> Result<(), ReadError>
     put_sheet(
         &store,
         &input[..0],
-        alone(Some(found.index)),
+        alone(Ok(found.index)),
         sheet.lines,
         &input[at..],
         text,

@@ -1,23 +1,26 @@
 -- The frame reader, in the paper's terms.
-use Rattle.std.specs.Prelude.{ℕ, ◌≡◌, Option as Maybe, None, Some, List}
+use Rattle.std.specs.Prelude.{ℕ, ◌≡◌, List}
 use Rattle.std.specs.Borrow.{Bor}
-use Rattle.bmap.specs.Refusal.{Answer, got, refused, number_of}
+use Rattle.bmap.specs.Refusal.{Answer, got, refused}
 use Rattle.bmap.specs.Store.{Place, start, next_frame}
-use Rattle.bmap.specs.declared.refusal.Refusal.{Refusal}
 use Rattle.index.specs.Place.{StandsAt}
 use Rattle.domain.specs.declared.frames.FrameReader.{FrameReader}
 
--- what a reader answers where it starts
-abbrev pub started : Maybe Refusal → Answer (Unit {0})
-started None = got tt
-started (Some why) = refused (number_of why)
+-- the refusal's number, 0 where there is none
+abbrev pub number_in : {A : Type 0} → Answer A → ℕ
+number_in (got a) = 0
+number_in (refused n) = n
+
+-- why no reader starts over a store
+unfoldable pub refusal_in : List ℕ → ℕ
+refusal_in s = number_in (start s).answer
 
 -- "It starts only over an accepted domain (else 15, and it stands over no bytes)": over the store s that it was lent
 pub record StartsOver (s : Bor (List ℕ)) (r : FrameReader) : Type 0 where
   pub contents : r.store.now ≡ (start s.now).place.store
   pub itself : r.store.ref_ptr ≡ s.ref_ptr
   pub place : r.at ≡ (start s.now).place.at
-  pub refusal : started r.refusal ≡ (start s.now).answer
+  pub refusal : r.refusal ≡ refusal_in s.now
 
 -- the place where a reader stands
 abbrev pub place_of : FrameReader → Place

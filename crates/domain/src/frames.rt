@@ -8,12 +8,13 @@ use bmap::Refusal;
 use index::part;
 use line::frame_at;
 
-// "stands over the store and hands out frame after frame", and why it was refused, where it was.
+// "stands over the store and hands out frame after frame".
 #[derive(Clone, Copy)]
 pub struct FrameReader<'a> {
     pub store: &'a [u8],
     pub at: usize,
-    pub refusal: Option<Refusal>,
+    // The refusal's number, 0 where it stands over an accepted domain; no Option, since `next` keeps whatever number it is given.
+    pub refusal: u8,
 }
 
 // "It starts only over an accepted domain (else 15, and it stands over no bytes)."
@@ -24,13 +25,13 @@ pub fn start<'a>(store: &'a [u8]) -> FrameReader<'a>
         FrameReader {
             store,
             at: 0,
-            refusal: None,
+            refusal: 0,
         }
     } else {
         FrameReader {
             store: &store[..0],
             at: 0,
-            refusal: Some(Refusal::NotDomain),
+            refusal: Refusal::NotDomain as u8,
         }
     }
 }

@@ -2,7 +2,7 @@
 // for each frame, which is the line that was read. It stands on `domain`.
 #![tactic(auto)]
 
-use bmap::{Refusal, STORE};
+use bmap::STORE;
 use domain::{next, start};
 use std::io;
 use std::io::Write;
@@ -10,7 +10,7 @@ use std::io::Write;
 // Frame after frame, until "no more" was heard twice: after the last frame the reader stays.
 fn hand_out<W: Write>(out: &mut W, store: &[u8]) -> io::Result<()> {
     let mut r = start(store);
-    writeln!(out, "{}", r.refusal.map_or(0, Refusal::number))?;
+    writeln!(out, "{}", r.refusal)?;
     let mut left: usize = 2;
     while left > 0 {
         let part = next(&mut r);

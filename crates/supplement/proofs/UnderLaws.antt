@@ -5,7 +5,7 @@ use mathlib.Core.Path.{◌≡◌, refl, sym, ap, subst, ◌∙◌}
 use mathlib.Core.Bool.{Bool, true, false}
 use mathlib.Core.List.{List, [], ◌∷◌, ◌++◌, map}
 use mathlib.Core.Option.{Option, none, some}
-use Rattle.std.specs.Prelude.{Option as Maybe, None, Some}
+use Rattle.std.specs.Prelude.{Option as Maybe, None, Some, ok_or}
 use lib.ListN.{length, set, drop, replicate}
 use Rattle.bmap.specs.Plain.{maybe}
 use Rattle.bmap.specs.Refusal.{Answer, got, refused, known, then}
@@ -22,7 +22,7 @@ use Rattle.domain.proofs.Held.{Framed}
 use Rattle.domain.proofs.Accepted.{found_ok, found_none}
 use Rattle.supplement.specs.Check.{over_of, frame_there, noted_at}
 use Rattle.supplement.specs.declared.under.Under.{Under}
-use Rattle.supplement.specs.Under.{index_found, under_of, under_in, under_alone}
+use Rattle.supplement.specs.Under.{no_index, index_found, under_of, under_in, under_alone}
 use Rattle.supplement.proofs.EmptyLaws.{zeros_accepted}
 use Rattle.supplement.proofs.OverLaws.{Over, over_first, over_most}
 use Rattle.supplement.proofs.Passes.{passes, over_passed}
@@ -154,17 +154,21 @@ module _ (store supplement : List ℕ) where
       ap (λ (o : Maybe Index). under_of (index_found o) (supplement_in (domain_of store x) supplement)) (sym e)
       ∙ ap (λ a. under_of (index_found (found_in store)) (then a (λ d. supplement_in d supplement))) (sym (found_ok store x e).domain)
 
-  pub under_not : found_in store ≡ None → under_alone None ≡ under_in store supplement
+  pub under_not : found_in store ≡ None → under_of no_index (refused 15) ≡ under_in store supplement
   unfolding under_in
   under_not e =
       ap (λ (o : Maybe Index). under_of (index_found o) (refused 15)) (sym e)
       ∙ ap (λ a. under_of (index_found (found_in store)) (then a (λ d. supplement_in d supplement))) (sym (found_none store e))
 
+-- what is found of a store, as `alone` takes it
+abbrev pub alone_in : Maybe Index → Under
+alone_in o = under_alone (ok_or o no_index)
+
 -- an empty supplement, which is accepted for every domain: nothing more is found
-pub alone_is : (store : List ℕ) → under_alone (found_in store) ≡ under_in store []
+pub alone_is : (store : List ℕ) → under_alone (ok_or (found_in store) no_index) ≡ under_in store []
 alone_is store = go (found_in store) refl
   where
-    go : (o : Maybe Index) → found_in store ≡ o → under_alone o ≡ under_in store []
+    go : (o : Maybe Index) → found_in store ≡ o → alone_in o ≡ under_in store []
     go (Some x) e =
         ap (λ (o : List ℕ). record { ok = true; index = x; over = o }) over_first.places
         ∙ sym (ap (under_of x) (zeros_accepted (domain_of store x) 0)) ∙ under_by store [] x e
@@ -181,18 +185,18 @@ under_counts store supplement = go (then (domain_in store) (λ d. supplement_in 
 
 -- ---- a domain alone, by what was found
 
-pub alone_index : (o : Maybe Index) → (under_alone o).index ≡ index_found o
+pub alone_index : (o : Maybe Index) → (alone_in o).index ≡ index_found o
 alone_index None = refl
 alone_index (Some x) = refl
 
-pub alone_some : (o : Maybe Index) → (under_alone o).ok ≡ true → o ≡ Some (under_alone o).index
+pub alone_some : (o : Maybe Index) → (alone_in o).ok ≡ true → o ≡ Some (alone_in o).index
 alone_some None e = absurd cc
 alone_some (Some x) e = refl
 
-pub alone_none : (o : Maybe Index) → (under_alone o).ok ≡ false → o ≡ None
+pub alone_none : (o : Maybe Index) → (alone_in o).ok ≡ false → o ≡ None
 alone_none None e = refl
 alone_none (Some x) e = absurd cc
 
-pub alone_over : (o : Maybe Index) → (under_alone o).over ≡ replicate 128 0
+pub alone_over : (o : Maybe Index) → (alone_in o).over ≡ replicate 128 0
 alone_over None = refl
 alone_over (Some x) = refl

@@ -1,5 +1,5 @@
 -- What is found of a domain and a supplement accepted for it.
-use Rattle.std.specs.Prelude.{ℕ, true, false, Option as Maybe, None, Some, List, replicate}
+use Rattle.std.specs.Prelude.{ℕ, true, false, Option as Maybe, None, Some, Result, Ok, Err, List, replicate}
 use Rattle.bmap.specs.Limits.{most_fluents, most_knowledge, most_entries, most_laws}
 use Rattle.bmap.specs.Refusal.{Answer, got, refused, then}
 use Rattle.bmap.specs.Store.{domain_in}
@@ -32,7 +32,7 @@ under_of x (refused n) = record { ok = false; index = x; over = replicate most_l
 unfoldable pub under_in : List ℕ → List ℕ → Under
 under_in store supplement = under_of (index_found (found_in store)) (then (domain_in store) (λ d. supplement_in d supplement))
 
--- a domain alone, by what was found of it
-abbrev pub under_alone : Maybe Index → Under
-under_alone None = record { ok = false; index = no_index; over = replicate most_laws 0 }
-under_alone (Some x) = record { ok = true; index = x; over = replicate most_laws 0 }
+-- a domain alone, by what was found of it: an accepted one's index, or that of one that is not
+abbrev pub under_alone : Result Index Index → Under
+under_alone (Ok x) = record { ok = true; index = x; over = replicate most_laws 0 }
+under_alone (Err x) = record { ok = false; index = x; over = replicate most_laws 0 }

@@ -49,7 +49,7 @@ impl Under {
 }
 
 // The index where no domain is found.
-const NO_INDEX: Index = Index {
+pub(crate) const NO_INDEX: Index = Index {
     counts: Counts {
         agents: 0,
         fluents: 0,
@@ -77,21 +77,21 @@ pub fn index_of(store: &[u8], supplement: &[u8]) -> Under
 {
     match domain::index_of(store) {
         Some(index) => places_of(store, index, supplement),
-        None => alone(None),
+        None => refused(NO_INDEX),
     }
 }
 
-// What was found of a domain, where nothing stands in for a law.
-pub fn alone(found: Option<Index>) -> Under
+// What was found of a domain, where nothing stands in for a law: Ok is the index of one that is accepted, Err of one that is not.
+pub fn alone(found: Result<Index, Index>) -> Under
     ensures { result ≡ under_alone found }
 {
     match found {
-        Some(index) => Under {
+        Ok(index) => Under {
             ok: true,
             index,
             over: [0; Counts::LAWS],
         },
-        None => refused(NO_INDEX),
+        Err(index) => refused(index),
     }
 }
 
@@ -111,7 +111,7 @@ pub(crate) fn places_of(store: &[u8], index: Index, supplement: &[u8]) -> Under
     requires { Sound store.now index }
     ensures { result ≡ under_of index (supplement_in (domain_of store.now index) supplement.now) }
 {
-    let mut under = alone(Some(index));
+    let mut under = alone(Ok(index));
     let mut at = 0;
     while let Some(size) = frame_at(supplement, at) {
         if let Err(_) = under.take(store, supplement, at, size) {

@@ -2,5 +2,5 @@ use mathlib.Core.Path.{sym, ap, ◌∙◌}
 use Rattle.supplement.specs.Under.{under_alone}
 use Rattle.supplement.proofs.under.alone.Goals as goal
 
-pub returns-in-None : goal.returns-in-None
-returns-in-None c = c.refused.ensures 0 ∙ sym (ap under_alone c.in-None.is)
+pub returns-in-Err : goal.returns-in-Err
+returns-in-Err c = c.refused.ensures 0 ∙ sym (ap under_alone c.in-Err.is)

@@ -1,8 +1,9 @@
 // A reader's bytes, taken whole, and what a program writes for them: the programs `waroth`, `low_water` and `report` stand on it.
 #![tactic(auto)]
 
-ghost use Rattle.std.specs.Prelude.{◌≡◌, ◌≤◌, ◌<◌, ℕ, List, length, take, OnOk, IfSome};
+ghost use Rattle.std.specs.Prelude.{◌≡◌, ◌≤◌, ◌<◌, ◌⊎◌, ℕ, List, length, take, OnOk, OnErr, IfSome};
 ghost use Rattle.std.specs.Io.KnownBytes.{Consumes, IsAtEnd, Appends};
+ghost use Rattle.console.specs.Took.{Took, FillsOrEnds};
 
 use std::io;
 use std::io::{Read, Write};
@@ -38,26 +39,47 @@ pub fn take_input<R: Read>(reader: &mut R, buffer: &mut [u8]) -> Taken
     }
 }
 
-// All of a reader's bytes go through a program, which counts what it puts into its output, and that goes to a writer. Where the program
-// puts f of its input, and bytes after those that the input's buffer holds do not change f, the writer gets f of all that the reader has.
-pub fn run<R: Read, W: Write, F: Fn(&[u8], &mut [u8]) -> usize>(
+// A program's function, from input bytes to output bytes: its output is as many bytes at the front of the buffer as it counts.
+pub trait Program {
+    // How many bytes it puts for an input into a buffer.
+    ghost count: { List ℕ → List ℕ → ℕ };
+
+    // What the buffer holds then.
+    ghost leaves: { List ℕ → List ℕ → List ℕ };
+
+    fn put(input: &[u8], buffer: &mut [u8]) -> usize
+        ensures within { result ≤ length buffer.new }
+        ensures answer { result ≡ count input.now buffer.old }
+        ensures buffer { buffer.new ≡ leaves input.now buffer.old };
+}
+
+// All of a reader's bytes go through a program, and what it puts goes to a writer. Where the program puts f of its input, and bytes after
+// those that the input's buffer holds do not change f, the writer gets f of all that the reader has.
+pub fn run<R: Read, W: Write, P: Program>(
     from: &mut R,
     input: &mut [u8],
     output: &mut [u8],
     to: &mut W,
-    program: F,
 ) -> io::Result<()>
-    requires callable { F.IsAlwaysCallable program }
-    requires counts { (bytes : _) (buffer : _) (n : ℕ) (left : _) → F.post program bytes buffer n left → n ≤ length left.now }
-    ensures { (f : List ℕ → List ℕ)
-        → ((bytes : _) (buffer : _) (n : ℕ) (left : _) → length buffer.now ≡ length output.old → F.post program bytes buffer n left → take n left.now ≡ f bytes.now)
+    // Of any reader: the writer got the output of the bytes taken.
+    ensures answered { OnOk result ((bytes : List ℕ)
+        × Took (R.remaining from.old) (R.remaining from.new) input.new bytes × FillsOrEnds (R.remaining from.new) input.new bytes
+        × (output.new ≡ P.leaves bytes output.old)
+        × Appends (W.contents to.old) (W.contents to.new) (take (P.count bytes output.old) output.new)) }
+    // A read failed, and nothing was put or written; or all was taken and put, and the write failed.
+    ensures failed { OnErr result ((bytes : List ℕ)
+        × Took (R.remaining from.old) (R.remaining from.new) input.new bytes
+        × ((output.new ≡ output.old) × (to.new ≡ to.old)
+        ⊎ FillsOrEnds (R.remaining from.new) input.new bytes × (output.new ≡ P.leaves bytes output.old))) }
+    ensures whole { (f : List ℕ → List ℕ)
+        → ((bytes : List ℕ) → take (P.count bytes output.old) (P.leaves bytes output.old) ≡ f bytes)
         → ((bytes : List ℕ) → f (take (length input.old) bytes) ≡ f bytes)
         → OnOk result (IfSome (R.remaining from.old) (λ bytes. Appends (W.contents to.old) (W.contents to.new) (f bytes))) }
 {
     let taken = take_input(from, input);
     // Half an input is not answered.
     taken.whole?;
-    let written = program(&input[..taken.size], output);
+    let written = P::put(&input[..taken.size], output);
     to.write_all(&output[..written])
 }
 
@@ -138,5 +160,47 @@ mod tests {
         let got = take_input(&mut reader, &mut buffer);
         assert!(rt; got.whole.is_ok());
         assert_eq!(rt; &buffer[..got.size], &b"A10102\n"[..]);
+    }
+
+    // Puts its input as it stands, as far as there is room.
+    struct Copied;
+
+    impl Program for Copied {
+        ghost use Rattle.std.specs.Prelude.{◌++◌, min, length, take, drop};
+
+        ghost count = { λ input buffer. min (length input) (length buffer) };
+
+        ghost leaves = { λ input buffer. take (length buffer) input ++ drop (length input) buffer };
+
+        fn put(input: &[u8], buffer: &mut [u8]) -> usize {
+            let n = input.len().min(buffer.len());
+            buffer[..n].copy_from_slice(&input[..n]);
+            n
+        }
+    }
+
+    // What comes in pieces goes through whole; of half an input nothing is put or written.
+    #[test]
+    fn runs_a_program(rt: HostRuntime) {
+        for (reads, put) in [(None, b"A10102.."), (Some(2), b"........")] {
+            let mut reader = Pieces {
+                left: b"A10102",
+                most: 2,
+                reads,
+            };
+            let mut input = [b'.'; 8];
+            let mut output = [b'.'; 8];
+            let mut written = [b'.'; 8];
+            let mut writer = &mut written[..];
+            let ran = run::<Pieces, &mut [u8], Copied>(
+                &mut reader,
+                &mut input,
+                &mut output,
+                &mut writer,
+            );
+            assert_eq!(rt; ran.is_ok(), reads.is_none());
+            assert_eq!(rt; &output, put);
+            assert_eq!(rt; &written, put);
+        }
     }
 }

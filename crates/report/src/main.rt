@@ -7,12 +7,26 @@ ghost use Rattle.std.specs.Prelude.{◌≡◌, ◌≤◌, length, OnOk, IfSome};
 ghost use Rattle.std.specs.Io.KnownBytes.{Appends};
 ghost use Rattle.bmap.specs.Limits.{report_input};
 ghost use Rattle.bmap.specs.Report as program;
+ghost use Rattle.answer.specs.Answer.{answered};
 ghost use Rattle.answer.specs.Room.{output_size};
 
 use answer::OUTPUT;
 use bmap::REPORT_INPUT;
 use std::io;
 use std::io::{Read, Write};
+
+// The program: what `answer` makes of an input.
+struct Report;
+
+impl console::Program for Report {
+    ghost count = { λ input buffer. (answered (program.report input) buffer).count };
+
+    ghost leaves = { λ input buffer. (answered (program.report input) buffer).buffer };
+
+    fn put(input: &[u8], buffer: &mut [u8]) -> usize {
+        answer::report(input, buffer)
+    }
+}
 
 // All of a reader's bytes, to a writer the output for them: which, where the reader says its bytes, is the program's promise.
 fn figures<R: Read, W: Write>(
@@ -26,14 +40,7 @@ fn figures<R: Read, W: Write>(
     requires room { output_size ≤ length out.old }
     ensures { OnOk result (IfSome (R.remaining from.old) (λ bytes. Appends (W.contents to.old) (W.contents to.new) (program.report bytes))) }
 {
-    // A closure: outside its crate the contract of `answer`'s function has no name.
-    console::run(
-        from,
-        input,
-        out,
-        to,
-        |bytes, buffer| answer::report(bytes, buffer),
-    )
+    console::run::<R, W, Report>(from, input, out, to)
 }
 
 fn main(rt: HostRuntime) -> io::Result<()> {

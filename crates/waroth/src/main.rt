@@ -6,12 +6,26 @@ ghost use Rattle.std.specs.Prelude.{◌≡◌, ◌+◌, ◌≤◌, length, OnOk,
 ghost use Rattle.std.specs.Io.KnownBytes.{Appends};
 ghost use Rattle.bmap.specs.Limits.{most_input};
 ghost use Rattle.bmap.specs.Program as program;
+ghost use Rattle.answer.specs.Answer.{answered};
 ghost use Rattle.answer.specs.Room.{output_size};
 
 use answer::OUTPUT;
 use bmap::INPUT;
 use std::io;
 use std::io::{Read, Write};
+
+// The program: what `answer` makes of an input.
+struct Waroth;
+
+impl console::Program for Waroth {
+    ghost count = { λ input buffer. (answered (program.output input) buffer).count };
+
+    ghost leaves = { λ input buffer. (answered (program.output input) buffer).buffer };
+
+    fn put(input: &[u8], buffer: &mut [u8]) -> usize {
+        answer::answer(input, buffer)
+    }
+}
 
 // All of a reader's bytes, to a writer the output for them: which, where the reader says its bytes, is the program's promise.
 fn judge<R: Read, W: Write>(
@@ -25,14 +39,7 @@ fn judge<R: Read, W: Write>(
     requires room { output_size ≤ length out.old }
     ensures { OnOk result (IfSome (R.remaining from.old) (λ bytes. Appends (W.contents to.old) (W.contents to.new) (program.output bytes))) }
 {
-    // A closure: outside its crate the contract of `answer`'s function has no name.
-    console::run(
-        from,
-        input,
-        out,
-        to,
-        |bytes, buffer| answer::answer(bytes, buffer),
-    )
+    console::run::<R, W, Waroth>(from, input, out, to)
 }
 
 fn main(rt: HostRuntime) -> io::Result<()> {

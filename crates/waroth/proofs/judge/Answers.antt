@@ -1,14 +1,11 @@
 -- What the program counts of its buffer is the output, and an input is answered by the bytes of the limit and one more.
-use Rattle.std.proofs.Common.{arith, rules}
+use Rattle.std.proofs.Common.{refl}
 use Rattle.bmap.specs.Program as program
-use Rattle.answer.proofs.AnsweredLaws.{count_within, counted_whole}
+use Rattle.answer.proofs.AnsweredLaws.{counted_whole}
 use Rattle.waroth.proofs.InputLaws.{rest_unread}
 use Rattle.waroth.proofs.judge.Goals as goal
 
-pub run-requires-clause-counts : goal.run-requires-clause-counts
-run-requires-clause-counts g c = λ bytes buffer n left e. count_within (program.output bytes.now) buffer.now (search rules)
-
 pub returns : goal.returns
 returns g c =
-    c.run.ensures program.output (λ bytes buffer n left size e. counted_whole (program.output bytes.now) buffer.now (search rules) (omega (arith, size, c.requires.room)))
+    c.run.ensures.whole program.output (λ bytes. counted_whole (program.output bytes) c.args.out.now refl c.requires.room)
     (λ bytes. rw c.requires.taken (rest_unread bytes))

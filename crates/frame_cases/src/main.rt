@@ -7,6 +7,8 @@ use domain::{next, start};
 use std::io;
 use std::io::Write;
 
+const DIGITS: [u8; 16] = *b"0123456789ABCDEF";
+
 // Frame after frame, until "no more" was heard twice: after the last frame the reader stays.
 fn hand_out<W: Write>(out: &mut W, store: &[u8]) -> io::Result<()> {
     let mut r = start(store);
@@ -24,10 +26,10 @@ fn hand_out<W: Write>(out: &mut W, store: &[u8]) -> io::Result<()> {
     Ok(())
 }
 
-// Two digits of upper-case hex for each byte.
+// Two digits of upper-case hex for each byte, which go in one write: `{b:02X}` writes the first by itself where it is 0.
 fn print_line<W: Write>(out: &mut W, part: &[u8]) -> io::Result<()> {
-    for b in part {
-        write!(out, "{b:02X}")?;
+    for &b in part {
+        out.write_all(&[DIGITS[b as usize / 16], DIGITS[b as usize % 16]])?;
     }
     writeln!(out)
 }

@@ -5,7 +5,7 @@ use Rattle.std.specs.Int.Signed.{lt_z}
 use Rattle.std.proofs.lemmas.Int.{to_z-of_z}
 use Rattle.std.specs.Int.RustNames.{unsigned_abs}
 use Rattle.std.proofs.Math.Nat.{div-lt_iff_lt-mul, pow-suc, add-zero, add-suc, suc-add, zero-add, zero-mul, suc-mul, add_comm}
-use Rattle.std.proofs.Math.Seq.{drop-drop, take-suc}
+use Rattle.std.proofs.Math.Seq.{drop-drop, take-suc, length-sets}
 use Rattle.std.proofs.Math.Decide.{dec_lt}
 use Rattle.std.proofs.lemmas.Bool.{lt-ltb, le-ltb}
 use Rattle.std.proofs.lemmas.List.{map-append}
@@ -74,6 +74,18 @@ length_small n h = ap length (decimal_small n h)
 
 pub length_large : (n : ℕ) → 10 ≤ n → length (decimal n) ≡ length (decimal (n / 10)) + 1
 length_large n h = ap length (decimal_large n h) ∙ length-append (decimal (n / 10)) _
+
+-- digits at a place of a buffer
+pub length_digits : (out word : List ℕ) (at : ℕ) {new : List ℕ} → new ≡ sets out at word → length new ≡ length out
+length_digits out word at e = ap length e ∙ length-sets out at word
+
+pub digits_one : {n : ℕ} (out : List ℕ) (at : ℕ) → n < 10 → slice_set out at (48 + n) ≡ sets out at (decimal n)
+digits_one {n} out at h = rw (decimal_small n h) (ap (λ k. slice_set out at (48 + k)) (omega (arith, h)))
+
+pub digits_more : (out : List ℕ) (at n : ℕ) {new : List ℕ} {last : ℕ} → 10 ≤ n → last ≡ at + length (decimal (n / 10)) → new ≡ sets out at (decimal (n / 10))
+    → slice_set new last (48 + n % 10) ≡ sets out at (decimal n)
+digits_more out at n h place bytes =
+    rw (decimal_large n h) (rw (bytes, place) (sym (sets_append out at (decimal (n / 10)) ((48 + n % 10) ∷ []))))
 
 -- a number below a power of ten has at most so many digits
 pub length_below : (k n : ℕ) → n < 10 ^ suc k → length (decimal n) ≤ suc k

@@ -1,5 +1,6 @@
 // Numbers and lines as text. `write!` would do as well, but its answer may be an error whatever room is left, and here nothing fails.
 ghost use Rattle.std.specs.Prelude.{◌≡◌, ℕ, ◌+◌, ◌*◌, ◌≤◌, List, ◌∷◌, [], map, length, OnErr};
+ghost use Rattle.std.proofs.lemmas.List.Edits.{sets};
 ghost use Rattle.bmap.specs.Plain.{text};
 ghost use Rattle.bmap.specs.Limits.{most_steps};
 ghost use Rattle.bmap.specs.Refusal.{number_of};
@@ -39,6 +40,22 @@ pub(crate) struct Text<'a> {
     pub(crate) at: usize,
 }
 
+// The decimal digits of n from a place of a buffer on, and the place after them. No method of Text: as a number that is handed on the place
+// stands in a register, where behind a reference it is stored and read again for each digit (docs/PERFORMANCE.md).
+fn put_digits(out: &mut [u8], at: usize, n: usize) -> usize
+    requires { at + length (decimal n) ≤ length out.old }
+    ensures place { result ≡ at + length (decimal n) }
+    ensures bytes { out.new ≡ sets out.old at (decimal n) }
+{
+    if n < 10 {
+        out[at] = b'0' + n as u8;
+        return at + 1;
+    }
+    let last = put_digits(out, at, n / 10);
+    out[last] = b'0' + (n % 10) as u8;
+    last + 1
+}
+
 impl Text<'_> {
     pub(crate) fn byte(&mut self, c: u8)
         requires { HasRoom self.old 1 }
@@ -63,10 +80,7 @@ impl Text<'_> {
         requires { HasRoom self.old (length (decimal n)) }
         ensures { Put self.old (decimal n) self.new }
     {
-        if 10 <= n {
-            self.digits(n / 10);
-        }
-        self.byte(b'0' + (n % 10) as u8);
+        self.at = put_digits(self.out, self.at, n);
     }
 
     // A space, and the decimal digits of a number.

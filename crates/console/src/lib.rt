@@ -39,18 +39,14 @@ pub fn take_input<R: Read>(reader: &mut R, buffer: &mut [u8]) -> Taken
     }
 }
 
-// A program's function, from input bytes to output bytes: its output is as many bytes at the front of the buffer as it counts.
+// A program, from input bytes to output bytes: its output is as many bytes at the front of the buffer as it counts.
 pub trait Program {
-    // How many bytes it puts for an input into a buffer.
-    ghost count: { List ℕ → List ℕ → ℕ };
+    // What it may put: for an input and a buffer, how many bytes it counts and what the buffer holds then.
+    ghost puts: { Self → List ℕ → List ℕ → ℕ → List ℕ → Type 0 };
 
-    // What the buffer holds then.
-    ghost leaves: { List ℕ → List ℕ → List ℕ };
-
-    fn put(input: &[u8], buffer: &mut [u8]) -> usize
+    fn put(&self, input: &[u8], buffer: &mut [u8]) -> usize
         ensures within { result ≤ length buffer.new }
-        ensures answer { result ≡ count input.now buffer.old }
-        ensures buffer { buffer.new ≡ leaves input.now buffer.old };
+        ensures puts { puts self.now input.now buffer.old result buffer.new };
 }
 
 // All of a reader's bytes go through a program, and what it puts goes to a writer. Where the program puts f of its input, and bytes after
@@ -60,26 +56,27 @@ pub fn run<R: Read, W: Write, P: Program>(
     input: &mut [u8],
     output: &mut [u8],
     to: &mut W,
+    program: &P,
 ) -> io::Result<()>
     // Of any reader: the writer got the output of the bytes taken.
-    ensures answered { OnOk result ((bytes : List ℕ)
+    ensures answered { OnOk result ((bytes : List ℕ) × (n : ℕ)
         × Took (R.remaining from.old) (R.remaining from.new) input.new bytes × FillsOrEnds (R.remaining from.new) input.new bytes
-        × (output.new ≡ P.leaves bytes output.old)
-        × Appends (W.contents to.old) (W.contents to.new) (take (P.count bytes output.old) output.new)) }
+        × P.puts program.now bytes output.old n output.new
+        × Appends (W.contents to.old) (W.contents to.new) (take n output.new)) }
     // A read failed, and nothing was put or written; or all was taken and put, and the write failed.
     ensures failed { OnErr result ((bytes : List ℕ)
         × Took (R.remaining from.old) (R.remaining from.new) input.new bytes
         × ((output.new ≡ output.old) × (to.new ≡ to.old)
-        ⊎ FillsOrEnds (R.remaining from.new) input.new bytes × (output.new ≡ P.leaves bytes output.old))) }
+        ⊎ FillsOrEnds (R.remaining from.new) input.new bytes × ((n : ℕ) × P.puts program.now bytes output.old n output.new))) }
     ensures whole { (f : List ℕ → List ℕ)
-        → ((bytes : List ℕ) → take (P.count bytes output.old) (P.leaves bytes output.old) ≡ f bytes)
+        → ((bytes : List ℕ) (n : ℕ) (left : List ℕ) → P.puts program.now bytes output.old n left → take n left ≡ f bytes)
         → ((bytes : List ℕ) → f (take (length input.old) bytes) ≡ f bytes)
         → OnOk result (IfSome (R.remaining from.old) (λ bytes. Appends (W.contents to.old) (W.contents to.new) (f bytes))) }
 {
     let taken = take_input(from, input);
     // Half an input is not answered.
     taken.whole?;
-    let written = P::put(&input[..taken.size], output);
+    let written = program.put(&input[..taken.size], output);
     to.write_all(&output[..written])
 }
 
@@ -162,18 +159,18 @@ mod tests {
         assert_eq!(rt; &buffer[..got.size], &b"A10102\n"[..]);
     }
 
-    // Puts its input as it stands, as far as there is room.
-    struct Copied;
+    // Puts its input as it stands, as far as there is room, and at most so many bytes.
+    struct Copied {
+        most: usize,
+    }
 
     impl Program for Copied {
-        ghost use Rattle.std.specs.Prelude.{◌++◌, min, length, take, drop};
+        ghost use Rattle.std.specs.Prelude.{◌≡◌, ◌≤◌, ◌++◌, take, drop};
 
-        ghost count = { λ input buffer. min (length input) (length buffer) };
+        ghost puts = { λ it input buffer n left. (n ≤ it.most) × (left ≡ take n input ++ drop n buffer) };
 
-        ghost leaves = { λ input buffer. take (length buffer) input ++ drop (length input) buffer };
-
-        fn put(input: &[u8], buffer: &mut [u8]) -> usize {
-            let n = input.len().min(buffer.len());
+        fn put(&self, input: &[u8], buffer: &mut [u8]) -> usize {
+            let n = self.most.min(input.len()).min(buffer.len());
             buffer[..n].copy_from_slice(&input[..n]);
             n
         }
@@ -182,7 +179,7 @@ mod tests {
     // What comes in pieces goes through whole; of half an input nothing is put or written.
     #[test]
     fn runs_a_program(rt: HostRuntime) {
-        for (reads, put) in [(None, b"A10102.."), (Some(2), b"........")] {
+        for (reads, put) in [(None, b"A101...."), (Some(2), b"........")] {
             let mut reader = Pieces {
                 left: b"A10102",
                 most: 2,
@@ -192,11 +189,12 @@ mod tests {
             let mut output = [b'.'; 8];
             let mut written = [b'.'; 8];
             let mut writer = &mut written[..];
-            let ran = run::<Pieces, &mut [u8], Copied>(
+            let ran = run(
                 &mut reader,
                 &mut input,
                 &mut output,
                 &mut writer,
+                &Copied { most: 4 },
             );
             assert_eq!(rt; ran.is_ok(), reads.is_none());
             assert_eq!(rt; &output, put);

@@ -19,11 +19,9 @@ use std::io::{Read, Write};
 struct LowWater;
 
 impl console::Program for LowWater {
-    ghost count = { λ input buffer. (answered (program.low_water input) buffer).count };
+    ghost puts = { λ _ input buffer n left. record { count = n; buffer = left } ≡ answered (program.low_water input) buffer };
 
-    ghost leaves = { λ input buffer. (answered (program.low_water input) buffer).buffer };
-
-    fn put(input: &[u8], buffer: &mut [u8]) -> usize {
+    fn put(&self, input: &[u8], buffer: &mut [u8]) -> usize {
         answer::low_water(input, buffer)
     }
 }
@@ -40,7 +38,7 @@ fn judge<R: Read, W: Write>(
     requires room { output_size ≤ length out.old }
     ensures { OnOk result (IfSome (R.remaining from.old) (λ bytes. Appends (W.contents to.old) (W.contents to.new) (program.low_water bytes))) }
 {
-    console::run::<R, W, LowWater>(from, input, out, to)
+    console::run(from, input, out, to, &LowWater)
 }
 
 fn main(rt: HostRuntime) -> io::Result<()> {

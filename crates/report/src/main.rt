@@ -19,11 +19,9 @@ use std::io::{Read, Write};
 struct Report;
 
 impl console::Program for Report {
-    ghost count = { λ input buffer. (answered (program.report input) buffer).count };
+    ghost puts = { λ _ input buffer n left. record { count = n; buffer = left } ≡ answered (program.report input) buffer };
 
-    ghost leaves = { λ input buffer. (answered (program.report input) buffer).buffer };
-
-    fn put(input: &[u8], buffer: &mut [u8]) -> usize {
+    fn put(&self, input: &[u8], buffer: &mut [u8]) -> usize {
         answer::report(input, buffer)
     }
 }
@@ -40,7 +38,7 @@ fn figures<R: Read, W: Write>(
     requires room { output_size ≤ length out.old }
     ensures { OnOk result (IfSome (R.remaining from.old) (λ bytes. Appends (W.contents to.old) (W.contents to.new) (program.report bytes))) }
 {
-    console::run::<R, W, Report>(from, input, out, to)
+    console::run(from, input, out, to, &Report)
 }
 
 fn main(rt: HostRuntime) -> io::Result<()> {

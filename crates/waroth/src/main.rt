@@ -18,11 +18,9 @@ use std::io::{Read, Write};
 struct Waroth;
 
 impl console::Program for Waroth {
-    ghost count = { λ input buffer. (answered (program.output input) buffer).count };
+    ghost puts = { λ _ input buffer n left. record { count = n; buffer = left } ≡ answered (program.output input) buffer };
 
-    ghost leaves = { λ input buffer. (answered (program.output input) buffer).buffer };
-
-    fn put(input: &[u8], buffer: &mut [u8]) -> usize {
+    fn put(&self, input: &[u8], buffer: &mut [u8]) -> usize {
         answer::answer(input, buffer)
     }
 }
@@ -39,7 +37,7 @@ fn judge<R: Read, W: Write>(
     requires room { output_size ≤ length out.old }
     ensures { OnOk result (IfSome (R.remaining from.old) (λ bytes. Appends (W.contents to.old) (W.contents to.new) (program.output bytes))) }
 {
-    console::run::<R, W, Waroth>(from, input, out, to)
+    console::run(from, input, out, to, &Waroth)
 }
 
 fn main(rt: HostRuntime) -> io::Result<()> {

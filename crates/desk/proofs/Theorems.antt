@@ -13,11 +13,12 @@ use Rattle.bmap.specs.declared.limits.Counts.{Counts}
 use Rattle.supplement.specs.Check.{place_in}
 use Rattle.supplement.specs.Force.{Stretch, stretch_of}
 use Rattle.supplement.proofs.Theorems.{in_force_low}
-use Rattle.judge.specs.Answer.{answer_of}
+use Rattle.judge.specs.Answer.{answer_of, counted_of, states_counted}
 use Rattle.std.specs.Prelude.{Some, Result, Ok, Err}
 use Rattle.bmap.specs.declared.refusal.Refusal.{Refusal}
 use Rattle.judge.specs.declared.verdict.Verdict.{Verdict}
 use Rattle.judge.specs.declared.verdict.Verdict.TheVariants.{Accepted, Broken}
+use Rattle.judge.specs.declared.verdict.Judged.{Judged}
 use Rattle.desk.specs.Numbers.{found_number, refused_number, judged_number, four_bytes, size_number, accepted_kind, refused_kind, refusal_in, lower_half, mark_in, count_in, line_in, states_in, kind_in, step_in, number_in, stands_number, law_place_number, StretchIn, CountsIn}
 use Rattle.desk.proofs.NumberLaws.{number_small, kind_small, verdict_small}
 
@@ -62,8 +63,12 @@ unmarked answer h = (omega arith, omega arith)
 pub found_below : (n : ℕ) → found_number n < 2 ^ 31
 found_below n = omega arith
 
-pub judged_below : (states : ℕ) (v : Verdict) → judged_number states (answer_of (Ok v)) < 2 ^ 31
-judged_below states v = omega (arith, verdict_small v)
+pub verdict_below : (states : ℕ) (v : Verdict) → judged_number states (answer_of (Ok v)) < 2 ^ 31
+verdict_below states v = omega (arith, verdict_small v)
+
+-- of a judgement as the calls are given it, with the number of its states
+pub judged_below : (j : Judged) → judged_number (states_counted (Ok j)) (counted_of (Ok j)) < 2 ^ 31
+judged_below j = verdict_below j.states j.verdict
 
 pub counts_below : (n : Counts) → n.agents ≤ most_agents → n.fluents ≤ most_fluents → n.entries ≤ most_entries → n.laws ≤ most_laws → four_bytes n < 2 ^ 31
 counts_below n a f e l = omega arith
@@ -152,11 +157,20 @@ law_told store supplement n p e =
     subst (λ (a : Answer Part). StretchIn (law_place_number (stretch_of a)) (store_of p.stands) (place_in p.stands) (length p.bytes)) (sym e)
     (told p.stands (length p.bytes) low.place (omega (arith, low.size)))
 
--- who looks at the kind alone, of the lower half alone, and reads "accepted", has an accepted sheet
-pub accepted_only : (states : ℕ) (j : Result Verdict Refusal) → kind_in (lower_half (judged_number states (answer_of j))) ≡ accepted_kind → j ≡ Ok Accepted
-accepted_only states (Err why) e =
+-- who looks at the kind alone, of the lower half alone, and reads "accepted", has an accepted verdict
+pub accepted_verdict : (states : ℕ) (j : Result Verdict Refusal) → kind_in (lower_half (judged_number states (answer_of j))) ≡ accepted_kind → j ≡ Ok Accepted
+accepted_verdict states (Err why) e =
     let kind : kind_in (judged_number states (refused (number_of why))) ≡ refused_kind = refused_kind_lem states (number_of why) (omega (arith, number_small why)) in
     let half = half_kind (judged_number states (refused (number_of why))) in
     absurd (omega (arith, kind, half))
-accepted_only states (Ok Accepted) e = refl
-accepted_only states (Ok (Broken f step number)) e = absurd (omega (arith, kind_small f))
+accepted_verdict states (Ok Accepted) e = refl
+accepted_verdict states (Ok (Broken f step number)) e = absurd (omega (arith, kind_small f))
+
+-- and what the call was given is an accepted sheet's judgement, with the number of its states
+pub accepted_only : (given : Result Judged Refusal) → kind_in (lower_half (judged_number (states_counted given) (counted_of given))) ≡ accepted_kind
+    → given ≡ Ok (record { verdict = Accepted; states = states_counted given })
+accepted_only (Err why) e = let x : ◌≡◌ {A = Result Verdict Refusal} (Err why) (Ok Accepted) = accepted_verdict 0 (Err why) e in cc
+accepted_only (Ok j) e =
+    let x : ◌≡◌ {A = Result Verdict Refusal} (Ok j.verdict) (Ok Accepted) = accepted_verdict j.states (Ok j.verdict) e in
+    let v : j.verdict ≡ Accepted = cc in
+    ap (λ (w : Verdict). Ok (record { verdict = w; states = j.states })) v

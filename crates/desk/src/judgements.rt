@@ -1,11 +1,12 @@
 // Verdicts.
-ghost use Rattle.std.specs.Prelude.{◌≡◌};
+ghost use Rattle.std.specs.Prelude.{◌≡◌, ◌<◌, ◌^◌, Ok, IfOk};
 ghost use Rattle.bmap.specs.Session.{verdict_of};
 ghost use Rattle.bmap.specs.Supplement.{judge_under};
 ghost use Rattle.bmap.specs.Verdict.{judge_sheet};
 ghost use Rattle.judge.specs.Answer as answer;
+ghost use Rattle.judge.specs.declared.verdict.Verdict.TheVariants.{Accepted};
 ghost use Rattle.session.specs.Verdict as session;
-ghost use Rattle.desk.specs.Numbers.{verdict_number, judged_number};
+ghost use Rattle.desk.specs.Numbers.{verdict_number, judged_number, accepted_kind, lower_half, kind_in};
 
 use crate::parts::{FOURTH, SECOND, THIRD, refused};
 use bmap::{Refusal, Session};
@@ -30,9 +31,12 @@ fn verdict(found: Verdict) -> u64
     }
 }
 
-// The number of states written, 7 bits, above the verdict.
+// The number of states written, 7 bits, above the verdict, which sets no bit of a refusal's. Only an accepted sheet has the kind
+// of one, for who keeps the lower half too.
 fn judged(given: Result<Judged, Refusal>) -> u64
-    ensures { result ≡ judged_number (answer.states_counted given) (answer.counted_of given) }
+    ensures value { result ≡ judged_number (answer.states_counted given) (answer.counted_of given) }
+    ensures unmarked { IfOk given (λ found. result < 2 ^ 31) }
+    ensures accepted_only { kind_in (lower_half result) ≡ accepted_kind → given ≡ Ok (record { verdict = Accepted; states = answer.states_counted given }) }
 {
     match given {
         Ok(found) => found.states as u64 % 128 * FOURTH + verdict(found.verdict),

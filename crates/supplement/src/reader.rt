@@ -6,7 +6,7 @@ ghost use Rattle.index.specs.Index.{domain_of, Sound};
 ghost use Rattle.domain.specs.Read.{reading_of};
 ghost use Rattle.supplement.specs.Read.{UnderRead, RefusedAt, LinesUnder};
 
-use crate::under::{NO_INDEX, Under, alone, refused};
+use crate::under::{Under, found_alone, refused};
 use bmap::{ReadError, Refusal, SUPPLEMENT};
 use index::Index;
 use line::{read_line, zero_from};
@@ -31,7 +31,7 @@ pub fn read(store: &[u8], text: &[u8], buffer: &mut [u8]) -> Result<usize, ReadE
 pub fn read_under(store: &[u8], text: &[u8], buffer: &mut [u8]) -> ReadUnder
     ensures { UnderRead store.now text.now buffer.old result buffer.new }
 {
-    let mut under = alone(domain::index_of(store).ok_or(NO_INDEX));
+    let mut under = found_alone(domain::index_of(store));
     if buffer.len() < SUPPLEMENT {
         return refused_at(under.index, Refusal::NoRoom, 0);
     }

@@ -1,10 +1,10 @@
 // Acceptance of a supplement's store for a domain, and where its replacements stand, in one pass.
-ghost use Rattle.std.specs.Prelude.{◌≡◌, ℕ, ◌+◌, ◌<◌, ◌≤◌, List, length};
+ghost use Rattle.std.specs.Prelude.{◌≡◌, ℕ, ◌+◌, ◌<◌, ◌≤◌, List, length, ok_or};
 ghost use Rattle.bmap.specs.Refusal.{refused};
 ghost use Rattle.bmap.specs.Supplement.{Replacement, replacement_in, supplement_in};
 ghost use Rattle.index.specs.Index.{domain_of, Sound};
 ghost use Rattle.supplement.specs.Check.{over_of, frame_there, noted, noted_at};
-ghost use Rattle.supplement.specs.Under.{under_of, under_in, under_alone};
+ghost use Rattle.supplement.specs.Under.{no_index, under_of, under_in, under_alone};
 
 use crate::checks::check_replacement;
 use bmap::{Counts, Refusal};
@@ -49,7 +49,7 @@ impl Under {
 }
 
 // The index where no domain is found.
-pub(crate) const NO_INDEX: Index = Index {
+const NO_INDEX: Index = Index {
     counts: Counts {
         agents: 0,
         fluents: 0,
@@ -77,7 +77,7 @@ pub fn index_of(store: &[u8], supplement: &[u8]) -> Under
 {
     match domain::index_of(store) {
         Some(index) => places_of(store, index, supplement),
-        None => refused(NO_INDEX),
+        None => found_alone(None),
     }
 }
 
@@ -86,12 +86,22 @@ pub fn alone(found: Result<Index, Index>) -> Under
     ensures { result ≡ under_alone found }
 {
     match found {
-        Ok(index) => Under {
+        Ok(index) => found_alone(Some(index)),
+        Err(index) => refused(index),
+    }
+}
+
+// The same by what is found in a store.
+pub(crate) fn found_alone(found: Option<Index>) -> Under
+    ensures { result ≡ under_alone (ok_or found no_index) }
+{
+    match found {
+        Some(index) => Under {
             ok: true,
             index,
             over: [0; Counts::LAWS],
         },
-        Err(index) => refused(index),
+        None => refused(NO_INDEX),
     }
 }
 
@@ -111,7 +121,7 @@ pub(crate) fn places_of(store: &[u8], index: Index, supplement: &[u8]) -> Under
     requires { Sound store.now index }
     ensures { result ≡ under_of index (supplement_in (domain_of store.now index) supplement.now) }
 {
-    let mut under = alone(Ok(index));
+    let mut under = found_alone(Some(index));
     let mut at = 0;
     while let Some(size) = frame_at(supplement, at) {
         if let Err(_) = under.take(store, supplement, at, size) {

@@ -3,7 +3,7 @@ use lib.ListN.{length}
 use mathlib.Core.Path.{◌≡◌, refl, sym, ap, ◌∙◌}
 use mathlib.Core.Bool.{true}
 use mathlib.Core.List.{List, []}
-use Rattle.std.specs.Prelude.{Option as Maybe, Some, Result, ok_or}
+use Rattle.std.specs.Prelude.{Some}
 use Rattle.bmap.specs.Store.{frames_of}
 use Rattle.bmap.specs.Supplement.{supplement_from, read_supplement}
 use Rattle.bmap.specs.Refusal.{refused, number_of, Reading, refused_at}
@@ -13,7 +13,7 @@ use Rattle.index.specs.declared.Index.{Index}
 use Rattle.domain.specs.Found.{found_in}
 use Rattle.domain.specs.Read.{reading_of}
 use Rattle.domain.proofs.Accepted.{FoundHere, found_ok, found_none}
-use Rattle.supplement.specs.Under.{no_index, index_found, under_of, under_alone}
+use Rattle.supplement.specs.Under.{index_found, under_of}
 use Rattle.supplement.specs.Read.{under_after, under_reading, UnderRead, RefusedAt}
 use Rattle.supplement.specs.declared.reader.ReadUnder.{ReadUnder}
 use Rattle.supplement.specs.declared.under.Under.{Under}
@@ -33,10 +33,6 @@ none_read store text buffer after u index {x} {why} r is e told = record {
       ∙ ap (λ (a : Reading ℕ). under_after a store (read_supplement store text buffer).buffer) told.0;
 }
 
--- by what was found of the domain
-alone_known : {u : Under} {r : Result Index Index} {o found : Maybe Index} → u ≡ under_alone r → r ≡ ok_or o no_index → o ≡ found → u ≡ alone_in found
-alone_known is by same = is ∙ ap under_alone by ∙ ap alone_in same
-
 module _ (store : List ℕ) (u : Under) (is : u ≡ alone_in (found_in store)) where
   its_index : u.index ≡ index_found (found_in store)
   its_index = ap (λ (y : Under). y.index) is ∙ alone_index (found_in store)
@@ -54,24 +50,24 @@ module _ (store : List ℕ) (u : Under) (is : u ≡ alone_in (found_in store)) w
 
 pub returns-then-buffer-lt-SUPPLEMENT : goal.returns-then-buffer-lt-SUPPLEMENT
 returns-then-buffer-lt-SUPPLEMENT c =
-    none_read c.args.store.now c.args.text.now c.args.buffer.now _ c.alone-under.result (its_index c.args.store.now _ (alone_known c.alone-under.ensures c.ok_or.ensures.value c.index_of.ensures)) _ c.refused_at.ensures refl
+    none_read c.args.store.now c.args.text.now c.args.buffer.now _ c.found_alone-under.result (its_index c.args.store.now _ (c.found_alone-under.ensures ∙ ap alone_in c.index_of.ensures)) _ c.refused_at.ensures refl
     (read_short c.args.store.now c.args.text.now c.args.buffer.now c.if-buffer-lt-SUPPLEMENT.true)
 
 pub returns-then-not-under : goal.returns-then-not-under
 returns-then-not-under c =
-    let known = alone_known c.alone-under.ensures c.ok_or.ensures.value c.index_of.ensures in
-    none_read c.args.store.now c.args.text.now c.args.buffer.now _ c.alone-under.result (its_index c.args.store.now _ known) _ c.refused_at-then-not-under.ensures refl
+    let known = c.found_alone-under.ensures ∙ ap alone_in c.index_of.ensures in
+    none_read c.args.store.now c.args.text.now c.args.buffer.now _ c.found_alone-under.result (its_index c.args.store.now _ known) _ c.refused_at-then-not-under.ensures refl
     (read_15 c.args.store.now c.args.text.now c.args.buffer.now c.if-buffer-lt-SUPPLEMENT.false
     (found_none c.args.store.now (alone_none _ (sym (ap (λ (u : Under). u.ok) known) ∙ c.if-not-under.true))) c.zero_from.new.buffer c.zero_from.ensures)
 
 pub read_lines-requires : goal.read_lines-requires
 read_lines-requires c =
-    let known = alone_known c.alone-under.ensures c.ok_or.ensures.value c.index_of.ensures in
+    let known = c.found_alone-under.ensures ∙ ap alone_in c.index_of.ensures in
     record { sound = (here c.args.store.now _ known c.if-not-under.false).sound; ok = c.if-not-under.false; first = ap (λ (u : Under). u.over) known ∙ alone_over (found_in c.args.store.now); room = c.if-buffer-lt-SUPPLEMENT.false }
 
 pub returns-in-Ok : goal.returns-in-Ok
 returns-in-Ok c =
-    let known = alone_known c.alone-under.ensures c.ok_or.ensures.value c.index_of.ensures in
+    let known = c.found_alone-under.ensures ∙ ap alone_in c.index_of.ensures in
     let k = c.read_lines.ensures in
     let ends = read_ends c.args.store.now c.args.text.now c.args.buffer.now c.if-buffer-lt-SUPPLEMENT.false _ (here c.args.store.now _ known c.if-not-under.false).domain c.read_lines.new.buffer c.read_lines.auto.buffer c.read_lines.result (k.used, k.front)
     c.zero_from-in-Ok.new.buffer c.in-Ok.used c.in-Ok.is c.zero_from-in-Ok.ensures in
@@ -79,8 +75,8 @@ returns-in-Ok c =
 
 pub returns-in-Err : goal.returns-in-Err
 returns-in-Err c =
-    let known = alone_known c.alone-under.ensures c.ok_or.ensures.value c.index_of.ensures in
+    let known = c.found_alone-under.ensures ∙ ap alone_in c.index_of.ensures in
     let k = c.read_lines.ensures in
     let stops = read_stops c.args.store.now c.args.text.now c.args.buffer.now c.if-buffer-lt-SUPPLEMENT.false _ (here c.args.store.now _ known c.if-not-under.false).domain c.read_lines.new.buffer c.read_lines.auto.buffer c.read_lines.result (k.used, k.front)
     c.zero_from-in-Err.new.buffer c.in-Err.why c.in-Err.is c.zero_from-in-Err.ensures in
-    none_read c.args.store.now c.args.text.now c.args.buffer.now _ c.alone-under.result (its_index c.args.store.now _ known) _ c.refused_at-in-Err.ensures k.index (sym (ap reading_of c.in-Err.is) ∙ stops.0, stops.1)
+    none_read c.args.store.now c.args.text.now c.args.buffer.now _ c.found_alone-under.result (its_index c.args.store.now _ known) _ c.refused_at-in-Err.ensures k.index (sym (ap reading_of c.in-Err.is) ∙ stops.0, stops.1)

@@ -10,4 +10,4 @@ pub returns-in-Some : goal.returns-in-Some
 returns-in-Some c = c.places_of.ensures ∙ under_by c.args.store.now c.args.supplement.now _ (sym c.in-Some.ensures)
 
 pub returns-in-None : goal.returns-in-None
-returns-in-None c = c.refused.ensures 15 ∙ under_not c.args.store.now c.args.supplement.now (sym c.in-None.ensures)
+returns-in-None c = c.found_alone.ensures ∙ under_not c.args.store.now c.args.supplement.now (sym c.in-None.ensures)

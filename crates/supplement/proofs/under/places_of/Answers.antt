@@ -11,7 +11,7 @@ use Rattle.supplement.proofs.UnderLaws.{made, passing_first, passing_over, passi
 use Rattle.supplement.proofs.under.places_of.Goals as goal
 
 pub loop-size-init : goal.loop-size-init
-loop-size-init c = rw c.alone-under.ensures (record { ok = refl; index = refl; passing = passing_first (domain_of c.args.store.now c.args.index) c.args.supplement.now })
+loop-size-init c = rw c.found_alone-under.ensures (record { ok = refl; index = refl; passing = passing_first (domain_of c.args.store.now c.args.index) c.args.supplement.now })
 
 pub returns-then-is_zero_from : goal.returns-then-is_zero_from
 returns-then-is_zero_from c =

@@ -64,12 +64,12 @@ enum { WAROTH_REPORT_INPUT = WAROTH_INPUT + WAROTH_SHEETS * (5 + WAROTH_INPUT) +
 
 /* The most stack of a call, in bytes: what was measured, with room to spare. Measured by reference/beside/stack.c:
  *
- *   waroth_read_domain   6,848   waroth_read_supplement 11,504   waroth_judge        37,576   waroth_open    9,504
- *   waroth_write_domain  5,856   waroth_law              8,704   waroth_judge_under  37,592   waroth_enter  16,288
- *   waroth_counts        5,792   waroth_lay             10,960   waroth_answer       78,824   waroth_strike 16,256
- *   waroth_frame             8   waroth_read_sheet         280   waroth_low_water    92,936   waroth_amend  16,304
- *                                waroth_write_sheet         76   waroth_report      240,072   waroth_undo   20,880
- *                                                                waroth_verdict      44,504   waroth_redo   21,952 */
+ *   waroth_read_domain   4,816   waroth_read_supplement 11,152   waroth_judge        39,096   waroth_open    7,200
+ *   waroth_write_domain  2,592   waroth_law             10,064   waroth_judge_under  39,112   waroth_enter  10,024
+ *   waroth_counts        2,544   waroth_lay             13,856   waroth_answer       82,904   waroth_strike 10,008
+ *   waroth_frame             8   waroth_read_sheet         344   waroth_low_water    97,880   waroth_amend  10,024
+ *                                waroth_write_sheet         93   waroth_report      245,000   waroth_undo   14,632
+ *                                                                waroth_verdict      52,744   waroth_redo   15,704 */
 enum {
     WAROTH_STACK_TEXTS = 8192,        /* domains and sheets */
     WAROTH_STACK_SUPPLEMENTS = 16384, /* waroth_read_supplement, waroth_law, waroth_lay */

@@ -75,10 +75,11 @@ length_small n h = ap length (decimal_small n h)
 pub length_large : (n : ℕ) → 10 ≤ n → length (decimal n) ≡ length (decimal (n / 10)) + 1
 length_large n h = ap length (decimal_large n h) ∙ length-append (decimal (n / 10)) _
 
--- digits at a place of a buffer
-pub length_digits : (out word : List ℕ) (at : ℕ) {new : List ℕ} → new ≡ sets out at word → length new ≡ length out
-length_digits out word at e = ap length e ∙ length-sets out at word
+-- what is put leaves the length
+pub length_put : (out word : List ℕ) (at : ℕ) {new : List ℕ} → new ≡ sets out at word → length new ≡ length out
+length_put out word at e = ap length e ∙ length-sets out at word
 
+-- digits at a place of a buffer
 pub digits_one : {n : ℕ} (out : List ℕ) (at : ℕ) → n < 10 → slice_set out at (48 + n) ≡ sets out at (decimal n)
 digits_one {n} out at h = rw (decimal_small n h) (ap (λ k. slice_set out at (48 + k)) (omega (arith, h)))
 

@@ -63,7 +63,7 @@ pub fn run<R: Read, W: Write, P: Program>(
         × Took (R.remaining from.old) (R.remaining from.new) input.new bytes × FillsOrEnds (R.remaining from.new) input.new bytes
         × P.puts program.now bytes output.old n output.new
         × Appends (W.contents to.old) (W.contents to.new) (take n output.new)) }
-    // A read failed, and nothing was put or written; or all was taken and put, and the write failed.
+    // Nothing was put or written, as where a read failed; or all was taken and put, as where the write failed.
     ensures failed { OnErr result ((bytes : List ℕ)
         × Took (R.remaining from.old) (R.remaining from.new) input.new bytes
         × ((output.new ≡ output.old) × (to.new ≡ to.old)

@@ -35,7 +35,7 @@ fn verdict(found: Verdict) -> u64
 // of one, for who keeps the lower half too.
 fn judged(given: Result<Judged, Refusal>) -> u64
     ensures value { result ≡ judged_number (answer.states_counted given) (answer.counted_of given) }
-    ensures unmarked { IfOk given (λ found. result < 2 ^ 31) }
+    ensures unmarked { IfOk given (λ _. result < 2 ^ 31) }
     ensures accepted_only { kind_in (lower_half result) ≡ accepted_kind → given ≡ Ok (record { verdict = Accepted; states = answer.states_counted given }) }
 {
     match given {

@@ -1,7 +1,8 @@
 -- What is counted lies within the buffer, by the law of `answer`'s functions.
+use Rattle.std.proofs.Common.{rules}
 use Rattle.bmap.specs.Report as program
 use Rattle.answer.proofs.AnsweredLaws.{count_within}
 use Rattle.report.proofs.ReportProgram.put.Goals as goal
 
 pub returns-clause-within : goal.returns-clause-within
-returns-clause-within c = count_within (program.report c.args.input.now) c.args.buffer.now c.report.ensures
+returns-clause-within c = count_within (program.report c.args.input.now) c.args.buffer.now (search rules)
